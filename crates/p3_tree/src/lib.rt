@@ -1,0 +1,22 @@
+//! The trees of a PDDL3 task, and what they mean.
+#![tactic(auto)]
+
+mod constraint;
+mod effect;
+mod expression;
+mod formula;
+mod goal;
+mod metric;
+mod state;
+mod task;
+mod term;
+
+pub use constraint::{Constraint, Modal};
+pub use effect::{Amount, Effect, Numeral};
+pub use expression::Expression;
+pub use formula::Formula;
+pub use goal::{PreGoal, Pref};
+pub use metric::{Metric, Num};
+pub use state::{Binding, Fact};
+pub use task::{Action, Domain, Header, Init, Kind, Part, Plan, Problem, Step, Task};
+pub use term::{Ref, Term, Typed};
