@@ -1,5 +1,5 @@
 -- Files and a sink in memory, whose failures are planned by the numbers of the calls.
-use Rattle.std.specs.Prelude.{ℕ, ◌+◌, ◌-◌, ◌^◌, ◌<◌, ◌==◌, ◌⊎◌, min, List, [], length, take, ◌++◌, Option, IsSome, Some, None, unwrap_or, Result, Ok, Err, find, Contains, refl}
+use Rattle.std.specs.Prelude.{ℕ, ◌+◌, ◌-◌, ◌^◌, ◌<◌, ◌==◌, ◌⊎◌, min, List, length, take, ◌++◌, Option, IsSome, unwrap_or, Result, Ok, Err, find, Contains, refl}
 use Rattle.std.specs.Option.{option_map}
 use Rattle.std.specs.Coded.{Coded, code_by, coded×, coded_ℕ, coded_list}
 use Rattle.std.specs.FinMap.{code, insert}
@@ -25,10 +25,10 @@ pub record FilesInMemory : Type 0 where
 abbrev pub files_code : Coded FilesInMemory
 files_code =
     code_by ((Store × ℕ) × (List (ℕ × ℕ) × (ℕ × ℕ)))
-      (coded× (coded× (code (coded_list coded_ℕ) (coded_list coded_ℕ)) coded_ℕ) (coded× (coded_list (coded× coded_ℕ coded_ℕ)) (coded× coded_ℕ coded_ℕ)))
-      (λ f. ((f.held, f.calls), (f.failures, (f.read_faults, f.write_faults))))
-      (λ p. record { held = p.0.0; calls = p.0.1; failures = p.1.0; read_faults = p.1.1.0; write_faults = p.1.1.1 })
-      (λ _. refl)
+    (coded× (coded× (code (coded_list coded_ℕ) (coded_list coded_ℕ)) coded_ℕ) (coded× (coded_list (coded× coded_ℕ coded_ℕ)) (coded× coded_ℕ coded_ℕ)))
+    (λ f. ((f.held, f.calls), (f.failures, (f.read_faults, f.write_faults))))
+    (λ p. record { held = p.0.0; calls = p.0.1; failures = p.1.0; read_faults = p.1.1.0; write_faults = p.1.1.1 })
+    (λ _. refl)
 
 -- how many bytes a write leaves, where the call that comes next is to fail
 abbrev pub planned : FilesInMemory → Option ℕ
@@ -67,10 +67,10 @@ pub record SinkInMemory : Type 0 where
 abbrev pub sink_code : Coded SinkInMemory
 sink_code =
     code_by ((List ℕ × ℕ) × (ℕ × (List ℕ × ℕ)))
-      (coded× (coded× (coded_list coded_ℕ) coded_ℕ) (coded× coded_ℕ (coded× (coded_list coded_ℕ) coded_ℕ)))
-      (λ s. ((s.written, s.room), (s.puts, (s.failing, s.faults))))
-      (λ p. record { written = p.0.0; room = p.0.1; puts = p.1.0; failing = p.1.1.0; faults = p.1.1.1 })
-      (λ _. refl)
+    (coded× (coded× (coded_list coded_ℕ) coded_ℕ) (coded× coded_ℕ (coded× (coded_list coded_ℕ) coded_ℕ)))
+    (λ s. ((s.written, s.room), (s.puts, (s.failing, s.faults))))
+    (λ p. record { written = p.0.0; room = p.0.1; puts = p.1.0; failing = p.1.1.0; faults = p.1.1.1 })
+    (λ _. refl)
 
 -- the put that comes next is to fail, or its bytes do not fit in what is left of the room
 abbrev pub IsRefused : SinkInMemory → List ℕ → Type 0

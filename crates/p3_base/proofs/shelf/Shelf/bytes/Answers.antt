@@ -1,6 +1,5 @@
 use Rattle.std.proofs.Common.{◌∙◌, sym, ap, Some, List, ℕ}
 use Rattle.std.specs.Option.{option_map}
-use Rattle.std.specs.FinMap as map
 use Rattle.p3_base.specs.Outside.{bytes_under}
 use Rattle.p3_base.proofs.ShelfLemmas.{Bytes, get-listed}
 use Rattle.p3_base.proofs.shelf.Shelf.bytes.Goals as goal

@@ -1,4 +1,4 @@
-use Rattle.std.proofs.Common.{◌∙◌, sym, ap}
+use Rattle.std.proofs.Common.{◌∙◌, ap}
 use Rattle.std.specs.FinMap as map
 use Rattle.p3_base.specs.Outside.{listed}
 use Rattle.p3_base.proofs.ShelfLemmas.{from_entries-insert_entry}
