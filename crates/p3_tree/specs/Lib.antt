@@ -1,0 +1,16 @@
+pub mod Bindings
+pub mod Constraints
+pub mod Costs
+pub mod Effects
+pub mod Folds
+pub mod Formulas
+pub mod Goals
+pub mod Lifting
+pub mod Metrics
+pub mod Names
+pub mod Offences
+pub mod Plans
+pub mod States
+pub mod Types
+pub mod Uses
+pub mod Validity
