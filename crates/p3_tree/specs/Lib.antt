@@ -14,3 +14,4 @@ pub mod States
 pub mod Types
 pub mod Uses
 pub mod Validity
+pub mod Worked
