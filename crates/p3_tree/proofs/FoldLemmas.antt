@@ -2,11 +2,9 @@
 use Rattle.std.proofs.Common.{◌≡◌, List, ◌∷◌, map, refl, ap, ◌∙◌}
 use mathlib.Core.Former.{Count}
 use denote.Hole.Carrier.{hidden}
-use Rattle.p3_base.specs.declared.boxed.Boxed.{Boxed}
-use Rattle.p3_tree.specs.Folds.{fold_formula, fold_formulas, fold_one_formula}
-use Rattle.p3_tree.specs.declared.term.Typed.{Typed}
-use Rattle.p3_tree.specs.declared.formula.Formula.{Formula, Formula-F, And, Or, Not, Imply, Exists, Forall, Row_of-Formula, end_of-Formula, more_of-Formula, items-the_row-Formula, items_hidden-the_row-Formula-0}
-use Rattle.p3_tree.specs.declared.formula.Formula.TheBlock.{hidden-the_row-Formula-0, hidden-the_row-Formula-1, shape-the_row-Formula-0, shape-the_row-Formula-1}
+use Rattle.p3_tree.specs.Folds.{fold_formula, fold_formulas}
+use Rattle.p3_tree.specs.declared.formula.Formula.{Formula, Formula-F, And, Not, Row_of-Formula, end_of-Formula, more_of-Formula, items-the_row-Formula, items_hidden-the_row-Formula-0}
+use Rattle.p3_tree.specs.declared.formula.Formula.TheBlock.{hidden-the_row-Formula-0, hidden-the_row-Formula-1, shape-the_row-Formula-1}
 use Rattle.p3_tree.specs.declared.formula.Formula.TheOpen as formula_layer
 
 module _ {A : Type 0} (layer : Formula-F A → A) where

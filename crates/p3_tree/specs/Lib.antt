@@ -5,6 +5,7 @@ pub mod Effects
 pub mod Folds
 pub mod Formulas
 pub mod Goals
+pub mod Laws
 pub mod Lifting
 pub mod Metrics
 pub mod Names

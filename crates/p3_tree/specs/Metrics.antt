@@ -24,9 +24,13 @@ abbrev pub is_called : Name → Option Name → Bool
 is_called name None = false
 is_called name (Some other) = same_name other name
 
--- the instances of a name that the plan leaves unsatisfied
-abbrev pub unsatisfied : Task → Plan → Name → ℕ
-unsatisfied T plan name = count_by (λ (instance : Instance). is_called name instance.name && not (sat T (visited T plan) instance.env instance.body)) (instances T)
+-- how many of the instances have the name and are not satisfied over the visited states
+abbrev pub unsatisfied : Task → List State → Name → List Instance → ℕ
+unsatisfied T W name list = count_by (λ (instance : Instance). is_called name instance.name && not (sat T W instance.env instance.body)) list
+
+-- how many of the preferences have the name and are false in the state
+abbrev pub false_in : Task → State → Name → List StatePref → ℕ
+false_in T s name list = count_by (λ (pref : StatePref). is_called name pref.name && not (holds T s pref.env pref.body)) list
 
 -- the precondition preferences of a step
 abbrev pub prefs_by : Task → Step → Option Action → List StatePref
@@ -36,13 +40,9 @@ prefs_by T step (Some action) = prefs T (arguments action step) action.pre.body
 unfoldable pub step_prefs : Task → Step → List StatePref
 step_prefs T step = prefs_by T step (action_named T step.action)
 
--- the precondition preferences of a name that are false before the step
-abbrev pub false_prefs : Task → Name → State × Step → ℕ
-false_prefs T name move = count_by (λ (pref : StatePref). is_called name pref.name && not (holds T move.0 pref.env pref.body)) (step_prefs T move.1)
-
--- how often the plan violates the preferences of a name
+-- the unsatisfied instances of the name, and for each step its preferences of the name that are false in the state before it
 unfoldable pub violated : Task → Plan → Name → ℕ
-violated T plan name = unsatisfied T plan name + sum_by (false_prefs T name) (moves T plan)
+violated T plan name = unsatisfied T (visited T plan) name (instances T) + sum_by (λ (move : State × Step). false_in T move.0 name (step_prefs T move.1)) (moves T plan)
 
 -- ---- costs
 

@@ -17,7 +17,9 @@ pub use effect::{Amount, Effect, Numeral};
 pub use expression::Expression;
 pub use formula::Formula;
 pub use goal::{PreGoal, Pref};
-pub use laws::worked_cases;
+pub use laws::{
+    below_is_the_closure, counts_by_place, optima_are_kept, valid_where_no_fault, worked_cases,
+};
 pub use metric::{Metric, Num};
 pub use state::{Binding, Fact};
 pub use task::{Action, Domain, Header, Init, Kind, Part, Plan, Problem, Step, Task};

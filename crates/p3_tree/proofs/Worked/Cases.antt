@@ -3,9 +3,9 @@ use Rattle.std.proofs.Common.{refl}
 use Rattle.p3_tree.specs.Worked.FirstExample.{read, written, FirstExample}
 use Rattle.p3_tree.specs.Worked.Steps.{hiding, both_changes, once_only, AnInnerVariableHidesAnOuterOne, AnAddWinsOverADelete, TheSecondStepFails}
 use Rattle.p3_tree.specs.Worked.Preferences.{empty_type, three_places, rewarded, ATypeMayHaveNoObjects, CountsOfOneNameAdd, GreatValuesMayBeBetter}
-use Rattle.p3_tree.specs.Worked.Trajectories.{both_at_once, switched, answered, Violates, TheSameStateIsNotBefore, AtMostOnceMeansOneStretch, SometimeAfterMeansThenOrLater}
+use Rattle.p3_tree.specs.Worked.Trajectories.{both_at_once, switched, answered, TheSameStateIsNotBefore, AtMostOnceMeansOneStretch, SometimeAfterMeansThenOrLater}
 use Rattle.p3_tree.specs.Worked.Trucks.{trucks, delivery, written_delivery, TheDelivery, FaultsOfOneStep}
-use Rattle.p3_tree.proofs.Worked.Computes.{meaning_computes}
+use Rattle.p3_tree.proofs.Computes.{meaning_computes}
 
 pub first_example : FirstExample
 unfolding meaning_computes read written

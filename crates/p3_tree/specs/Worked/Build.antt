@@ -2,7 +2,6 @@
 use Rattle.std.specs.Prelude.{ℕ, ◌==◌, List, [], ◌∷◌, map, codes, slice_index, if◌then◌else◌, Option, Some, None}
 use Prim.Native.String.{String}
 use Rattle.p3_base.specs.declared.refusal.Direction.{Direction}
-use Rattle.p3_tree.specs.Names.{Name, total_cost}
 use Rattle.p3_tree.specs.declared.term.Ref.{Ref}
 use Rattle.p3_tree.specs.declared.term.Term.{Term}
 use Rattle.p3_tree.specs.declared.term.Term.TheVariants.{Var, Const}
@@ -10,7 +9,6 @@ use Rattle.p3_tree.specs.declared.term.Typed.{Typed}
 use Rattle.p3_tree.specs.declared.formula.Formula.{Formula}
 use Rattle.p3_tree.specs.declared.formula.Formula.TheVariants as formula
 use Rattle.p3_tree.specs.declared.effect.Numeral.{Numeral}
-use Rattle.p3_tree.specs.declared.effect.Amount.{Amount}
 use Rattle.p3_tree.specs.declared.effect.Amount.TheVariants as amount
 use Rattle.p3_tree.specs.declared.effect.Effect.{Effect}
 use Rattle.p3_tree.specs.declared.effect.Effect.TheVariants as effect

@@ -1,10 +1,10 @@
 -- One action, one goal preference: the task read, and the task that is written for it.
-use Rattle.std.specs.Prelude.{◌≡◌, List, [], ◌∷◌, length, pos, codes}
+use Rattle.std.specs.Prelude.{◌≡◌, [], ◌∷◌, length, pos, codes}
 use Rattle.p3_base.specs.declared.refusal.Direction.TheVariants.{Minimize}
 use Rattle.p3_tree.specs.Plans.{Plan}
 use Rattle.p3_tree.specs.Constraints.{instances}
 use Rattle.p3_tree.specs.Validity.{Valid}
-use Rattle.p3_tree.specs.Metrics.{value, loss, base_loss, weight, direction}
+use Rattle.p3_tree.specs.Metrics.{value, loss, base_loss, weight}
 use Rattle.p3_tree.specs.Offences.{WellFormed}
 use Rattle.p3_tree.specs.Lifting.{Plain, IsVariableFree, steps, lift}
 use Rattle.p3_tree.specs.Worked.Build.{ref, part, atom, add, del, increase_by, soft, metric, weighted, header, predicates, action, facts, given, step, bare_steps, no_goal, empty_domain, empty_problem}

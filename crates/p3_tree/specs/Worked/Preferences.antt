@@ -1,5 +1,5 @@
 -- Worked cases on preferences, their counts and the metric.
-use Rattle.std.specs.Prelude.{◌≡◌, List, [], ◌∷◌, length, pos, negsuc, codes, None}
+use Rattle.std.specs.Prelude.{◌≡◌, [], ◌∷◌, length, pos, negsuc, codes, None}
 use Rattle.p3_base.specs.declared.refusal.Direction.TheVariants.{Minimize, Maximize}
 use Rattle.p3_tree.specs.Constraints.{instances}
 use Rattle.p3_tree.specs.Validity.{Valid, first_fault}

@@ -1,5 +1,5 @@
 -- Worked cases on steps: bindings, effects and faults.
-use Rattle.std.specs.Prelude.{◌≡◌, List, [], ◌∷◌, ◌++◌, pos, Some, None}
+use Rattle.std.specs.Prelude.{◌≡◌, List, [], ◌∷◌, pos, Some, None}
 use Rattle.p3_tree.specs.Plans.{Plan}
 use Rattle.p3_tree.specs.Validity.{Valid, first_fault, AtStep, AtConstraint, Precondition}
 use Rattle.p3_tree.specs.Metrics.{cost, value}

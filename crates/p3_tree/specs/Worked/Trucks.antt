@@ -1,5 +1,5 @@
 -- A task in the style of the planning competitions: types, costs by a static function, and preferences at all places.
-use Rattle.std.specs.Prelude.{◌≡◌, List, [], ◌∷◌, length, pos, codes, Some, None}
+use Rattle.std.specs.Prelude.{◌≡◌, [], ◌∷◌, length, pos, codes, Some, None}
 use Prim.Native.String.{String}
 use Rattle.p3_base.specs.declared.refusal.Direction.TheVariants.{Minimize}
 use Rattle.p3_tree.specs.Plans.{Plan}
@@ -29,7 +29,7 @@ drive = action "drive" (typed "?t" ("truck" ∷ []) ∷ typed "?a" ("place" ∷ 
 abbrev pub load : Action
 load = action "load" (typed "?c" ("crate" ∷ []) ∷ typed "?t" ("truck" ∷ []) ∷ typed "?p" ("place" ∷ []) ∷ [])
     (goal.Both (goal.Plain (atom "at" ("?t" ∷ "?p" ∷ [])) ∷ goal.Plain (atom "at" ("?c" ∷ "?p" ∷ []))
-        ∷ soft "light" (formula.Forall (typed "?d" ("crate" ∷ []) ∷ []) (formula.Not (atom "in" ("?d" ∷ "?t" ∷ [])))) ∷ []))
+    ∷ soft "light" (formula.Forall (typed "?d" ("crate" ∷ []) ∷ []) (formula.Not (atom "in" ("?d" ∷ "?t" ∷ [])))) ∷ []))
     (effect.All (del "at" ("?c" ∷ "?p" ∷ []) ∷ add "in" ("?c" ∷ "?t" ∷ []) ∷ []))
 
 abbrev pub unload : Action

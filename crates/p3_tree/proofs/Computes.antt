@@ -19,7 +19,7 @@ use Rattle.p3_tree.specs.Validity.{goal_holds, is_valid, misfit, step_fault, goa
 use Rattle.p3_tree.specs.Metrics.{step_prefs, violated, cost, num_value, value, loss, base_loss, weight, cost_weight}
 use Rattle.p3_tree.specs.Uses.{formula_uses, effect_uses, goal_uses, constraint_uses, num_uses, domain_uses, problem_uses}
 use Rattle.p3_tree.specs.Offences.{domain_duplicates, problem_duplicates, goal_names, constraint_names, preference_names, domain_unknowns, problem_unknowns, domain_miscounts, problem_miscounts, domain_clashes, problem_clashes}
-use Rattle.p3_tree.specs.Lifting.{constrains, prefers, is_plain, is_formula_free, is_effect_free, is_goal_free, is_modal_free, is_constraint_free, is_variable_free, steps, lifted_step, lift}
+use Rattle.p3_tree.specs.Lifting.{constrains, prefers, is_plain, is_formula_free, is_effect_free, is_goal_free, is_constraint_free, is_variable_free, steps, lifted_step, lift}
 
 -- the trees
 unfoldable pub trees_compute : Unit {0}
