@@ -86,13 +86,16 @@ one_constraint (more_of-Constraint constraint rest) = constraint
 unfoldable mutual
   pub instances_of : Task → Constraint → Environment → List Instance
   instances_of T (Both' _ parts) env = instances_of_all T parts env
-  instances_of T (Each' variables _ body) env = flat_map (instances_of_all T body) (bind T env variables)
+  instances_of T (Each' variables _ body) env = flat_map (instances_of_one T body) (bind T env variables)
   instances_of T (Single modal) env = []
   instances_of T (Soft' at name _ body) env = record { name = named name; body = one_constraint body; env = env } ∷ []
 
   pub instances_of_all : Task → {n : Count} → Row_of-Constraint n → Environment → List Instance
   instances_of_all T end_of-Constraint env = []
   instances_of_all T (more_of-Constraint constraint rest) env = instances_of T constraint env ++ instances_of_all T rest env
+
+  pub instances_of_one : Task → {n : Count} → Row_of-Constraint (one_more n) → Environment → List Instance
+  instances_of_one T (more_of-Constraint constraint rest) env = instances_of T constraint env
 
 -- a preference over the last state
 abbrev pub at_end : StatePref → Instance

@@ -7,6 +7,7 @@ pub mod Formulas
 pub mod Goals
 pub mod Laws
 pub mod Lifting
+pub mod Limits
 pub mod Metrics
 pub mod Names
 pub mod Offences

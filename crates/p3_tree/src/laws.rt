@@ -14,6 +14,8 @@ ghost use Rattle.p3_tree.specs.Validity.{Valid, first_fault};
 ghost use Rattle.p3_tree.specs.Lifting.{lift, Faithful};
 ghost use Rattle.p3_tree.specs.Laws.{Chain, IsCheapest, IsBest, StateCounts, TrajectoryCounts};
 ghost use Rattle.p3_tree.specs.Worked.FirstExample.{FirstExample};
+ghost use Rattle.p3_tree.specs.Worked.Limits.{CountsForLimits};
+ghost use Rattle.p3_tree.specs.Worked.Offences.{DomainOffences, ProblemOffences};
 ghost use Rattle.p3_tree.specs.Worked.Preferences.{ATypeMayHaveNoObjects, CountsOfOneNameAdd, GreatValuesMayBeBetter};
 ghost use Rattle.p3_tree.specs.Worked.Steps.{AnInnerVariableHidesAnOuterOne, AnAddWinsOverADelete, TheSecondStepFails};
 ghost use Rattle.p3_tree.specs.Worked.Trajectories.{TheSameStateIsNotBefore, AtMostOnceMeansOneStretch, SometimeAfterMeansThenOrLater};
@@ -56,4 +58,7 @@ pub fn worked_cases()
     ensures sometime_after { SometimeAfterMeansThenOrLater }
     ensures delivery { TheDelivery }
     ensures faults { FaultsOfOneStep }
+    ensures domain_offences { DomainOffences }
+    ensures problem_offences { ProblemOffences }
+    ensures limits { CountsForLimits }
 {}

@@ -5,6 +5,8 @@ use Rattle.p3_tree.specs.Worked.Steps.{hiding, both_changes, once_only, AnInnerV
 use Rattle.p3_tree.specs.Worked.Preferences.{empty_type, three_places, rewarded, ATypeMayHaveNoObjects, CountsOfOneNameAdd, GreatValuesMayBeBetter}
 use Rattle.p3_tree.specs.Worked.Trajectories.{both_at_once, switched, answered, TheSameStateIsNotBefore, AtMostOnceMeansOneStretch, SometimeAfterMeansThenOrLater}
 use Rattle.p3_tree.specs.Worked.Trucks.{trucks, delivery, written_delivery, TheDelivery, FaultsOfOneStep}
+use Rattle.p3_tree.specs.Worked.Limits.{hundred_objects, eight_objects, dear, sum_of_three, CountsForLimits}
+use Rattle.p3_tree.specs.Worked.Offences.{with_action, with_problem, DomainOffences, ProblemOffences}
 use Rattle.p3_tree.proofs.Computes.{meaning_computes}
 
 pub first_example : FirstExample
@@ -98,3 +100,32 @@ the_delivery = record {
 pub faults_of_one_step : FaultsOfOneStep
 unfolding meaning_computes trucks
 faults_of_one_step = record { no_cost = refl; too_few = refl; unknown = refl }
+
+pub counts_for_limits : CountsForLimits
+unfolding meaning_computes hundred_objects eight_objects dear trucks sum_of_three
+counts_for_limits = record {
+  hundred_size = refl;
+  eight_steps = refl;
+  eight_width = refl;
+  wide_bound = refl;
+  dear_bound = refl;
+  drive_bound = refl;
+  drive_size = refl;
+  load_width = refl;
+  load_bound = refl;
+  load_size = refl;
+  trucks_instances = refl;
+  trucks_constraints = refl;
+  sum_constant = refl;
+  sum_coefficient = refl;
+  other_coefficient = refl;
+  sum_cost_coefficient = refl;
+}
+
+pub domain_offences : DomainOffences
+unfolding meaning_computes with_action
+domain_offences = record { fine = refl; duplicate = refl; unknown = refl; miscount = refl; clash = refl; cost = refl }
+
+pub problem_offences : ProblemOffences
+unfolding meaning_computes with_problem
+problem_offences = record { duplicate = refl; unknown = refl }
