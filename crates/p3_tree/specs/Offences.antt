@@ -3,7 +3,7 @@ use Rattle.std.specs.Prelude.{◌≡◌, ◌==◌, Bool, true, false, not, ◌&&
 use Rattle.std.specs.List.{list_any, list_all}
 use Rattle.p3_tree.specs.Folds.{fold_goal, fold_constraint}
 use Rattle.p3_tree.specs.Names.{Name, same_name, same_names, has_name, object_type, total_cost}
-use Rattle.p3_tree.specs.Types.{below, types_named, declared_objects}
+use Rattle.p3_tree.specs.Types.{is_below_some, is_object_of, declared_objects}
 use Rattle.p3_tree.specs.States.{meanings}
 use Rattle.p3_tree.specs.Uses.{Scope, Use, Objects, Variables, AtomUse, FunctionUse, SideUse, NameUse, domain_uses, problem_uses}
 use Rattle.p3_tree.specs.declared.term.Ref.{Ref}
@@ -127,7 +127,7 @@ abbrev pub unknown_types : Task → List Typed → List Ref
 unknown_types T items = flat_map (λ item. flat_map (λ kind. unless (has_name (declared_types T) kind.name) kind) item.types) items
 
 abbrev pub unknown_term : Task → Scope → Term → List Ref
-unknown_term T scope (Var variable) = unless (is_declared scope variable.name) variable
+unknown_term T scope (Var variable) = unless (list_any (λ (entry : Name × List Name). same_name entry.0 variable.name) scope) variable
 unknown_term T scope (Const object) = unless (is_declared (declared_objects T) object.name) object
 
 abbrev pub unknown_header : List Header → Ref → List Ref
@@ -175,22 +175,14 @@ problem_miscounts T = flat_map (miscounted T) (problem_uses T.problem)
 
 -- ---- an argument whose types do not fit
 
--- whether the type is below one of the listed ones
-abbrev pub is_type_below : Task → List Ref → Name → Bool
-is_type_below T highs low = list_any (λ high. below T low high) (types_named highs)
-
--- some type of an object is below one of the parameter's
-abbrev pub object_fits : Task → List Ref → Name → Bool
-object_fits T highs object = list_any (λ declared. same_name declared.name.name object && list_any (is_type_below T highs) (types_named declared.types)) (declared_objects T)
-
 -- each type of a variable is below one of the parameter's
-abbrev pub declared_fits : Task → List Ref → Option Typed → Bool
-declared_fits T highs None = true
-declared_fits T highs (Some declared) = list_all (is_type_below T highs) (types_named declared.types)
+abbrev pub variable_fits : Task → List Ref → Option (Name × List Name) → Bool
+variable_fits T highs None = true
+variable_fits T highs (Some entry) = list_all (is_below_some T highs) entry.1
 
 abbrev pub term_fits : Task → Scope → Typed → Term → Bool
-term_fits T scope parameter (Var variable) = declared_fits T parameter.types (find (λ item. same_name item.name.name variable.name) scope)
-term_fits T scope parameter (Const object) = object_fits T parameter.types object.name
+term_fits T scope parameter (Var variable) = variable_fits T parameter.types (find (λ (entry : Name × List Name). same_name entry.0 variable.name) scope)
+term_fits T scope parameter (Const object) = is_object_of T parameter.types object.name
 
 abbrev pub word_of : Term → Ref
 word_of (Var variable) = variable
@@ -208,7 +200,7 @@ clashing T (FunctionUse function args scope) = clashes T scope (header_named T.d
 clashing T (SideUse side scope) = []
 clashing T (NameUse name) = []
 
--- an argument does not fit its parameter: the argument's word
+-- an argument does not fit its parameter (an object by some of its types, a variable by all of them): the argument's word
 unfoldable pub domain_clashes : Task → List Ref
 domain_clashes T = flat_map (clashing T) (domain_uses T.domain)
 

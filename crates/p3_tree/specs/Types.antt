@@ -31,13 +31,13 @@ below T low high = same_name high object_type || leads (declared_pairs T) low hi
 -- ---- objects
 
 -- no type stands for `object`
-abbrev pub types_named : List Ref → List Name
-types_named [] = object_type ∷ []
-types_named (first ∷ others) = names_of (first ∷ others)
+abbrev pub type_names : List Ref → List Name
+type_names [] = object_type ∷ []
+type_names (first ∷ others) = names_of (first ∷ others)
 
--- some type of the first list is below some type of the second
-abbrev pub is_some_below : Task → List Ref → List Ref → Bool
-is_some_below T lows highs = list_any (λ low. list_any (λ high. below T low high) (types_named highs)) (types_named lows)
+-- whether the type is below one of the listed types
+abbrev pub is_below_some : Task → List Ref → Name → Bool
+is_below_some T highs low = list_any (λ high. below T low high) (type_names highs)
 
 -- constants stand before objects
 abbrev pub declared_objects : Task → List Typed
@@ -50,7 +50,7 @@ once_each (name ∷ names) = name ∷ filter (λ other. not (same_name other nam
 
 -- whether some declaration gives the object a type below one of the listed types
 abbrev pub is_object_of : Task → List Ref → Name → Bool
-is_object_of T types object = list_any (λ declared. same_name declared.name.name object && is_some_below T declared.types types) (declared_objects T)
+is_object_of T types object = list_any (λ declared. same_name declared.name.name object && list_any (is_below_some T types) (type_names declared.types)) (declared_objects T)
 
 -- the objects of the listed types, each once, in the order of first declaration
 unfoldable pub objects : Task → List Ref → List Name

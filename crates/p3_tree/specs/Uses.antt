@@ -1,7 +1,8 @@
 -- What the texts of a task use: its names at their places, with the variables in scope.
-use Rattle.std.specs.Prelude.{List, [], ◌∷◌, ◌++◌, flat_map, Option, Some, None}
+use Rattle.std.specs.Prelude.{List, [], ◌∷◌, ◌++◌, map, flat_map, Option, Some, None}
 use Rattle.p3_tree.specs.Folds.{fold_formula, fold_effect, fold_goal, fold_constraint, fold_num}
-use Rattle.p3_tree.specs.Names.{total_cost}
+use Rattle.p3_tree.specs.Names.{Name, total_cost}
+use Rattle.p3_tree.specs.Types.{type_names}
 use Rattle.p3_tree.specs.declared.term.Ref.{Ref}
 use Rattle.p3_tree.specs.declared.term.Term.{Term}
 use Rattle.p3_tree.specs.declared.term.Typed.{Typed}
@@ -27,9 +28,12 @@ use Rattle.p3_tree.specs.declared.task.Init.TheVariants as init
 use Rattle.p3_tree.specs.declared.task.Domain.{Domain}
 use Rattle.p3_tree.specs.declared.task.Problem.{Problem}
 
--- the variables in scope with their types, the innermost first
+-- the variables in scope with the names of their types, the innermost first
 abbrev pub Scope : Type 0
-Scope = List Typed
+Scope = List (Name × List Name)
+
+abbrev pub scope_of : List Typed → Scope
+scope_of variables = map (λ variable. (variable.name.name, type_names variable.types)) variables
 
 pub data Use : Type 0 where
   -- constants or objects are declared
@@ -52,8 +56,8 @@ formula_layer (formula.And parts) scope = flat_map (λ part. part scope) parts
 formula_layer (formula.Or parts) scope = flat_map (λ part. part scope) parts
 formula_layer (formula.Not part) scope = part scope
 formula_layer (formula.Imply first second) scope = first scope ++ second scope
-formula_layer (formula.Exists variables body) scope = Variables variables ∷ body (variables ++ scope)
-formula_layer (formula.Forall variables body) scope = Variables variables ∷ body (variables ++ scope)
+formula_layer (formula.Exists variables body) scope = Variables variables ∷ body (scope_of variables ++ scope)
+formula_layer (formula.Forall variables body) scope = Variables variables ∷ body (scope_of variables ++ scope)
 
 unfoldable pub formula_uses : Formula → Scope → List Use
 formula_uses tree = fold_formula formula_layer tree
@@ -66,7 +70,7 @@ abbrev pub effect_layer : effect.Effect-F (Scope → List Use) → Scope → Lis
 effect_layer (effect.Add pred args) scope = AtomUse pred args scope ∷ []
 effect_layer (effect.Del pred args) scope = AtomUse pred args scope ∷ []
 effect_layer (effect.All parts) scope = flat_map (λ part. part scope) parts
-effect_layer (effect.Each variables body) scope = Variables variables ∷ body (variables ++ scope)
+effect_layer (effect.Each variables body) scope = Variables variables ∷ body (scope_of variables ++ scope)
 effect_layer (effect.If condition body) scope = formula_uses condition scope ++ body scope
 effect_layer (effect.Cost at increase) scope = FunctionUse (record { name = total_cost; at = at }) [] scope ∷ amount_uses increase scope
 
@@ -76,7 +80,7 @@ effect_uses tree = fold_effect effect_layer tree
 abbrev pub goal_layer : goal.PreGoal-F (Scope → List Use) → Scope → List Use
 goal_layer (goal.Plain body) scope = formula_uses body scope
 goal_layer (goal.Both parts) scope = flat_map (λ part. part scope) parts
-goal_layer (goal.Each variables body) scope = Variables variables ∷ body (variables ++ scope)
+goal_layer (goal.Each variables body) scope = Variables variables ∷ body (scope_of variables ++ scope)
 goal_layer (goal.Soft pref) scope = formula_uses pref.body scope
 
 unfoldable pub goal_uses : PreGoal → Scope → List Use
@@ -92,7 +96,7 @@ modal_uses (modal.SometimeBefore f g) scope = formula_uses f scope ++ formula_us
 
 abbrev pub constraint_layer : constraint.Constraint-F (Scope → List Use) → Scope → List Use
 constraint_layer (constraint.Both parts) scope = flat_map (λ part. part scope) parts
-constraint_layer (constraint.Each variables body) scope = Variables variables ∷ body (variables ++ scope)
+constraint_layer (constraint.Each variables body) scope = Variables variables ∷ body (scope_of variables ++ scope)
 constraint_layer (constraint.Single operator) scope = modal_uses operator scope
 constraint_layer (constraint.Soft at name body) scope = body scope
 
@@ -121,7 +125,7 @@ init_uses (init.False pred args) = AtomUse pred args [] ∷ []
 init_uses (init.Value function args number) = FunctionUse function args [] ∷ []
 
 abbrev pub action_uses : Action → List Use
-action_uses action = Variables action.params ∷ goal_uses action.pre.body action.params ++ effect_uses action.effect.body action.params
+action_uses action = Variables action.params ∷ goal_uses action.pre.body (scope_of action.params) ++ effect_uses action.effect.body (scope_of action.params)
 
 abbrev pub header_uses : Header → List Use
 header_uses header = Variables header.params ∷ []
