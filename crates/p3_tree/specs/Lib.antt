@@ -2,6 +2,7 @@ pub mod Bindings
 pub mod Constraints
 pub mod Costs
 pub mod Effects
+pub mod Erased
 pub mod Folds
 pub mod Formulas
 pub mod Goals
