@@ -1,7 +1,7 @@
 pub mod BelowLemmas
 pub mod Computes
 pub mod CountLemmas
-pub mod ErasedFolds
+pub mod Erased
 pub mod FoldLemmas
 pub mod MeaningLemmas
 pub mod OptimaLemmas

@@ -1,0 +1,4 @@
+pub mod Along
+pub mod Folds
+pub mod Meanings
+pub mod Words
