@@ -1,4 +1,5 @@
 pub mod Along
 pub mod Folds
 pub mod Meanings
+pub mod Plans
 pub mod Words
