@@ -162,7 +162,7 @@ module _ (T : Task) where
       instance_counts : unsatisfied (erased T) (visited (erased T) plan) name (instances (erased T)) ≡ unsatisfied T (visited T plan) name (instances T)
       instance_counts = (λ i. unsatisfied (erased T) (visited-erased plan i) name (instances-erased T i)) ∙ unsatisfied-erased (visited T plan) name (instances T)
 
-  initial_cost-erased : initial_cost (erased T) ≡ initial_cost T
+  pub initial_cost-erased : initial_cost (erased T) ≡ initial_cost T
   initial_cost-erased = ap (λ given. unwrap_or given 0) (given_value-erased T total_cost [])
 
   pub cost-erased : (plan : Plan) → cost (erased T) plan ≡ cost T plan
