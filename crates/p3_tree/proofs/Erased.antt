@@ -3,5 +3,7 @@ pub mod Folds
 pub mod Lifting
 pub mod Limits
 pub mod Meanings
+pub mod Offences
 pub mod Plans
+pub mod Uses
 pub mod Words

@@ -3,6 +3,7 @@ use Rattle.std.specs.Prelude.{ℕ, List, map, option_map, Option}
 use mathlib.Core.Former.{Count}
 use Rattle.p3_tree.specs.Goals.{StatePref}
 use Rattle.p3_tree.specs.Constraints.{HardModal, Instance}
+use Rattle.p3_tree.specs.Uses.{Use, Objects, Variables, AtomUse, FunctionUse, SideUse, NameUse}
 use Rattle.p3_tree.specs.declared.term.Ref.{Ref}
 use Rattle.p3_tree.specs.declared.term.Term.{Term}
 use Rattle.p3_tree.specs.declared.term.Term.TheVariants.{Var, Const}
@@ -195,3 +196,11 @@ erased_hard_modal entry = record { modal = erased_modal entry.modal; env = entry
 
 abbrev pub erased_instance : Instance → Instance
 erased_instance instance = record { name = instance.name; body = erased_constraint instance.body; env = instance.env }
+
+abbrev pub erased_use : Use → Use
+erased_use (Objects objects) = Objects (erased_all_typed objects)
+erased_use (Variables variables) = Variables (erased_all_typed variables)
+erased_use (AtomUse pred args scope) = AtomUse (erased_ref pred) (erased_terms args) scope
+erased_use (FunctionUse function args scope) = FunctionUse (erased_ref function) (erased_terms args) scope
+erased_use (SideUse side scope) = SideUse (erased_term side) scope
+erased_use (NameUse name) = NameUse (erased_ref name)
