@@ -4,6 +4,7 @@ pub mod CountLemmas
 pub mod Erased
 pub mod FoldLemmas
 pub mod MeaningLemmas
+pub mod OffsetLemmas
 pub mod OptimaLemmas
 pub mod ValidityLemmas
 pub mod Worked

@@ -1,5 +1,5 @@
 -- Trees with all offsets 0. No definition tells a tree from its erased form.
-use Rattle.std.specs.Prelude.{ℕ, List, map, option_map, Option}
+use Rattle.std.specs.Prelude.{List, map, option_map}
 use mathlib.Core.Former.{Count}
 use Rattle.p3_tree.specs.Goals.{StatePref}
 use Rattle.p3_tree.specs.Constraints.{HardModal, Instance}
@@ -25,7 +25,6 @@ use Rattle.p3_tree.specs.declared.constraint.Constraint.TheVariants as constrain
 use Rattle.p3_tree.specs.declared.metric.Metric.{Metric}
 use Rattle.p3_tree.specs.declared.metric.Num.{Num, Row_of-Num, end_of-Num, more_of-Num}
 use Rattle.p3_tree.specs.declared.metric.Num.TheVariants as num
-use Rattle.p3_tree.specs.declared.task.Part.{Part}
 use Rattle.p3_tree.specs.declared.task.Kind.{Kind}
 use Rattle.p3_tree.specs.declared.task.Header.{Header}
 use Rattle.p3_tree.specs.declared.task.Action.{Action}

@@ -12,6 +12,7 @@ pub mod Limits
 pub mod Metrics
 pub mod Names
 pub mod Offences
+pub mod Offsets
 pub mod Plans
 pub mod States
 pub mod Types

@@ -13,6 +13,8 @@ ghost use Rattle.p3_tree.specs.Plans.{Plan};
 ghost use Rattle.p3_tree.specs.Validity.{Valid, first_fault};
 ghost use Rattle.p3_tree.specs.Lifting.{lift, Faithful};
 ghost use Rattle.p3_tree.specs.Laws.{Chain, IsCheapest, IsBest, StateCounts, TrajectoryCounts};
+ghost use Rattle.p3_tree.specs.Erased.{erased};
+ghost use Rattle.p3_tree.specs.Offsets.{OffsetFree};
 ghost use Rattle.p3_tree.specs.Worked.FirstExample.{FirstExample};
 ghost use Rattle.p3_tree.specs.Worked.Limits.{CountsForLimits};
 ghost use Rattle.p3_tree.specs.Worked.Offences.{DomainOffences, ProblemOffences};
@@ -42,6 +44,13 @@ pub fn counts_by_place()
 /// The cheapest plans of a faithful translation lift to best plans.
 pub fn optima_are_kept()
     ensures { (T U : Task) → Faithful T U → (q : Plan) → IsCheapest U q → IsBest T (lift T q) }
+{}
+
+/// No definition depends on the offsets kept in trees, down to what it is that a translation is
+/// faithful.
+pub fn offsets_have_no_meaning()
+    ensures definitions { (T : Task) → OffsetFree T }
+    ensures faithful { (T U : Task) → Faithful (erased T) (erased U) ↔ Faithful T U }
 {}
 
 /// What small tasks mean.

@@ -1,5 +1,5 @@
 -- Functions over a list of images, where each image gives what its item gives.
-use Rattle.std.proofs.Common.{◌≡◌, ◌∙◌, ℕ, ◌+◌, refl, sym, ap, Bool, true, false, ◌&&◌, ◌||◌, List, [], ◌∷◌, ◌++◌, map, Option, None, Some, cond}
+use Rattle.std.proofs.Common.{◌≡◌, ◌∙◌, ◌+◌, refl, sym, ap, Bool, true, false, ◌&&◌, ◌||◌, List, [], ◌∷◌, ◌++◌, map, Option, Some, cond}
 use Rattle.std.specs.Prelude.{flat_map, filter_map, find, fold, option_map}
 use Rattle.std.specs.List.{list_any, list_all, prefix_len, cons_option}
 use Rattle.std.proofs.lemmas.List.{map-append}

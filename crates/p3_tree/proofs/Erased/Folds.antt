@@ -1,5 +1,5 @@
 -- Folds of erased trees. A layer is erased by its own names, with a function over the meanings of its parts.
-use Rattle.std.proofs.Common.{◌≡◌, ◌∙◌, refl, ap, List, [], ◌∷◌, map}
+use Rattle.std.proofs.Common.{◌≡◌, ◌∙◌, refl, ◌∷◌, map}
 use Rattle.std.specs.Prelude.{option_map}
 use mathlib.Core.Former.{Count, one_more}
 use Rattle.p3_tree.specs.Folds.{fold_formula, fold_formulas, fold_one_formula, fold_effect, fold_effects, fold_one_effect, fold_goal, fold_goals, fold_one_goal, fold_constraint, fold_constraints, fold_one_constraint, fold_num, fold_nums, fold_one_num}

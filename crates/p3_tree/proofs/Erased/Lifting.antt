@@ -1,6 +1,6 @@
 -- Plain tasks, tasks without variables, steps and lifting are the same without offsets.
-use Rattle.std.proofs.Common.{◌≡◌, ◌∙◌, ℕ, refl, sym, ap, Bool, true, false, not, ◌&&◌, ◌||◌, List, [], ◌∷◌, map, Option, None, Some, eqb}
-use Rattle.std.specs.Prelude.{flat_map, filter_map, find, option_map}
+use Rattle.std.proofs.Common.{◌≡◌, ℕ, refl, ap, Bool, not, ◌&&◌, List, [], ◌∷◌, map, Option, None, Some, eqb}
+use Rattle.std.specs.Prelude.{filter_map, find, option_map}
 use Rattle.std.specs.List.{list_any, list_all, enumerate_from}
 use Rattle.p3_base.specs.declared.refusal.Direction.{Direction}
 use Rattle.p3_base.specs.declared.refusal.Direction.TheVariants.{Minimize, Maximize}

@@ -1,6 +1,6 @@
 -- The counts for limits are the same without offsets.
-use Rattle.std.proofs.Common.{◌≡◌, ◌∙◌, ℕ, ◌+◌, ◌*◌, refl, sym, ap, Bool, List, [], ◌∷◌, map, length, Option, None, Some, cond, ℤ, pos, ◌+ℤ◌, ◌-ℤ◌, ◌*ℤ◌}
-use Rattle.std.specs.Prelude.{filter_map, fold, sum, sum_by, max, int_lt}
+use Rattle.std.proofs.Common.{◌≡◌, ◌∙◌, ℕ, ◌+◌, ◌*◌, refl, ap, List, [], map, length, Option, None, Some, cond, pos, ◌+ℤ◌, ◌-ℤ◌, ◌*ℤ◌}
+use Rattle.std.specs.Prelude.{fold, sum, sum_by, max, int_lt}
 use Rattle.std.proofs.lemmas.List.{map-id}
 use Rattle.p3_tree.specs.Names.{Name}
 use Rattle.p3_tree.specs.Goals.{StatePref}

@@ -1,12 +1,11 @@
 -- Formulas, effects, goals and constraints mean the same without offsets.
-use Rattle.std.proofs.Common.{◌≡◌, ◌∙◌, ℕ, refl, sym, ap, Bool, true, not, ◌&&◌, List, [], ◌∷◌, ◌++◌, map, length, Option, None, Some}
+use Rattle.std.proofs.Common.{◌≡◌, ◌∙◌, refl, sym, ap, Bool, not, ◌&&◌, List, [], ◌∷◌, ◌++◌, map, Option, None, Some}
 use Rattle.std.specs.Prelude.{flat_map, filter, option_map, if◌then◌else◌, slice_get, nat_le, nat_lt}
 use Rattle.std.specs.List.{list_any, list_all}
 use Rattle.std.proofs.lemmas.List.{map-append}
 use mathlib.Core.Former.{Count, one_more}
-use Rattle.p3_tree.specs.Folds.{fold_formula}
 use Rattle.p3_tree.specs.Names.{Name, same_name, same_names}
-use Rattle.p3_tree.specs.States.{State, Environment, meaning, meanings, has_fact}
+use Rattle.p3_tree.specs.States.{State, Environment, meanings, has_fact}
 use Rattle.p3_tree.specs.Bindings.{bind}
 use Rattle.p3_tree.specs.Formulas.{◌implies◌, holds, holds_layer}
 use Rattle.p3_tree.specs.Effects.{adds, adds_layer, dels, dels_layer, next}
@@ -14,7 +13,7 @@ use Rattle.p3_tree.specs.Goals.{hard_holds, hard_layer, StatePref, named, prefs,
 use Rattle.p3_tree.specs.Costs.{entry_value, given_value, amount_value, increases, increases_layer, total, effect_cost}
 use Rattle.p3_tree.specs.Plans.{state_at}
 use Rattle.p3_tree.specs.Constraints.{each_place, some_place, holds_once_from, satisfies, sat, sat_layer, HardModal, hard_modals, hard_modals_layer, hard_list, Instance, instances_of, instances_of_all, instances_of_one, one_constraint, at_end, instances}
-use Rattle.p3_tree.specs.Erased.{erased_ref, erased_terms, erased_all_typed, erased_amount, erased_init, erased_formula, erased_effect, erased_pref, erased_goal, erased_modal, erased_constraint, erased_constraints, erased, erased_state_pref, erased_hard_modal, erased_instance}
+use Rattle.p3_tree.specs.Erased.{erased_ref, erased_amount, erased_init, erased_formula, erased_effect, erased_goal, erased_modal, erased_constraint, erased_constraints, erased, erased_state_pref, erased_hard_modal, erased_instance}
 use Rattle.p3_tree.proofs.Erased.Along.{any_along, all_along, map_along, flat_map_along, filter_map_along, flat_map_into, flat_map_images}
 use Rattle.p3_tree.proofs.Erased.Folds.{erased_formula_layer, fold_formula-erased, erased_effect_layer, fold_effect-erased, erased_goal_layer, fold_goal-erased, erased_constraint_layer, fold_constraint-erased}
 use Rattle.p3_tree.proofs.Erased.Words.{meaning-erased, meanings-erased, fact_of-erased, bind-erased}
@@ -189,6 +188,7 @@ module _ (T : Task) where
 
   mutual
     unfolding instances_of
+
     instances_of-erased : (c : Constraint) (env : Environment) → instances_of (erased T) (erased_constraint c) env ≡ map erased_instance (instances_of T c env)
     instances_of-erased (tree.Both' _ parts) env = instances_of_all-erased parts env
     instances_of-erased (tree.Each' variables _ body) env = ap (flat_map (instances_of_one (erased T) (erased_constraints body))) (bind-erased T env variables) ∙ flat_map_images erased_instance (instances_of_one (erased T) (erased_constraints body)) (instances_of_one T body) (instances_of_one-erased body) (bind T env variables)

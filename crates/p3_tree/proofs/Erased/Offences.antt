@@ -1,13 +1,13 @@
 -- The words of offences are the same without offsets, and so are well-formed tasks.
-use Rattle.std.proofs.Common.{◌≡◌, ◌∙◌, ◌↔◌, ℕ, refl, sym, ap, Bool, true, false, not, ◌&&◌, List, [], ◌∷◌, ◌++◌, map, length, Option, None, Some, eqb}
+use Rattle.std.proofs.Common.{◌≡◌, ◌∙◌, ◌↔◌, refl, sym, ap, Bool, true, false, not, ◌&&◌, List, [], ◌∷◌, ◌++◌, map, length, Option, None, Some, eqb}
 use Rattle.std.specs.Prelude.{flat_map, find, option_map, zip}
 use Rattle.std.specs.List.{list_any, list_all}
 use Rattle.std.proofs.lemmas.List.{map-append, length-map}
 use Rattle.p3_tree.specs.Names.{Name, same_name, same_names, has_name, object_type, total_cost}
-use Rattle.p3_tree.specs.Types.{is_below_some, is_object_of, declared_objects}
+use Rattle.p3_tree.specs.Types.{declared_objects}
 use Rattle.p3_tree.specs.States.{meanings}
 use Rattle.p3_tree.specs.Uses.{Scope, Use, Objects, Variables, AtomUse, FunctionUse, SideUse, NameUse, domain_uses, problem_uses}
-use Rattle.p3_tree.specs.Offences.{unless, repeated_after, repeated, variable_words, repeated_variables, is_given_by, repeated_value, repeated_values, header_words, action_words, domain_duplicates, problem_duplicates, kind_names, declared_types, name_of_pref, goal_names_layer, goal_names, constraint_names_layer, constraint_names, preference_names, header_named, is_declared, unknown_types, unknown_term, unknown_header, unknown_words, domain_unknowns, problem_unknowns, wrong_count, miscounted, total_cost_with_parameters, domain_miscounts, problem_miscounts, variable_fits, term_fits, word_of, clashes, clashing, domain_clashes, problem_clashes, WellFormed}
+use Rattle.p3_tree.specs.Offences.{unless, repeated_after, repeated, repeated_variables, is_given_by, repeated_value, repeated_values, header_words, action_words, domain_duplicates, problem_duplicates, kind_names, declared_types, name_of_pref, goal_names_layer, goal_names, constraint_names_layer, constraint_names, preference_names, header_named, is_declared, unknown_types, unknown_term, unknown_header, unknown_words, domain_unknowns, problem_unknowns, wrong_count, miscounted, total_cost_with_parameters, domain_miscounts, problem_miscounts, variable_fits, term_fits, word_of, clashes, clashing, domain_clashes, problem_clashes, WellFormed}
 use Rattle.p3_tree.specs.Erased.{erased_ref, erased_term, erased_terms, erased_typed, erased_all_typed, erased_goal, erased_constraint, erased_kind, erased_header, erased_action, erased_init, erased_domain, erased_problem, erased, erased_use}
 use Rattle.p3_tree.proofs.Erased.Along.{any_along, map_along, find_along, flat_map_along, flat_map_into}
 use Rattle.p3_tree.proofs.Erased.Folds.{erased_goal_layer, fold_goal-erased, erased_constraint_layer, fold_constraint-erased}
@@ -22,7 +22,6 @@ use Rattle.p3_tree.specs.declared.goal.PreGoal.TheOpen as goal
 use Rattle.p3_tree.specs.declared.constraint.Constraint.{Constraint, Constraint-F}
 use Rattle.p3_tree.specs.declared.constraint.Constraint.TheOpen as constraint
 use Rattle.p3_tree.specs.declared.task.Header.{Header}
-use Rattle.p3_tree.specs.declared.task.Kind.{Kind}
 use Rattle.p3_tree.specs.declared.task.Init.{Init}
 use Rattle.p3_tree.specs.declared.task.Init.TheVariants.{True, False, Value}
 use Rattle.p3_tree.specs.declared.task.Domain.{Domain}
@@ -224,17 +223,20 @@ module _ (T : Task) where
   clashes_both-erased = two_lists _ _ (domain_clashes T) (problem_clashes T) (in_domain (clashing (erased T)) (clashing T) clashing-erased) (in_problem (clashing (erased T)) (clashing T) clashing-erased)
 
   pub WellFormed-erased : WellFormed (erased T) ↔ WellFormed T
-  WellFormed-erased = (λ well. record {
+  WellFormed-erased = (
+    λ well. record {
       duplicates = none_before _ (sym duplicates-erased ∙ well.duplicates);
       unknowns = none_before _ (sym unknowns-erased ∙ well.unknowns);
       miscounts = none_before _ (sym miscounts-erased ∙ well.miscounts);
       clashes = none_before _ (sym clashes_both-erased ∙ well.clashes);
-    }, λ well. record {
+    },
+    λ well. record {
       duplicates = duplicates-erased ∙ ap (map erased_ref) well.duplicates;
       unknowns = unknowns-erased ∙ ap (map erased_ref) well.unknowns;
       miscounts = miscounts-erased ∙ ap (map erased_ref) well.miscounts;
       clashes = clashes_both-erased ∙ ap (map erased_ref) well.clashes;
-    })
+    },
+  )
     where
       none_before : (words : List Ref) → map erased_ref words ≡ [] → words ≡ []
       none_before [] e = refl

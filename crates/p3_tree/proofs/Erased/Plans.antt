@@ -1,20 +1,18 @@
 -- Plans, their faults and their values are the same without offsets.
-use Rattle.std.proofs.Common.{◌≡◌, ◌∙◌, ◌↔◌, ℕ, ◌+◌, refl, sym, ap, Bool, not, ◌&&◌, List, [], ◌∷◌, map, length, Option, None, Some, IsTrue, is_some, subst, ltb, cond, ℤ, pos, ◌-ℤ◌, ◌+ℤ◌, ◌*ℤ◌}
-use Rattle.std.specs.Prelude.{filter_map, slice_get, option_map, option_and_then, position, if◌then◌else◌, zip, sum_by, count_by, unwrap_or, fold}
+use Rattle.std.proofs.Common.{◌≡◌, ◌∙◌, ◌↔◌, ℕ, ◌+◌, refl, sym, ap, not, ◌&&◌, List, [], ◌∷◌, map, Option, None, Some, is_some, ltb, cond, ℤ, pos, ◌-ℤ◌, ◌+ℤ◌, ◌*ℤ◌}
+use Rattle.std.specs.Prelude.{filter_map, slice_get, option_map, option_and_then, position, if◌then◌else◌, zip, sum_by, unwrap_or}
 use Rattle.std.specs.Option.{option_or}
 use Rattle.std.specs.List.{list_all, enumerate_from, prefix_len}
 use Rattle.std.proofs.lemmas.List.{length-map}
 use Rattle.p3_tree.specs.Names.{Name, total_cost}
-use Rattle.p3_tree.specs.States.{State, Environment, start}
-use Rattle.p3_tree.specs.Bindings.{are_arguments}
-use Rattle.p3_tree.specs.Formulas.{holds}
+use Rattle.p3_tree.specs.States.{State, start}
 use Rattle.p3_tree.specs.Effects.{next}
 use Rattle.p3_tree.specs.Goals.{StatePref, hard_holds, prefs}
 use Rattle.p3_tree.specs.Costs.{initial_cost, effect_cost}
 use Rattle.p3_tree.specs.Plans.{Plan, action_named, arguments, cost_by, fits_by, state_by, step_cost, fits, state_after, visited_from, visited, last_state, moves, steps_fit, Reached}
-use Rattle.p3_tree.specs.Constraints.{HardModal, satisfies, hard_list, Instance, sat, instances}
-use Rattle.p3_tree.specs.Validity.{goal_holds, is_met, is_valid, Misfit, UnknownAction, Arguments, Precondition, NoCost, misfit, misfit_by, Fault, AtStep, AtGoal, AtConstraint, fault_at, step_fault, goal_fault, constraint_fault, first_fault}
-use Rattle.p3_tree.specs.Metrics.{is_called, unsatisfied, false_in, prefs_by, step_prefs, violated, cost, num_layer, num_value, value_by, direction_by, direction, signed, loss_at, value, loss, no_counts, base_loss, one_count, weight, cost_weight}
+use Rattle.p3_tree.specs.Constraints.{HardModal, satisfies, hard_list, Instance, instances}
+use Rattle.p3_tree.specs.Validity.{goal_holds, is_met, is_valid, Arguments, Precondition, NoCost, misfit, misfit_by, AtStep, AtGoal, AtConstraint, step_fault, goal_fault, constraint_fault, first_fault}
+use Rattle.p3_tree.specs.Metrics.{is_called, unsatisfied, false_in, prefs_by, step_prefs, violated, cost, num_layer, num_value, value_by, direction_by, signed, loss_at, value, loss, no_counts, base_loss, one_count, weight, cost_weight}
 use Rattle.p3_tree.specs.Erased.{erased_action, erased_metric, erased_num, erased, erased_state_pref, erased_hard_modal, erased_instance}
 use Rattle.p3_tree.proofs.Erased.Along.{all_along, find_along, prefix_along, fold_along}
 use Rattle.p3_tree.proofs.Erased.Folds.{erased_num_layer, fold_num-erased}
@@ -85,8 +83,10 @@ module _ (T : Task) where
   steps_fit-erased plan = λ i. list_all (λ move. fits-erased move.0 move.1 i) (moves-erased plan i)
 
   pub Reached-erased : (s : State) → Reached (erased T) s ↔ Reached T s
-  Reached-erased s = (λ reached. record { plan = reached.plan; fit = sym (steps_fit-erased reached.plan) ∙ reached.fit; last = reached.last ∙ ap last_state (visited-erased reached.plan) },
-      λ reached. record { plan = reached.plan; fit = steps_fit-erased reached.plan ∙ reached.fit; last = reached.last ∙ ap last_state (sym (visited-erased reached.plan)) })
+  Reached-erased s = (
+    λ reached. record { plan = reached.plan; fit = sym (steps_fit-erased reached.plan) ∙ reached.fit; last = reached.last ∙ ap last_state (visited-erased reached.plan) },
+    λ reached. record { plan = reached.plan; fit = steps_fit-erased reached.plan ∙ reached.fit; last = reached.last ∙ ap last_state (sym (visited-erased reached.plan)) },
+  )
 
   -- ---- validity
 

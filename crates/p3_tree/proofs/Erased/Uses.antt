@@ -1,9 +1,9 @@
 -- What an erased task uses is what the task uses, erased.
-use Rattle.std.proofs.Common.{◌≡◌, ◌∙◌, ℕ, refl, sym, ap, List, [], ◌∷◌, ◌++◌, map, Option, None, Some}
+use Rattle.std.proofs.Common.{◌≡◌, ◌∙◌, refl, sym, ap, List, [], ◌∷◌, ◌++◌, map, Option, None, Some}
 use Rattle.std.specs.Prelude.{flat_map, option_map}
 use Rattle.std.proofs.lemmas.List.{map-append}
-use Rattle.p3_tree.specs.Names.{Name, total_cost}
-use Rattle.p3_tree.specs.Uses.{Scope, scope_of, Use, Objects, Variables, AtomUse, FunctionUse, SideUse, formula_uses, formula_layer, amount_uses, effect_uses, effect_layer, goal_uses, goal_layer, modal_uses, constraint_uses, constraint_layer, num_uses, num_layer, metric_uses, init_uses, action_uses, header_uses, domain_uses, problem_uses}
+use Rattle.p3_tree.specs.Names.{total_cost}
+use Rattle.p3_tree.specs.Uses.{Scope, scope_of, Use, Objects, Variables, FunctionUse, formula_uses, formula_layer, amount_uses, effect_uses, effect_layer, goal_uses, goal_layer, modal_uses, constraint_uses, constraint_layer, num_uses, num_layer, metric_uses, init_uses, action_uses, header_uses, domain_uses, problem_uses}
 use Rattle.p3_tree.specs.Erased.{erased_typed, erased_all_typed, erased_amount, erased_formula, erased_effect, erased_goal, erased_modal, erased_constraint, erased_num, erased_metric, erased_header, erased_action, erased_init, erased_domain, erased_problem, erased_use}
 use Rattle.p3_tree.proofs.Erased.Along.{map_along, flat_map_into}
 use Rattle.p3_tree.proofs.Erased.Folds.{erased_formula_layer, fold_formula-erased, erased_effect_layer, fold_effect-erased, erased_goal_layer, fold_goal-erased, erased_constraint_layer, fold_constraint-erased, erased_num_layer, fold_num-erased}

@@ -1,15 +1,14 @@
 -- Types, states and bindings do not depend on offsets.
-use Rattle.std.proofs.Common.{◌≡◌, ◌∙◌, refl, sym, ap, Bool, ◌&&◌, ◌||◌, List, [], ◌∷◌, ◌++◌, map, Option, None, Some}
+use Rattle.std.proofs.Common.{◌≡◌, ◌∙◌, refl, sym, ap, ◌&&◌, ◌||◌, List, [], ◌∷◌, map, Option, None, Some}
 use Rattle.std.specs.Prelude.{flat_map, filter, option_map}
 use Rattle.std.specs.List.{list_any}
 use Rattle.std.proofs.lemmas.List.{map-append}
 use Rattle.p3_tree.specs.Names.{Name, same_name, has_name, object_type}
-use Rattle.p3_tree.specs.Types.{names_of, pair_of, declared_pairs, leads, below, type_names, is_below_some, declared_objects, once_each, is_object_of, objects}
-use Rattle.p3_tree.specs.States.{Environment, object_of, meaning, meanings, fact_of, initial_fact, start}
+use Rattle.p3_tree.specs.Types.{names_of, pair_of, leads, below, type_names, is_below_some, declared_objects, once_each, is_object_of, objects}
+use Rattle.p3_tree.specs.States.{Environment, meaning, meanings, fact_of, initial_fact, start}
 use Rattle.p3_tree.specs.Bindings.{tuples, extended, bind, are_arguments}
 use Rattle.p3_tree.specs.Erased.{erased_ref, erased_term, erased_terms, erased_typed, erased_all_typed, erased_kind, erased_init, erased}
 use Rattle.p3_tree.proofs.Erased.Along.{any_along, map_along, filter_map_along}
-use Rattle.p3_tree.specs.declared.state.Fact.{Fact}
 use Rattle.p3_tree.specs.declared.term.Ref.{Ref}
 use Rattle.p3_tree.specs.declared.term.Term.{Term}
 use Rattle.p3_tree.specs.declared.term.Term.TheVariants.{Var, Const}
