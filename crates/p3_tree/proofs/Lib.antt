@@ -6,5 +6,6 @@ pub mod FoldLemmas
 pub mod MeaningLemmas
 pub mod OffsetLemmas
 pub mod OptimaLemmas
+pub mod StateLemmas
 pub mod ValidityLemmas
 pub mod Worked

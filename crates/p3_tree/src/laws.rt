@@ -1,14 +1,17 @@
 //! Laws of the definitions. Each is the contract of a function without a body.
 
-ghost use Rattle.std.specs.Prelude.{◌≡◌, ◌⊎◌, ◌↔◌, ℕ, List, IsTrue};
+ghost use Rattle.std.specs.Prelude.{◌≡◌, ◌⊎◌, ◌↔◌, ◌&&◌, ◌||◌, not, ℕ, List, IsTrue};
 ghost use Rattle.p3_tree.specs.declared.term.Ref.{Ref};
 ghost use Rattle.p3_tree.specs.declared.term.Typed.{Typed};
 ghost use Rattle.p3_tree.specs.declared.formula.Formula.{Formula};
 ghost use Rattle.p3_tree.specs.declared.constraint.Constraint.{Constraint};
+ghost use Rattle.p3_tree.specs.declared.effect.Effect.{Effect};
+ghost use Rattle.p3_tree.specs.declared.state.Fact.{Fact};
 ghost use Rattle.p3_tree.specs.declared.task.Task.{Task};
 ghost use Rattle.p3_tree.specs.Names.{Name, object_type};
 ghost use Rattle.p3_tree.specs.Types.{declared_pairs, below};
-ghost use Rattle.p3_tree.specs.States.{State, Environment};
+ghost use Rattle.p3_tree.specs.States.{State, Environment, has_fact};
+ghost use Rattle.p3_tree.specs.Effects.{adds, dels, next};
 ghost use Rattle.p3_tree.specs.Plans.{Plan};
 ghost use Rattle.p3_tree.specs.Validity.{Valid, first_fault};
 ghost use Rattle.p3_tree.specs.Lifting.{lift, Faithful};
@@ -27,6 +30,11 @@ ghost use Rattle.p3_tree.specs.Worked.Trucks.{TheDelivery, FaultsOfOneStep};
 /// above every type.
 pub fn below_is_the_closure()
     ensures { (T : Task) (low high : Name) → IsTrue (below T low high) ↔ ((high ≡ object_type) ⊎ Chain (declared_pairs T) low high) }
+{}
+
+/// An atom is in the next state exactly where it is added, or was there and is not deleted.
+pub fn atoms_of_the_next_state()
+    ensures { (T : Task) (s : State) (env : Environment) (e : Effect) (fact : Fact) → has_fact (next T s env e) fact ≡ (has_fact (adds T s env e) fact || (has_fact s fact && not (has_fact (dels T s env e) fact))) }
 {}
 
 /// A plan is valid exactly where it has no first fault.
