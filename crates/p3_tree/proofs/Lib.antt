@@ -6,6 +6,7 @@ pub mod FoldLemmas
 pub mod MeaningLemmas
 pub mod OffsetLemmas
 pub mod OptimaLemmas
+pub mod PlanLemmas
 pub mod StateLemmas
 pub mod ValidityLemmas
 pub mod Worked
