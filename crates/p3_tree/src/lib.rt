@@ -6,6 +6,7 @@ mod effect;
 mod expression;
 mod formula;
 mod goal;
+mod laws;
 mod metric;
 mod state;
 mod task;
@@ -16,6 +17,10 @@ pub use effect::{Amount, Effect, Numeral};
 pub use expression::Expression;
 pub use formula::Formula;
 pub use goal::{PreGoal, Pref};
+pub use laws::{
+    atoms_of_the_next_state, below_is_the_closure, counts_by_place, offsets_have_no_meaning,
+    optima_are_kept, valid_where_no_fault, worked_cases,
+};
 pub use metric::{Metric, Num};
 pub use state::{Binding, Fact};
 pub use task::{Action, Domain, Header, Init, Kind, Part, Plan, Problem, Step, Task};

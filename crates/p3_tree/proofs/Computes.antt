@@ -1,0 +1,33 @@
+-- All definitions of the meaning of a task, to be unfolded together where a closed task is computed.
+use denote.Hole.Carrier.{hidden}
+use Rattle.std.specs.Fmt.{digits}
+use Rattle.p3_tree.specs.declared.formula.Formula.TheBlock.{hidden-the_row-Formula-0, hidden-the_row-Formula-1, shape-the_row-Formula-0, shape-the_row-Formula-1}
+use Rattle.p3_tree.specs.declared.effect.Effect.TheBlock.{hidden-the_row-Effect-0, hidden-the_row-Effect-1, shape-the_row-Effect-0, shape-the_row-Effect-1}
+use Rattle.p3_tree.specs.declared.goal.PreGoal.TheBlock.{hidden-the_row-PreGoal-0, hidden-the_row-PreGoal-1, shape-the_row-PreGoal-0, shape-the_row-PreGoal-1}
+use Rattle.p3_tree.specs.declared.constraint.Constraint.TheBlock.{hidden-the_row-Constraint-0, hidden-the_row-Constraint-1, shape-the_row-Constraint-0, shape-the_row-Constraint-1}
+use Rattle.p3_tree.specs.declared.metric.Num.TheBlock.{hidden-the_row-Num-0, hidden-the_row-Num-1, shape-the_row-Num-0, shape-the_row-Num-1}
+use Rattle.p3_tree.specs.Types.{below, objects}
+use Rattle.p3_tree.specs.States.{start}
+use Rattle.p3_tree.specs.Bindings.{tuples, bind, are_arguments}
+use Rattle.p3_tree.specs.Formulas.{holds}
+use Rattle.p3_tree.specs.Effects.{adds, dels, next}
+use Rattle.p3_tree.specs.Goals.{hard_holds, prefs}
+use Rattle.p3_tree.specs.Costs.{given_value, increases, effect_cost}
+use Rattle.p3_tree.specs.Plans.{action_named, step_cost, fits, state_after, visited, steps_fit}
+use Rattle.p3_tree.specs.Constraints.{satisfies, sat, hard_modals, hard_list, instances_of, instances}
+use Rattle.p3_tree.specs.Validity.{goal_holds, is_valid, misfit, step_fault, goal_fault, constraint_fault, first_fault}
+use Rattle.p3_tree.specs.Metrics.{step_prefs, violated, cost, num_value, value, loss, base_loss, weight, cost_weight}
+use Rattle.p3_tree.specs.Uses.{formula_uses, effect_uses, goal_uses, constraint_uses, num_uses, domain_uses, problem_uses}
+use Rattle.p3_tree.specs.Offences.{domain_duplicates, problem_duplicates, goal_names, constraint_names, preference_names, domain_unknowns, problem_unknowns, domain_miscounts, problem_miscounts, domain_clashes, problem_clashes}
+use Rattle.p3_tree.specs.Lifting.{constrains, prefers, is_plain, is_formula_free, is_effect_free, is_goal_free, is_constraint_free, is_variable_free, steps, lifted_step, lift}
+use Rattle.p3_tree.specs.Limits.{binding_count, formula_size, effect_size, goal_size, constraint_size, width, cost_bound}
+
+-- the trees
+unfoldable pub trees_compute : Unit {0}
+unfolding hidden hidden-the_row-Formula-0 hidden-the_row-Formula-1 shape-the_row-Formula-0 shape-the_row-Formula-1 hidden-the_row-Effect-0 hidden-the_row-Effect-1 shape-the_row-Effect-0 shape-the_row-Effect-1 hidden-the_row-PreGoal-0 hidden-the_row-PreGoal-1 shape-the_row-PreGoal-0 shape-the_row-PreGoal-1 hidden-the_row-Constraint-0 hidden-the_row-Constraint-1 shape-the_row-Constraint-0 shape-the_row-Constraint-1 hidden-the_row-Num-0 hidden-the_row-Num-1 shape-the_row-Num-0 shape-the_row-Num-1
+trees_compute = tt
+
+-- the trees and what they mean
+unfoldable pub meaning_computes : Unit {0}
+unfolding trees_compute digits below objects start tuples bind are_arguments holds adds dels next hard_holds prefs given_value increases effect_cost action_named step_cost fits state_after visited steps_fit satisfies sat hard_modals hard_list instances_of instances goal_holds is_valid misfit step_fault goal_fault constraint_fault first_fault step_prefs violated cost num_value value loss base_loss weight cost_weight constrains prefers is_plain is_formula_free is_effect_free is_goal_free is_constraint_free is_variable_free steps lifted_step lift binding_count formula_size effect_size goal_size constraint_size width cost_bound formula_uses effect_uses goal_uses constraint_uses num_uses domain_uses problem_uses domain_duplicates problem_duplicates goal_names constraint_names preference_names domain_unknowns problem_unknowns domain_miscounts problem_miscounts domain_clashes problem_clashes
+meaning_computes = trees_compute

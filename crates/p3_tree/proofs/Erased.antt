@@ -1,0 +1,9 @@
+pub mod Along
+pub mod Folds
+pub mod Lifting
+pub mod Limits
+pub mod Meanings
+pub mod Offences
+pub mod Plans
+pub mod Uses
+pub mod Words

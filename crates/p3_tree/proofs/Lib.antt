@@ -1,0 +1,12 @@
+pub mod BelowLemmas
+pub mod Computes
+pub mod CountLemmas
+pub mod Erased
+pub mod FoldLemmas
+pub mod MeaningLemmas
+pub mod OffsetLemmas
+pub mod OptimaLemmas
+pub mod PlanLemmas
+pub mod StateLemmas
+pub mod ValidityLemmas
+pub mod Worked

@@ -1,0 +1,106 @@
+-- Trajectory constraints over the states that a plan visits (the PDDL3 report). The meaning looks at the places of the whole list of visited states.
+use Rattle.std.specs.Prelude.{ℕ, ◌-◌, nat_le, nat_lt, Bool, not, ◌&&◌, List, [], ◌∷◌, ◌++◌, flat_map, map, length, Option}
+use Rattle.std.specs.List.{list_any, list_all, range_with_len}
+use mathlib.Core.Former.{Count, one_more}
+use Rattle.p3_tree.specs.Folds.{fold_constraint}
+use Rattle.p3_tree.specs.Names.{Name}
+use Rattle.p3_tree.specs.States.{State, Environment}
+use Rattle.p3_tree.specs.Bindings.{bind}
+use Rattle.p3_tree.specs.Formulas.{holds, ◌implies◌}
+use Rattle.p3_tree.specs.Goals.{StatePref, named, prefs}
+use Rattle.p3_tree.specs.Plans.{state_at}
+use Rattle.p3_tree.specs.declared.formula.Formula.{Formula}
+use Rattle.p3_tree.specs.declared.constraint.Modal.{Modal}
+use Rattle.p3_tree.specs.declared.constraint.Modal.TheVariants.{AtEnd, Always, Sometime, AtMostOnce, SometimeAfter, SometimeBefore}
+use Rattle.p3_tree.specs.declared.constraint.Constraint.{Constraint, Both', Each', Single, Soft', Row_of-Constraint, end_of-Constraint, more_of-Constraint}
+use Rattle.p3_tree.specs.declared.constraint.Constraint.TheOpen as layer
+use Rattle.p3_tree.specs.declared.task.Task.{Task}
+
+-- ---- the operators
+
+-- the test passes at each place of the list, and at some place
+abbrev pub each_place : List State → (ℕ → Bool) → Bool
+each_place W test = list_all test (range_with_len 0 (length W))
+
+abbrev pub some_place : List State → (ℕ → Bool) → Bool
+some_place W test = list_any test (range_with_len 0 (length W))
+
+abbrev pub holds_at : Task → List State → Environment → Formula → ℕ → Bool
+holds_at T W env formula i = holds T (state_at W i) env formula
+
+-- from place i on, the test passes up to some place and nowhere after it
+abbrev pub holds_once_from : List State → (ℕ → Bool) → ℕ → Bool
+holds_once_from W test i = some_place W (λ j. nat_le i j && each_place W (λ k. (nat_le i k && nat_le k j) implies test k) && each_place W (λ k. nat_lt j k implies not (test k)))
+
+unfoldable pub satisfies : Task → List State → Environment → Modal → Bool
+satisfies T W env (AtEnd f) = holds_at T W env f (length W - 1)
+satisfies T W env (Always f) = each_place W (λ i. holds_at T W env f i)
+satisfies T W env (Sometime f) = some_place W (λ i. holds_at T W env f i)
+satisfies T W env (AtMostOnce f) = each_place W (λ i. holds_at T W env f i implies holds_once_from W (holds_at T W env f) i)
+satisfies T W env (SometimeAfter f g) = each_place W (λ i. holds_at T W env f i implies some_place W (λ j. nat_le i j && holds_at T W env g j))
+satisfies T W env (SometimeBefore f g) = each_place W (λ i. holds_at T W env f i implies some_place W (λ j. nat_lt j i && holds_at T W env g j))
+
+-- ---- constraints
+
+-- a preference is satisfied where what it prefers is
+abbrev pub sat_layer : Task → List State → layer.Constraint-F (Environment → Bool) → Environment → Bool
+sat_layer T W (layer.Both parts) env = list_all (λ part. part env) parts
+sat_layer T W (layer.Each variables body) env = list_all body (bind T env variables)
+sat_layer T W (layer.Single modal) env = satisfies T W env modal
+sat_layer T W (layer.Soft at name body) env = body env
+
+unfoldable pub sat : Task → List State → Environment → Constraint → Bool
+sat T W env constraint = fold_constraint (sat_layer T W) constraint env
+
+-- an operator at a binding of the variables outside it
+pub record HardModal : Type 0 where
+  pub modal : Modal
+  pub env : Environment
+
+-- the operators outside preferences
+abbrev pub hard_modals_layer : Task → layer.Constraint-F (Environment → List HardModal) → Environment → List HardModal
+hard_modals_layer T (layer.Both parts) env = flat_map (λ part. part env) parts
+hard_modals_layer T (layer.Each variables body) env = flat_map body (bind T env variables)
+hard_modals_layer T (layer.Single modal) env = record { modal = modal; env = env } ∷ []
+hard_modals_layer T (layer.Soft at name body) env = []
+
+unfoldable pub hard_modals : Task → Environment → Constraint → List HardModal
+hard_modals T env constraint = fold_constraint (hard_modals_layer T) constraint env
+
+-- the hard constraints of a task, the domain's first
+unfoldable pub hard_list : Task → List HardModal
+hard_list T = hard_modals T [] T.domain.constraints.body ++ hard_modals T [] T.problem.constraints.body
+
+-- ---- instances of preferences
+
+-- a preference over the visited states, at a binding of the variables outside it
+pub record Instance : Type 0 where
+  pub name : Option Name
+  pub body : Constraint
+  pub env : Environment
+
+abbrev pub one_constraint : {n : Count} → Row_of-Constraint (one_more n) → Constraint
+one_constraint (more_of-Constraint constraint rest) = constraint
+
+-- one for each preference and each binding outside it
+unfoldable mutual
+  pub instances_of : Task → Constraint → Environment → List Instance
+  instances_of T (Both' _ parts) env = instances_of_all T parts env
+  instances_of T (Each' variables _ body) env = flat_map (instances_of_one T body) (bind T env variables)
+  instances_of T (Single modal) env = []
+  instances_of T (Soft' at name _ body) env = record { name = named name; body = one_constraint body; env = env } ∷ []
+
+  pub instances_of_all : Task → {n : Count} → Row_of-Constraint n → Environment → List Instance
+  instances_of_all T end_of-Constraint env = []
+  instances_of_all T (more_of-Constraint constraint rest) env = instances_of T constraint env ++ instances_of_all T rest env
+
+  pub instances_of_one : Task → {n : Count} → Row_of-Constraint (one_more n) → Environment → List Instance
+  instances_of_one T (more_of-Constraint constraint rest) env = instances_of T constraint env
+
+-- a preference over the last state
+abbrev pub at_end : StatePref → Instance
+at_end pref = record { name = pref.name; body = Single (AtEnd pref.body); env = pref.env }
+
+-- the instances of a task: of the domain's constraints, of the problem's, and of the goal
+unfoldable pub instances : Task → List Instance
+instances T = instances_of T T.domain.constraints.body [] ++ instances_of T T.problem.constraints.body [] ++ map at_end (prefs T [] T.problem.goal.body)

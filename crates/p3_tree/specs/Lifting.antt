@@ -1,0 +1,180 @@
+-- Plain tasks, steps by number, and what it is that a translation is faithful.
+use Rattle.std.specs.Prelude.{◌≡◌, ℕ, ◌+◌, ◌==◌, Bool, true, false, not, ◌&&◌, ◌-ℤ◌, List, ◌++◌, map, flat_map, filter_map, find, length, codes, decimal, Option, Some, None, option_map, IsTrue}
+use Rattle.std.specs.List.{list_any, list_all, enumerate_from, starts_with}
+use Rattle.p3_base.specs.declared.refusal.Direction.{Direction}
+use Rattle.p3_base.specs.declared.refusal.Direction.TheVariants.{Minimize}
+use Rattle.p3_tree.specs.Folds.{fold_formula, fold_effect, fold_goal, fold_constraint}
+use Rattle.p3_tree.specs.Names.{Name, is_empty}
+use Rattle.p3_tree.specs.Bindings.{tuples}
+use Rattle.p3_tree.specs.Costs.{initial_cost}
+use Rattle.p3_tree.specs.Plans.{Plan}
+use Rattle.p3_tree.specs.Constraints.{instances}
+use Rattle.p3_tree.specs.Validity.{Valid}
+use Rattle.p3_tree.specs.Metrics.{value, loss, base_loss}
+use Rattle.p3_tree.specs.Offences.{WellFormed}
+use Rattle.p3_tree.specs.declared.formula.Formula.{Formula}
+use Rattle.p3_tree.specs.declared.formula.Formula.TheOpen as formula
+use Rattle.p3_tree.specs.declared.effect.Effect.{Effect}
+use Rattle.p3_tree.specs.declared.effect.Effect.TheOpen as effect
+use Rattle.p3_tree.specs.declared.goal.PreGoal.{PreGoal}
+use Rattle.p3_tree.specs.declared.goal.PreGoal.TheOpen as goal
+use Rattle.p3_tree.specs.declared.constraint.Modal.{Modal}
+use Rattle.p3_tree.specs.declared.constraint.Modal.TheVariants as modal
+use Rattle.p3_tree.specs.declared.constraint.Constraint.{Constraint}
+use Rattle.p3_tree.specs.declared.constraint.Constraint.TheOpen as constraint
+use Rattle.p3_tree.specs.declared.metric.Metric.{Metric}
+use Rattle.p3_tree.specs.declared.metric.Num.{Num}
+use Rattle.p3_tree.specs.declared.metric.Num.TheVariants.{TotalCost}
+use Rattle.p3_tree.specs.declared.task.Action.{Action}
+use Rattle.p3_tree.specs.declared.task.Step.{Step}
+use Rattle.p3_tree.specs.declared.task.Task.{Task}
+
+-- ---- plain tasks
+
+-- whether an operator or a preference stands in constraints
+abbrev pub constrains_layer : constraint.Constraint-F Bool → Bool
+constrains_layer (constraint.Both parts) = list_any (λ part. part) parts
+constrains_layer (constraint.Each variables body) = body
+constrains_layer (constraint.Single operator) = true
+constrains_layer (constraint.Soft at name body) = true
+
+unfoldable pub constrains : Constraint → Bool
+constrains tree = fold_constraint constrains_layer tree
+
+-- whether a preference stands in a precondition or goal
+abbrev pub prefers_layer : goal.PreGoal-F Bool → Bool
+prefers_layer (goal.Plain body) = false
+prefers_layer (goal.Both parts) = list_any (λ part. part) parts
+prefers_layer (goal.Each variables body) = body
+prefers_layer (goal.Soft pref) = true
+
+unfoldable pub prefers : PreGoal → Bool
+prefers tree = fold_goal prefers_layer tree
+
+-- whether small total costs are what the metric asks for
+abbrev pub is_cost_metric : Option Metric → Bool
+is_cost_metric None = false
+is_cost_metric (Some metric) = is_least_cost metric.direction metric.body
+  where
+    is_least_cost : Direction → Num → Bool
+    is_least_cost Minimize (TotalCost at) = true
+    is_least_cost _ _ = false
+
+-- no constraint, no preference, no cost before the first step, and the metric `minimize (total-cost)`
+unfoldable pub is_plain : Task → Bool
+is_plain T = not (constrains T.domain.constraints.body) && not (constrains T.problem.constraints.body) && not (list_any (λ action. prefers action.pre.body) T.domain.actions) && not (prefers T.problem.goal.body)
+    && initial_cost T == 0 && is_cost_metric T.problem.metric
+
+abbrev pub Plain : Task → Type 0
+Plain T = IsTrue (is_plain T)
+
+-- ---- tasks without variables
+
+abbrev pub formula_layer : formula.Formula-F Bool → Bool
+formula_layer (formula.Atom pred args) = true
+formula_layer (formula.Equal left right) = false
+formula_layer (formula.And parts) = list_all (λ part. part) parts
+formula_layer (formula.Or parts) = list_all (λ part. part) parts
+formula_layer (formula.Not part) = part
+formula_layer (formula.Imply first second) = first && second
+formula_layer (formula.Exists variables body) = false
+formula_layer (formula.Forall variables body) = false
+
+unfoldable pub is_formula_free : Formula → Bool
+is_formula_free tree = fold_formula formula_layer tree
+
+abbrev pub effect_layer : effect.Effect-F Bool → Bool
+effect_layer (effect.Add pred args) = true
+effect_layer (effect.Del pred args) = true
+effect_layer (effect.All parts) = list_all (λ part. part) parts
+effect_layer (effect.Each variables body) = false
+effect_layer (effect.If condition body) = is_formula_free condition && body
+effect_layer (effect.Cost at amount) = true
+
+unfoldable pub is_effect_free : Effect → Bool
+is_effect_free tree = fold_effect effect_layer tree
+
+abbrev pub goal_layer : goal.PreGoal-F Bool → Bool
+goal_layer (goal.Plain body) = is_formula_free body
+goal_layer (goal.Both parts) = list_all (λ part. part) parts
+goal_layer (goal.Each variables body) = false
+goal_layer (goal.Soft pref) = is_formula_free pref.body
+
+unfoldable pub is_goal_free : PreGoal → Bool
+is_goal_free tree = fold_goal goal_layer tree
+
+abbrev pub is_modal_free : Modal → Bool
+is_modal_free (modal.AtEnd f) = is_formula_free f
+is_modal_free (modal.Always f) = is_formula_free f
+is_modal_free (modal.Sometime f) = is_formula_free f
+is_modal_free (modal.AtMostOnce f) = is_formula_free f
+is_modal_free (modal.SometimeAfter f g) = is_formula_free f && is_formula_free g
+is_modal_free (modal.SometimeBefore f g) = is_formula_free f && is_formula_free g
+
+abbrev pub constraint_layer : constraint.Constraint-F Bool → Bool
+constraint_layer (constraint.Both parts) = list_all (λ part. part) parts
+constraint_layer (constraint.Each variables body) = false
+constraint_layer (constraint.Single operator) = is_modal_free operator
+constraint_layer (constraint.Soft at name body) = body
+
+unfoldable pub is_constraint_free : Constraint → Bool
+is_constraint_free tree = fold_constraint constraint_layer tree
+
+abbrev pub is_action_free : Action → Bool
+is_action_free action = is_empty action.params && is_goal_free action.pre.body && is_effect_free action.effect.body
+
+-- no types, constants, objects, parameters, quantifiers or equalities
+unfoldable pub is_variable_free : Task → Bool
+is_variable_free T = is_empty T.domain.kinds && is_empty T.domain.constants && is_empty T.problem.objects
+    && list_all (λ header. is_empty header.params) T.domain.predicates && list_all (λ header. is_empty header.params) T.domain.functions && list_all is_action_free T.domain.actions
+    && is_constraint_free T.domain.constraints.body && is_goal_free T.problem.goal.body && is_constraint_free T.problem.constraints.body
+
+abbrev pub IsVariableFree : Task → Type 0
+IsVariableFree T = IsTrue (is_variable_free T)
+
+-- ---- steps by number
+
+abbrev pub steps_of : Task → Action → List Step
+steps_of T action = map (λ tuple. record { action = action.name.name; args = tuple }) (tuples T action.params)
+
+-- all steps whose arguments fit: the actions in text order, the first argument changing slowest
+unfoldable pub steps : Task → List Step
+steps T = flat_map (steps_of T) T.domain.actions
+
+-- `s`, the number and `v`: what the names of the copies of a step begin with
+abbrev pub copy_prefix : ℕ → Name
+copy_prefix number = codes "s" ++ decimal number ++ codes "v"
+
+-- a step of the written task counts as the step of a number where its name has the prefix of that number, and it has no arguments
+abbrev pub counts_as : Step → ℕ × Step → Bool
+counts_as written numbered = is_empty written.args && starts_with ◌==◌ written.action (copy_prefix numbered.0)
+
+-- the step as which a step of the written task counts, if it does
+unfoldable pub lifted_step : Task → Step → Option Step
+lifted_step T written = option_map (λ (numbered : ℕ × Step). numbered.1) (find (counts_as written) (enumerate_from 0 (steps T)))
+
+-- the steps as which the written steps count; the others are dropped
+unfoldable pub lift : Task → Plan → Plan
+lift T plan = filter_map (lifted_step T) plan
+
+-- ---- faithful translations
+
+-- a valid plan of the written task is one of the task read, and its cost is the loss above the base
+pub record IsSound (T U : Task) (q : Plan) : Type 0 where
+  pub valid : Valid T (lift T q)
+  pub cost : value U q ≡ loss T (lift T q) -ℤ base_loss T
+
+-- exactly one valid plan of the written task lifts to the plan
+pub record HasOneSource (T U : Task) (p : Plan) : Type 0 where
+  pub source : Plan
+  pub valid : Valid U source
+  pub lifts : lift T source ≡ p
+  pub only : (q : Plan) → Valid U q → lift T q ≡ p → q ≡ source
+
+pub record Faithful (T U : Task) : Type 0 where
+  pub well_formed : WellFormed U
+  pub plain : Plain U
+  pub variable_free : IsVariableFree U
+  pub sound : (q : Plan) → Valid U q → IsSound T U q
+  pub one_to_one : (p : Plan) → Valid T p → HasOneSource T U p
+  pub length : (q : Plan) → Valid U q → length q ≡ length (lift T q) + 1 + length (instances T)

@@ -1,0 +1,81 @@
+//! Laws of the definitions. Each is the contract of a function without a body.
+
+ghost use Rattle.std.specs.Prelude.{◌≡◌, ◌⊎◌, ◌↔◌, ◌&&◌, ◌||◌, not, ℕ, List, IsTrue};
+ghost use Rattle.p3_tree.specs.declared.term.Ref.{Ref};
+ghost use Rattle.p3_tree.specs.declared.term.Typed.{Typed};
+ghost use Rattle.p3_tree.specs.declared.formula.Formula.{Formula};
+ghost use Rattle.p3_tree.specs.declared.constraint.Constraint.{Constraint};
+ghost use Rattle.p3_tree.specs.declared.effect.Effect.{Effect};
+ghost use Rattle.p3_tree.specs.declared.state.Fact.{Fact};
+ghost use Rattle.p3_tree.specs.declared.task.Task.{Task};
+ghost use Rattle.p3_tree.specs.Names.{Name, object_type};
+ghost use Rattle.p3_tree.specs.Types.{declared_pairs, below};
+ghost use Rattle.p3_tree.specs.States.{State, Environment, has_fact};
+ghost use Rattle.p3_tree.specs.Effects.{adds, dels, next};
+ghost use Rattle.p3_tree.specs.Plans.{Plan};
+ghost use Rattle.p3_tree.specs.Validity.{Valid, first_fault};
+ghost use Rattle.p3_tree.specs.Lifting.{lift, Faithful};
+ghost use Rattle.p3_tree.specs.Laws.{Chain, IsCheapest, IsBest, StateCounts, TrajectoryCounts};
+ghost use Rattle.p3_tree.specs.Erased.{erased};
+ghost use Rattle.p3_tree.specs.Offsets.{OffsetFree};
+ghost use Rattle.p3_tree.specs.Worked.FirstExample.{FirstExample};
+ghost use Rattle.p3_tree.specs.Worked.Limits.{CountsForLimits};
+ghost use Rattle.p3_tree.specs.Worked.Offences.{DomainOffences, ProblemOffences};
+ghost use Rattle.p3_tree.specs.Worked.Preferences.{ATypeMayHaveNoObjects, CountsOfOneNameAdd, GreatValuesMayBeBetter};
+ghost use Rattle.p3_tree.specs.Worked.Steps.{AnInnerVariableHidesAnOuterOne, AnAddWinsOverADelete, TheSecondStepFails};
+ghost use Rattle.p3_tree.specs.Worked.Trajectories.{TheSameStateIsNotBefore, AtMostOnceMeansOneStretch, SometimeAfterMeansThenOrLater};
+ghost use Rattle.p3_tree.specs.Worked.Trucks.{TheDelivery, FaultsOfOneStep};
+
+/// The order of types is the reflexive and transitive closure of the declared pairs, with `object`
+/// above every type.
+pub fn below_is_the_closure()
+    ensures { (T : Task) (low high : Name) → IsTrue (below T low high) ↔ ((high ≡ object_type) ⊎ Chain (declared_pairs T) low high) }
+{}
+
+/// An atom is in the next state exactly where it is added, or was there and is not deleted.
+pub fn atoms_of_the_next_state()
+    ensures { (T : Task) (s : State) (env : Environment) (e : Effect) (fact : Fact) → has_fact (next T s env e) fact ≡ (has_fact (adds T s env e) fact || (has_fact s fact && not (has_fact (dels T s env e) fact))) }
+{}
+
+/// A plan is valid exactly where it has no first fault.
+pub fn valid_where_no_fault()
+    ensures { (T : Task) (plan : Plan) → Valid T plan ↔ (first_fault T plan ≡ None) }
+{}
+
+/// A preference under `forall` counts once for each binding, and one whose body is a `forall` counts
+/// once.
+pub fn counts_by_place()
+    ensures states { (T : Task) (s : State) (env : Environment) (variables : List Typed) (at : ℕ) (name : Ref) (body : Formula) → StateCounts T s env variables at name body }
+    ensures trajectories { (T : Task) (W : List State) (env : Environment) (variables : List Typed) (at : ℕ) (name : Ref) (body : Constraint) → TrajectoryCounts T W env variables at name body }
+{}
+
+/// The cheapest plans of a faithful translation lift to best plans.
+pub fn optima_are_kept()
+    ensures { (T U : Task) → Faithful T U → (q : Plan) → IsCheapest U q → IsBest T (lift T q) }
+{}
+
+/// No definition depends on the offsets kept in trees, down to what it is that a translation is
+/// faithful.
+pub fn offsets_have_no_meaning()
+    ensures definitions { (T : Task) → OffsetFree T }
+    ensures faithful { (T U : Task) → Faithful (erased T) (erased U) ↔ Faithful T U }
+{}
+
+/// What small tasks mean.
+pub fn worked_cases()
+    ensures first_example { FirstExample }
+    ensures hiding { AnInnerVariableHidesAnOuterOne }
+    ensures add_and_delete { AnAddWinsOverADelete }
+    ensures second_step { TheSecondStepFails }
+    ensures empty_type { ATypeMayHaveNoObjects }
+    ensures three_places { CountsOfOneNameAdd }
+    ensures maximize { GreatValuesMayBeBetter }
+    ensures same_state { TheSameStateIsNotBefore }
+    ensures at_most_once { AtMostOnceMeansOneStretch }
+    ensures sometime_after { SometimeAfterMeansThenOrLater }
+    ensures delivery { TheDelivery }
+    ensures faults { FaultsOfOneStep }
+    ensures domain_offences { DomainOffences }
+    ensures problem_offences { ProblemOffences }
+    ensures limits { CountsForLimits }
+{}
