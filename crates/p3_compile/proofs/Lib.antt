@@ -1,0 +1,3 @@
+pub mod AtomLemmas
+pub mod ListLemmas
+pub mod TinyLemmas
