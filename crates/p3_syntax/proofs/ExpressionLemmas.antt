@@ -1,9 +1,9 @@
 -- Reading an expression, token by token.
-use Rattle.std.proofs.Common.{◌≡◌, ℕ, Bool, true, false, ◌≢◌, if◌then◌else◌, List, [], ◌∷◌, fold, Option, Some, None, refl, sym, ap, ◌∙◌}
+use Rattle.std.proofs.Common.{◌≡◌, ℕ, Bool, true, false, ◌≢◌, if◌then◌else◌, List, [], fold, Option, Some, None, refl, sym, ap, ◌∙◌}
 use Rattle.std.specs.Prelude.{is_none}
 use Rattle.std.proofs.lemmas.List.Folds.{fold_stays}
 use Rattle.p3_tree.specs.declared.expression.Expression.{Expression}
-use Rattle.p3_tree.specs.Tokens.{Token, Tokens, tokens_of}
+use Rattle.p3_tree.specs.Tokens.{Tokens, tokens_of}
 use Rattle.p3_tree.specs.Expressions.{Reading, Within, Whole, Stopped, read_token, whole_of, expression_of, expression_of_text}
 use Rattle.p3_syntax.specs.declared.token.Lexeme.{Lexeme}
 use Rattle.p3_syntax.specs.declared.token.Lexeme.TheVariants as lexeme

@@ -1,9 +1,8 @@
 -- The parts of an action, two expressions at a time.
-use Rattle.std.proofs.Common.{◌≡◌, ℕ, ◌-◌, ◌≤◌, List, [], ◌∷◌, ◌++◌, length, get_or, take, drop, map, Option, Some, refl, sym, ap, ◌∙◌, arith}
+use Rattle.std.proofs.Common.{◌≡◌, ◌-◌, ◌≤◌, List, [], ◌∷◌, ◌++◌, length, get_or, take, drop, map, Option, Some, sym, ap, ◌∙◌, arith}
 use Rattle.std.proofs.lemmas.List.{map-append, take_all}
 use Rattle.p3_tree.specs.declared.expression.Expression.{Expression}
 use Rattle.p3_syntax.specs.declared.word.HeadedList.{HeadedList}
-use Rattle.p3_syntax.specs.Reading.{◌>>=◌}
 use Rattle.p3_syntax.specs.Words.{Headed}
 use Rattle.p3_syntax.specs.Heads.{the_head}
 use Rattle.p3_syntax.specs.Domain.{part_of, action_parts}

@@ -1,6 +1,6 @@
 -- The tree of a tiny domain half, one equation for each production. Each section, and each part of
 -- an action, stands at most once, in any order.
-use Rattle.std.specs.Prelude.{ℕ, Bool, true, false, ◌==◌, if◌then◌else◌, List, [], ◌∷◌, Option, Some, None, codes}
+use Rattle.std.specs.Prelude.{ℕ, Bool, false, ◌==◌, if◌then◌else◌, List, [], ◌∷◌, Option, Some, None, codes}
 use Rattle.std.specs.List.{list_all}
 use Rattle.std.specs.Option.{option_map_or}
 use Rattle.p3_tree.specs.declared.constraint.Constraint.{Constraint}

@@ -1,5 +1,5 @@
 -- What a reader sees of the tokens of a text.
-use Rattle.std.specs.Prelude.{ℕ, Bool, ◌||◌, ◌==◌, List, [], Option, Some, None, ⊤}
+use Rattle.std.specs.Prelude.{ℕ, Bool, ◌||◌, ◌==◌, [], Some, None, ⊤}
 use Rattle.std.specs.Str.{str_to_ascii_lowercase}
 use Rattle.p3_tree.specs.Tokens as tokens
 use Rattle.p3_tree.specs.Tokens.{Tokens, is_blank, before}

@@ -1,5 +1,5 @@
 -- Atoms, literals and empty places.
-use Rattle.std.specs.Prelude.{ℕ, Bool, true, false, if◌then◌else◌, List, [], ◌∷◌, Option, Some, None, codes}
+use Rattle.std.specs.Prelude.{Bool, true, false, if◌then◌else◌, List, [], ◌∷◌, Option, Some, None, codes}
 use Rattle.p3_tree.specs.declared.effect.Effect.{Effect}
 use Rattle.p3_tree.specs.declared.effect.Effect.TheVariants as effect
 use Rattle.p3_tree.specs.declared.expression.Expression.{Expression}
@@ -8,7 +8,7 @@ use Rattle.p3_tree.specs.declared.formula.Formula.TheVariants as formula
 use Rattle.p3_tree.specs.declared.term.Ref.{Ref}
 use Rattle.p3_tree.specs.Tiny.{Literal}
 use Rattle.p3_syntax.specs.Reading.{◌>>=◌}
-use Rattle.p3_syntax.specs.Words.{word_of, parts_of, name_of, only_part, Headed, headed, is_word, is_among, reserved_words}
+use Rattle.p3_syntax.specs.Words.{word_of, parts_of, name_of, only_part, headed, is_word, is_among, reserved_words}
 
 -- `(p)`, where p is no reserved word
 unfoldable pub atom_of : Expression → Option Ref

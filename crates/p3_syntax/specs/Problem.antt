@@ -20,7 +20,7 @@ use Rattle.p3_tree.specs.declared.term.Ref.{Ref}
 use Rattle.p3_syntax.specs.Reading.{◌>>=◌}
 use Rattle.p3_syntax.specs.Words.{word_of, name_of, only_part, Headed, headed, headed_by, headed_among, is_word, exactly_one, each_of}
 use Rattle.p3_syntax.specs.Parts.{atom_of, literal_in, formula_of}
-use Rattle.p3_syntax.specs.Domain.{requirements_among, Defined, defined, unconstrained}
+use Rattle.p3_syntax.specs.Domain.{requirements_among, defined, unconstrained}
 
 abbrev pub entry_of : Expression → Option Init
 entry_of e = atom_of e >>= λ pred. Some (init.True pred [])

@@ -1,5 +1,5 @@
 -- What a reader sees of how far it has come.
-use Rattle.std.specs.Prelude.{ℕ, nat_lt, if◌then◌else◌, List, [], ◌∷◌, length, map, reverse, Option, Some, None}
+use Rattle.std.specs.Prelude.{ℕ, List, map, reverse, Option, Some, None}
 use Rattle.std.specs.Str.{str_to_ascii_lowercase}
 use Rattle.p3_tree.specs.Tokens as tokens
 use Rattle.p3_tree.specs.Expressions.{Group, Reading, read_token}

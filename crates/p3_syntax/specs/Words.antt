@@ -1,5 +1,5 @@
 -- Words and lists of words, as every production names them.
-use Rattle.std.specs.Prelude.{ℕ, Bool, true, false, if◌then◌else◌, nat_le, ◌==◌, ◌&&◌, List, [], ◌∷◌, filter, Option, Some, None, codes}
+use Rattle.std.specs.Prelude.{ℕ, Bool, false, if◌then◌else◌, nat_le, ◌&&◌, List, [], ◌∷◌, filter, Option, Some, None, codes}
 use Rattle.std.specs.List.{list_any}
 use Rattle.std.specs.Str.{bytes_eq}
 use Rattle.p3_tree.specs.declared.expression.Expression.{Expression, out-Expression}
