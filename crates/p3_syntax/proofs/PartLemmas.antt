@@ -17,5 +17,5 @@ parts_more old new part key body (a ∷ []) total is long first second read so_f
 parts_more old new part key body (a ∷ b ∷ later) total is long first second read so_far =
     let rest : take (length (a ∷ b ∷ later) - 2) later ≡ later = take_all _ later (omega arith) in
     let one : behind (map the_head old) (action_parts (a ∷ b ∷ later)) ≡ behind (map the_head new) (action_parts later) =
-      rw (first, second, read, is, map-append) (regrouped (map the_head old) (the_head part) (action_parts later)) in
+    rw (first, second, read, is, map-append) (regrouped (map the_head old) (the_head part) (action_parts later)) in
     ap (λ (es : List Expression). behind (map the_head new) (action_parts es)) rest ∙ sym one ∙ so_far

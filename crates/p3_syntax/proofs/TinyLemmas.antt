@@ -97,7 +97,7 @@ unfolding action_of
 action_is_tiny [] = tt
 action_is_tiny (first ∷ later) =
     past (name_of first) _ _ (λ name. past (action_parts later) _ _ (λ parts. past (parameters_among parts) _ _ (λ none. past (precondition_among name.at parts) _ _
-      (λ at. along (effect_among parts) _ _ _ (effect_is_literal parts) (λ effect is. rw (no_goal, is) refl)))))
+    (λ at. along (effect_among parts) _ _ _ (effect_is_literal parts) (λ effect is. rw (no_goal, is) refl)))))
 
 abbrev AreTiny : List Action → Type 0
 AreTiny actions = (has_one_at_most actions ≡ true) × (list_all is_tiny_action actions ≡ true)
@@ -114,8 +114,8 @@ shape_of_domain : (e : Expression) → IfSome (domain_of e) (λ domain. has_tiny
 unfolding domain_of
 shape_of_domain e =
     past (defined (codes "domain") e) _ _ (λ half. past (each_of (headed_among domain_words) half.sections) _ _ (λ sections. past (requirements_among sections) _ _
-      (λ none. along (predicates_among sections) _ _ _ (headers_are_plain sections) (λ headers plain. along (actions_among sections) _ _ _ (actions_are_tiny sections)
-      (λ actions tiny. rw (no_constraint, plain, tiny.0, tiny.1) refl)))))
+    (λ none. along (predicates_among sections) _ _ _ (headers_are_plain sections) (λ headers plain. along (actions_among sections) _ _ _ (actions_are_tiny sections)
+    (λ actions tiny. rw (no_constraint, plain, tiny.0, tiny.1) refl)))))
 
 pub domain_is_tiny : (e : Expression) (domain : Domain) → domain_of e ≡ Some domain → is_tiny_domain domain ≡ is_well_formed_domain domain
 unfolding is_tiny_domain
@@ -180,10 +180,10 @@ numeral_is_short : (e : Expression) → IfSome (numeral_of e) IsShort
 unfolding numeral_of
 numeral_is_short e =
     past (word_of e) _ _ (λ word. IfSome-guard _ (list_all is_ascii_digit word.name && nat_le (length word.name) 15) _ (λ fits.
-      let parts = both (list_all is_ascii_digit word.name) (nat_le (length word.name) 15) fits in
-      let few : length word.name ≤ 15 = leb-true _ _ parts.1 in
-      let power : 10 ^ length word.name ≤ 10 ^ 15 = pow-le-pow_right {n = 10} (omega arith) {i = length word.name} {j = 15} few in
-      (refl, omega (arith, power, decimal_below word.name 0 parts.0))))
+    let parts = both (list_all is_ascii_digit word.name) (nat_le (length word.name) 15) fits in
+    let few : length word.name ≤ 15 = leb-true _ _ parts.1 in
+    let power : 10 ^ length word.name ≤ 10 ^ 15 = pow-le-pow_right {n = 10} (omega arith) {i = length word.name} {j = 15} few in
+    (refl, omega (arith, power, decimal_below word.name 0 parts.0))))
 
 IsCount : Num → Type 0
 IsCount body = (name : Ref) × (body ≡ num.Violated name)
@@ -249,14 +249,14 @@ contents_are_tiny : (sections : List Headed) → IfSome (contents_of sections) H
 unfolding contents_of
 contents_are_tiny sections =
     past (requirements_among sections) _ _ (λ none. past (domain_name_among sections) _ _ (λ domain. along (init_among sections) _ _ _ (entries_are_atoms sections)
-      (λ init atoms. along (goal_among sections) _ _ _ (goal_is_wish sections) (λ wanted wish. along (metric_among sections) _ _ _ (metric_among_is_tiny sections)
-      (λ metric tiny. record { init = atoms; wish = wish; metric = tiny })))))
+    (λ init atoms. along (goal_among sections) _ _ _ (goal_is_wish sections) (λ wanted wish. along (metric_among sections) _ _ _ (metric_among_is_tiny sections)
+    (λ metric tiny. record { init = atoms; wish = wish; metric = tiny })))))
 
 shape_of_problem : (e : Expression) → IfSome (problem_of e) (λ problem. has_tiny_problem_shape problem ≡ true)
 unfolding problem_of
 shape_of_problem e =
     past (defined (codes "problem") e) _ _ (λ half. past (each_of (headed_among problem_words) half.sections) _ _ (λ sections. along (contents_of sections) _ _ _ (contents_are_tiny sections)
-      (λ found tiny. rw (tiny.init, tiny.wish, no_constraint, tiny.metric) refl)))
+    (λ found tiny. rw (tiny.init, tiny.wish, no_constraint, tiny.metric) refl)))
 
 pub problem_is_tiny : (e : Expression) (problem : Problem) → problem_of e ≡ Some problem → is_tiny_problem problem ≡ is_well_formed_problem problem
 unfolding is_tiny_problem

@@ -1,5 +1,5 @@
 -- The tokens of a text, by its first bytes.
-use Rattle.std.proofs.Common.{◌≡◌, ℕ, suc, ◌+◌, ◌-◌, ◌<◌, ◌≤◌, Bool, true, false, cond, ◌||◌, ◌≢◌,  if◌then◌else◌, List, [], ◌∷◌, length, get_or, take, drop, drop-drop, Some, None, refl, sym, ap, ◌∙◌, arith}
+use Rattle.std.proofs.Common.{◌≡◌, ℕ, suc, ◌+◌, ◌-◌, ◌<◌, ◌≤◌, Bool, true, false, cond, ◌||◌, ◌≢◌, if◌then◌else◌, List, [], ◌∷◌, length, get_or, take, drop, drop-drop, Some, None, refl, sym, ap, ◌∙◌, arith}
 use Rattle.std.proofs.lemmas.List.{at_drop_more, at_drop_all}
 use Rattle.std.specs.List.{prefix_len}
 use Rattle.std.specs.Prelude.{◌==◌}
@@ -12,7 +12,7 @@ use Rattle.p3_tree.specs.Tokens.{Token, Open, Close, Word, Tokens, is_blank, is_
 -- the tokens from one more byte on
 pub tokens_step : (is_comment : Bool) (text : List ℕ) (at : ℕ) → at < length text
     → tokens_from is_comment at (drop at text)
-      ≡ (let later = tokens_from (is_comment_after is_comment (get_or text at 0)) (at + 1) (drop (at + 1) text) in if is_comment then later else with_byte at (get_or text at 0) later)
+    ≡ (let later = tokens_from (is_comment_after is_comment (get_or text at 0)) (at + 1) (drop (at + 1) text) in if is_comment then later else with_byte at (get_or text at 0) later)
 unfolding tokens_from
 tokens_step is_comment text at within = at_drop_more (tokens_from is_comment at) text at 0 within
 

@@ -9,7 +9,9 @@ ghost use Rattle.p3_syntax.specs.Domain.{header_of, is_requirement, requirements
 
 use crate::error::Fault;
 use crate::part::{atom, effect, empty_list, literal, no_condition};
-use crate::word::{HeadedList, at_most_one, exactly_one, head_of, heads_among, is_one_of, name, only, word};
+use crate::word::{
+    HeadedList, at_most_one, exactly_one, head_of, heads_among, is_one_of, name, only, word,
+};
 use p3_base::List;
 use p3_tree::{Action, Constraint, Domain, Effect, Expression, Header, Part, PreGoal, Ref};
 use std::alloc::Global;

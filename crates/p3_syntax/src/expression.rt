@@ -48,12 +48,7 @@ fn closed(mut open: Vec<OpenGroup>) -> Result<Progress, Fault>
 }
 
 /// One more group, where the limit allows it.
-fn opened(
-    alloc: Global,
-    limit: usize,
-    at: u32,
-    mut open: Vec<OpenGroup>,
-) -> Result<Progress, Fault>
+fn opened(alloc: Global, limit: usize, at: u32, mut open: Vec<OpenGroup>) -> Result<Progress, Fault>
     ensures { Gives the_reading result (going (opened limit at (the_groups open.items))) }
 {
     if open.len() >= limit {

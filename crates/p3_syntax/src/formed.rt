@@ -131,10 +131,7 @@ fn factor_name(factors: &[Num]) -> Option<&Ref>
 {
     match factors {
         [Num::Number(number), Num::Violated(name)]
-            if number.places == 0 && number.digits < 1_000_000_000_000_000 =>
-        {
-            Some(name)
-        }
+            if number.places == 0 && number.digits < 1_000_000_000_000_000 => { Some(name) }
         _ => None,
     }
 }

@@ -78,7 +78,11 @@ pub fn literal(alloc: Global, expression: &Expression) -> Result<SignedAtom, Fau
 {
     let list = head(expression)?;
     let is_negated = is(list.text, b"not");
-    let inner = if is_negated { only(list.behind)? } else { expression };
+    let inner = if is_negated {
+        only(list.behind)?
+    } else {
+        expression
+    };
     Ok(SignedAtom {
         is_negated,
         pred: atom(alloc, inner)?,

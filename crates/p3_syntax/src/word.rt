@@ -117,10 +117,7 @@ pub fn is_one_of(name: &Name, words: &[&[u8]]) -> bool
 
 /// A list whose first word is one of the given ones.
 #[tactic(auto, unfolding(crate::specs::Words::headed_among))]
-pub fn head_among<'e>(
-    words: &[&[u8]],
-    expression: &'e Expression,
-) -> Result<HeadedList<'e>, Fault>
+pub fn head_among<'e>(words: &[&[u8]], expression: &'e Expression) -> Result<HeadedList<'e>, Fault>
     ensures { Gives the_head result (headed_among (texts words.now) expression.now) }
 {
     let list = head(expression)?;

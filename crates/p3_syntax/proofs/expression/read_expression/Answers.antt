@@ -25,7 +25,7 @@ returns-in_err-progress c =
     let fault = c.in_err-progress.field-0.0 in
     let p = err_from_is_err_and c.from_residual.result c.from_residual.ensures.1 in
     rw (p.1, p.2)
-      (finished_fails fault c.args.limit (the_reading c.loop-progress.progress) c.next_lexeme-next.result.0 later _ c.in_default.not-End c.in_err-progress.ensures leads)
+    (finished_fails fault c.args.limit (the_reading c.loop-progress.progress) c.next_lexeme-next.result.0 later _ c.in_default.not-End c.in_err-progress.ensures leads)
 
 pub loop-progress-preserved : goal.loop-progress-preserved
 loop-progress-preserved c =
