@@ -1,23 +1,20 @@
 -- The tree of a tiny domain half, one equation for each production. Each section, and each part of
 -- an action, stands at most once, in any order.
-use Rattle.std.specs.Prelude.{ℕ, Bool, true, false, ◌==◌, if◌then◌else◌, List, [], ◌∷◌, Option, Some, None, is_some, codes}
+use Rattle.std.specs.Prelude.{ℕ, Bool, false, ◌==◌, if◌then◌else◌, List, [], ◌∷◌, Option, Some, None, codes}
 use Rattle.std.specs.List.{list_all}
-use Rattle.std.specs.Option.{unwrap_or}
+use Rattle.std.specs.Option.{option_map_or}
 use Rattle.p3_tree.specs.declared.constraint.Constraint.{Constraint}
 use Rattle.p3_tree.specs.declared.constraint.Constraint.TheVariants as constraint
 use Rattle.p3_tree.specs.declared.effect.Effect.{Effect}
 use Rattle.p3_tree.specs.declared.expression.Expression.{Expression}
-use Rattle.p3_tree.specs.declared.goal.PreGoal.{PreGoal}
 use Rattle.p3_tree.specs.declared.goal.PreGoal.TheVariants as goal
 use Rattle.p3_tree.specs.declared.task.Action.{Action}
 use Rattle.p3_tree.specs.declared.task.Domain.{Domain}
 use Rattle.p3_tree.specs.declared.task.Header.{Header}
 use Rattle.p3_tree.specs.declared.task.Part.{Part}
 use Rattle.p3_tree.specs.declared.term.Ref.{Ref}
-use Rattle.p3_syntax.specs.declared.domain.ActionParts.{ActionParts}
-use Rattle.p3_syntax.specs.declared.domain.DomainSections.{DomainSections}
 use Rattle.p3_syntax.specs.Reading.{◌>>=◌}
-use Rattle.p3_syntax.specs.Words.{word_of, parts_of, name_of, only_part, Headed, headed, headed_by, is_word, each_of}
+use Rattle.p3_syntax.specs.Words.{word_of, name_of, only_part, Headed, headed_by, headed_among, is_among, at_most_one, exactly_one, each_of}
 use Rattle.p3_syntax.specs.Parts.{atom_of, literal_in, effect_of, empty_list_in, no_condition_in}
 
 abbrev pub header_of : Expression → Option Header
@@ -28,41 +25,72 @@ begins_with_colon [] = false
 begins_with_colon (byte ∷ bytes) = byte == 58
 
 -- a word that begins with `:`
-unfoldable pub requirement_of : Expression → Option Ref
-requirement_of e = do
-  word ← word_of e
-  if begins_with_colon word.name then Some word else None
+unfoldable pub is_requirement : Expression → Bool
+is_requirement e = option_map_or (λ word. begins_with_colon word.name) (word_of e) false
+
+abbrev pub requirements_in : Option Headed → Option (Unit {0})
+requirements_in None = Some tt
+requirements_in (Some list) = if list_all is_requirement list.behind then Some tt else None
+
+-- nothing depends on the words of `:requirements`
+unfoldable pub requirements_among : List Headed → Option (Unit {0})
+requirements_among sections = at_most_one (codes ":requirements") sections >>= requirements_in
 
 -- ---- an action
 
-unfoldable pub action_part : ActionParts → Ref → Expression → Option ActionParts
-action_part found key body =
-    if is_word (codes ":parameters") key then
-      (if found.has_parameters then None else (empty_list_in body >>= λ _. Some (record found { has_parameters = true })))
-    else (if is_word (codes ":precondition") key then
-      (if is_some found.precondition then None else (no_condition_in body >>= λ _. Some (record found { precondition = Some key.at })))
-    else (if is_word (codes ":effect") key then
-      (if is_some found.effect then None else (literal_in body >>= λ literal. Some (record found { effect = Some (record { at = key.at; body = effect_of literal }) })))
-    else None))
+abbrev pub part_words : List (List ℕ)
+part_words = codes ":parameters" ∷ codes ":precondition" ∷ codes ":effect" ∷ []
 
-unfoldable pub action_parts : ActionParts → List Expression → Option ActionParts
-action_parts found [] = Some found
-action_parts found (key ∷ []) = None
-action_parts found (key ∷ body ∷ later) = do
+-- a keyword and its expression, as a list
+unfoldable pub part_of : Expression → Expression → Option Headed
+part_of key body = do
   word ← word_of key
-  next ← action_part found word body
-  action_parts next later
+  if is_among part_words word.name then Some (record { word = word; behind = body ∷ [] }) else None
 
-abbrev pub no_parts : ActionParts
-no_parts = record { has_parameters = false; precondition = None; effect = None }
+unfoldable pub action_parts : List Expression → Option (List Headed)
+action_parts [] = Some []
+action_parts (key ∷ []) = None
+action_parts (key ∷ body ∷ later) = do
+  part ← part_of key body
+  parts ← action_parts later
+  Some (part ∷ parts)
+
+abbrev pub parameters_in : Option Headed → Option (Unit {0})
+parameters_in None = Some tt
+parameters_in (Some part) = only_part part.behind >>= empty_list_in
+
+-- no parameters
+unfoldable pub parameters_among : List Headed → Option (Unit {0})
+parameters_among parts = at_most_one (codes ":parameters") parts >>= parameters_in
+
+abbrev pub precondition_in : ℕ → Option Headed → Option ℕ
+precondition_in at None = Some at
+precondition_in at (Some part) = do
+  body ← only_part part.behind
+  none ← no_condition_in body
+  Some part.word.at
+
+-- the offset of no condition, which is the action's where none is written
+unfoldable pub precondition_among : ℕ → List Headed → Option ℕ
+precondition_among at parts = at_most_one (codes ":precondition") parts >>= precondition_in at
+
+-- the one literal of an effect
+unfoldable pub effect_among : List Headed → Option (Part Effect)
+effect_among parts = do
+  part ← exactly_one (codes ":effect") parts
+  body ← only_part part.behind
+  literal ← literal_in body
+  Some (record { at = part.word.at; body = effect_of literal })
 
 abbrev pub action_named : List Expression → Option Action
 action_named [] = None
 action_named (first ∷ later) = do
   name ← name_of first
-  found ← action_parts no_parts later
-  effect ← found.effect
-  Some (record { name = name; params = []; pre = record { at = unwrap_or found.precondition name.at; body = goal.Both [] }; effect = effect })
+  parts ← action_parts later
+  none ← parameters_among parts
+  at ← precondition_among name.at parts
+  effect ← effect_among parts
+  Some (record { name = name; params = []; pre = record { at = at; body = goal.Both [] }; effect = effect })
 
 -- what stands behind `:action`
 unfoldable pub action_of : List Expression → Option Action
@@ -70,31 +98,22 @@ action_of = action_named
 
 -- ---- sections
 
-abbrev pub predicates_section : DomainSections → List Expression → Option DomainSections
-predicates_section found items =
-    if is_some found.predicates then None else (each_of header_of items >>= λ headers. Some (record found { predicates = Some headers }))
+abbrev pub predicates_in : Option Headed → Option (List Header)
+predicates_in None = Some []
+predicates_in (Some list) = each_of header_of list.behind
 
-abbrev pub action_section : DomainSections → List Expression → Option DomainSections
-action_section found items =
-    if is_some found.action then None else (action_of items >>= λ action. Some (record found { action = Some action }))
+unfoldable pub predicates_among : List Headed → Option (List Header)
+predicates_among sections = at_most_one (codes ":predicates") sections >>= predicates_in
 
-abbrev pub requirements_section : DomainSections → List Expression → Option DomainSections
-requirements_section found items =
-    if found.has_requirements then None else (each_of requirement_of items >>= λ _. Some (record found { has_requirements = true }))
+abbrev pub actions_in : Option Headed → Option (List Action)
+actions_in None = Some []
+actions_in (Some list) = action_of list.behind >>= λ action. Some (action ∷ [])
 
-unfoldable pub domain_section : DomainSections → Expression → Option DomainSections
-domain_section found e = do
-  list ← headed e
-  if is_word (codes ":predicates") list.word then predicates_section found list.behind
-    else (if is_word (codes ":action") list.word then action_section found list.behind
-    else (if is_word (codes ":requirements") list.word then requirements_section found list.behind else None))
+unfoldable pub actions_among : List Headed → Option (List Action)
+actions_among sections = at_most_one (codes ":action") sections >>= actions_in
 
-unfoldable pub domain_sections : DomainSections → List Expression → Option DomainSections
-domain_sections found [] = Some found
-domain_sections found (e ∷ es) = domain_section found e >>= λ next. domain_sections next es
-
-abbrev pub no_sections : DomainSections
-no_sections = record { has_requirements = false; predicates = None; action = None }
+abbrev pub domain_words : List (List ℕ)
+domain_words = codes ":requirements" ∷ codes ":predicates" ∷ codes ":action" ∷ []
 
 -- ---- the half
 
@@ -117,12 +136,11 @@ defined kind e = headed_by (codes "define") e >>= λ list. defined_in kind list.
 abbrev pub unconstrained : Part Constraint
 unconstrained = record { at = 0; body = constraint.Both [] }
 
-abbrev pub actions_of : Option Action → List Action
-actions_of None = []
-actions_of (Some action) = action ∷ []
-
 unfoldable pub domain_of : Expression → Option Domain
 domain_of e = do
   half ← defined (codes "domain") e
-  found ← domain_sections no_sections half.sections
-  Some (record { name = half.name; kinds = []; constants = []; predicates = unwrap_or found.predicates []; functions = []; constraints = unconstrained; actions = actions_of found.action })
+  sections ← each_of (headed_among domain_words) half.sections
+  none ← requirements_among sections
+  predicates ← predicates_among sections
+  actions ← actions_among sections
+  Some (record { name = half.name; kinds = []; constants = []; predicates = predicates; functions = []; constraints = unconstrained; actions = actions })

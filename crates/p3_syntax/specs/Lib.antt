@@ -1,6 +1,12 @@
 pub mod Reading
 pub mod Words
 pub mod Parts
+pub mod Heads
+pub mod Signs
 pub mod Domain
 pub mod Problem
+pub mod Contents
+pub mod Lexemes
+pub mod Progresses
+pub mod Prefs
 pub mod Texts

@@ -1,7 +1,5 @@
 -- Atoms, literals and empty places.
-use Rattle.std.specs.Prelude.{ℕ, Bool, true, false, if◌then◌else◌, List, [], ◌∷◌, Option, Some, None, codes}
-use Rattle.std.specs.List.{list_any}
-use Rattle.std.specs.Str.{bytes_eq}
+use Rattle.std.specs.Prelude.{Bool, true, false, if◌then◌else◌, List, [], ◌∷◌, Option, Some, None, codes}
 use Rattle.p3_tree.specs.declared.effect.Effect.{Effect}
 use Rattle.p3_tree.specs.declared.effect.Effect.TheVariants as effect
 use Rattle.p3_tree.specs.declared.expression.Expression.{Expression}
@@ -10,10 +8,7 @@ use Rattle.p3_tree.specs.declared.formula.Formula.TheVariants as formula
 use Rattle.p3_tree.specs.declared.term.Ref.{Ref}
 use Rattle.p3_tree.specs.Tiny.{Literal}
 use Rattle.p3_syntax.specs.Reading.{◌>>=◌}
-use Rattle.p3_syntax.specs.Words.{word_of, parts_of, name_of, only_part, Headed, headed, is_word, reserved_words}
-
-abbrev pub is_reserved : List ℕ → Bool
-is_reserved name = list_any (bytes_eq name) reserved_words
+use Rattle.p3_syntax.specs.Words.{word_of, parts_of, name_of, only_part, headed, is_word, is_among, reserved_words}
 
 -- `(p)`, where p is no reserved word
 unfoldable pub atom_of : Expression → Option Ref
@@ -21,7 +16,7 @@ atom_of e = do
   parts ← parts_of e
   word ← only_part parts
   name ← name_of word
-  if is_reserved name.name then None else Some name
+  if is_among reserved_words name.name then None else Some name
 
 abbrev pub literal_of : Bool → Expression → Option Literal
 literal_of is_negated e = atom_of e >>= λ pred. Some (record { is_negated = is_negated; pred = pred })

@@ -1,6 +1,6 @@
 -- The tree of a tiny problem half, one equation for each production. Each section stands at most
 -- once, in any order.
-use Rattle.std.specs.Prelude.{ℕ, Bool, true, false, ◌+◌, ◌-◌, ◌*◌, ◌&&◌, nat_le, if◌then◌else◌, fold, List, [], ◌∷◌, length, Option, Some, None, is_some, codes}
+use Rattle.std.specs.Prelude.{ℕ, ◌+◌, ◌-◌, ◌*◌, ◌&&◌, nat_le, if◌then◌else◌, fold, List, [], ◌∷◌, length, Option, Some, None, codes}
 use Rattle.std.specs.List.{list_all}
 use Rattle.std.specs.Char.{is_ascii_digit}
 use Rattle.p3_base.specs.declared.refusal.Direction.TheVariants.{Minimize}
@@ -17,11 +17,10 @@ use Rattle.p3_tree.specs.declared.task.Init.TheVariants as init
 use Rattle.p3_tree.specs.declared.task.Part.{Part}
 use Rattle.p3_tree.specs.declared.task.Problem.{Problem}
 use Rattle.p3_tree.specs.declared.term.Ref.{Ref}
-use Rattle.p3_syntax.specs.declared.problem.ProblemSections.{ProblemSections}
 use Rattle.p3_syntax.specs.Reading.{◌>>=◌}
-use Rattle.p3_syntax.specs.Words.{word_of, name_of, only_part, Headed, headed, headed_by, is_word, each_of}
+use Rattle.p3_syntax.specs.Words.{word_of, name_of, only_part, Headed, headed, headed_by, headed_among, is_word, exactly_one, each_of}
 use Rattle.p3_syntax.specs.Parts.{atom_of, literal_in, formula_of}
-use Rattle.p3_syntax.specs.Domain.{requirement_of, Defined, defined, unconstrained}
+use Rattle.p3_syntax.specs.Domain.{requirements_among, defined, unconstrained}
 
 abbrev pub entry_of : Expression → Option Init
 entry_of e = atom_of e >>= λ pred. Some (init.True pred [])
@@ -77,67 +76,58 @@ summand_in e = do
 abbrev pub metric_in : List Expression → Option Metric
 metric_in (first ∷ second ∷ []) = do
   word ← word_of first
-  body ← summand_in second
-  if is_word (codes "minimize") word then Some (record { direction = Minimize; body = body }) else None
+  if is_word (codes "minimize") word then (summand_in second >>= λ body. Some (record { direction = Minimize; body = body })) else None
 metric_in _ = None
 
 -- what stands behind `:metric`
 unfoldable pub metric_of : List Expression → Option Metric
 metric_of = metric_in
 
--- what stands behind `:goal`
-unfoldable pub goal_of : List Expression → Option PreGoal
-goal_of items = do
-  only ← only_part items
-  pref ← preference_of only
-  Some (goal.Soft pref)
-
 -- ---- sections
 
-abbrev pub domain_name_section : ProblemSections → List Expression → Option ProblemSections
-domain_name_section found items =
-    if is_some found.domain then None else (do word ← only_part items; name ← name_of word; Some (record found { domain = Some name }))
+unfoldable pub domain_name_among : List Headed → Option Ref
+domain_name_among sections = do
+  list ← exactly_one (codes ":domain") sections
+  word ← only_part list.behind
+  name_of word
 
-abbrev pub requirements_section : ProblemSections → List Expression → Option ProblemSections
-requirements_section found items =
-    if found.has_requirements then None else (each_of requirement_of items >>= λ _. Some (record found { has_requirements = true }))
+unfoldable pub init_among : List Headed → Option (List Init)
+init_among sections = exactly_one (codes ":init") sections >>= λ list. each_of entry_of list.behind
 
-abbrev pub init_section : ProblemSections → List Expression → Option ProblemSections
-init_section found items =
-    if is_some found.init then None else (each_of entry_of items >>= λ init. Some (record found { init = Some init }))
+unfoldable pub goal_among : List Headed → Option (Part PreGoal)
+goal_among sections = do
+  list ← exactly_one (codes ":goal") sections
+  only ← only_part list.behind
+  pref ← preference_of only
+  Some (record { at = list.word.at; body = goal.Soft pref })
 
-abbrev pub goal_section : ProblemSections → ℕ → List Expression → Option ProblemSections
-goal_section found at items =
-    if is_some found.goal then None else (goal_of items >>= λ body. Some (record found { goal = Some (record { at = at; body = body }) }))
+unfoldable pub metric_among : List Headed → Option Metric
+metric_among sections = exactly_one (codes ":metric") sections >>= λ list. metric_of list.behind
 
-abbrev pub metric_section : ProblemSections → List Expression → Option ProblemSections
-metric_section found items =
-    if is_some found.metric then None else (metric_of items >>= λ metric. Some (record found { metric = Some metric }))
-
-unfoldable pub problem_section : ProblemSections → Expression → Option ProblemSections
-problem_section found e = do
-  list ← headed e
-  if is_word (codes ":domain") list.word then domain_name_section found list.behind
-    else (if is_word (codes ":requirements") list.word then requirements_section found list.behind
-    else (if is_word (codes ":init") list.word then init_section found list.behind
-    else (if is_word (codes ":goal") list.word then goal_section found list.word.at list.behind
-    else (if is_word (codes ":metric") list.word then metric_section found list.behind else None))))
-
-unfoldable pub problem_sections : ProblemSections → List Expression → Option ProblemSections
-problem_sections found [] = Some found
-problem_sections found (e ∷ es) = problem_section found e >>= λ next. problem_sections next es
-
-abbrev pub no_sections : ProblemSections
-no_sections = record { domain = None; has_requirements = false; init = None; goal = None; metric = None }
+abbrev pub problem_words : List (List ℕ)
+problem_words = codes ":domain" ∷ codes ":requirements" ∷ codes ":init" ∷ codes ":goal" ∷ codes ":metric" ∷ []
 
 -- ---- the half
+
+-- what stands in the sections
+pub record Contents : Type 0 where
+  pub domain : Ref
+  pub init : List Init
+  pub goal : Part PreGoal
+  pub metric : Metric
+
+unfoldable pub contents_of : List Headed → Option Contents
+contents_of sections = do
+  none ← requirements_among sections
+  domain ← domain_name_among sections
+  init ← init_among sections
+  goal ← goal_among sections
+  metric ← metric_among sections
+  Some (record { domain = domain; init = init; goal = goal; metric = metric })
 
 unfoldable pub problem_of : Expression → Option Problem
 problem_of e = do
   half ← defined (codes "problem") e
-  found ← problem_sections no_sections half.sections
-  domain ← found.domain
-  init ← found.init
-  goal ← found.goal
-  metric ← found.metric
-  Some (record { name = half.name; domain = domain; objects = []; init = init; goal = goal; constraints = unconstrained; metric = Some metric })
+  sections ← each_of (headed_among problem_words) half.sections
+  found ← contents_of sections
+  Some (record { name = half.name; domain = found.domain; objects = []; init = found.init; goal = found.goal; constraints = unconstrained; metric = Some found.metric })

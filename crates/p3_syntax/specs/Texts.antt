@@ -7,6 +7,8 @@ use Rattle.p3_tree.specs.declared.task.Domain.{Domain}
 use Rattle.p3_tree.specs.declared.task.Problem.{Problem}
 use Rattle.p3_tree.specs.Expressions.{expression_of_text}
 use Rattle.p3_tree.specs.Tiny.{is_tiny_domain, is_tiny_problem}
+use Rattle.p3_syntax.specs.declared.error.Fault.{Fault}
+use Rattle.p3_syntax.specs.declared.error.Fault.TheVariants as fault
 use Rattle.p3_syntax.specs.declared.error.ReadFail.{ReadFail}
 use Rattle.p3_syntax.specs.declared.error.ReadFail.TheVariants.{Refused, NoMemory}
 use Rattle.p3_syntax.specs.Reading.{◌>>=◌}
@@ -42,3 +44,8 @@ IfRefused NoMemory P = ⊤
 -- a refusal of a whole text
 abbrev pub malformed : Role → Refusal
 malformed role = record { code = Malformed; pos = record { role = role; offset = 0 }; len = 0 }
+
+-- how a fault is answered
+abbrev pub FailsAs : Fault → Role → ReadFail → Type 0
+FailsAs fault.Malformed role fail = fail ≡ Refused (malformed role)
+FailsAs fault.NoMemory role fail = fail ≡ NoMemory

@@ -1,5 +1,6 @@
 -- Words and lists of words, as every production names them.
-use Rattle.std.specs.Prelude.{ℕ, Bool, true, false, if◌then◌else◌, nat_le, ◌==◌, ◌&&◌, List, [], ◌∷◌, Option, Some, None, codes}
+use Rattle.std.specs.Prelude.{ℕ, Bool, false, if◌then◌else◌, nat_le, ◌&&◌, List, [], ◌∷◌, filter, Option, Some, None, codes}
+use Rattle.std.specs.List.{list_any}
 use Rattle.std.specs.Str.{bytes_eq}
 use Rattle.p3_tree.specs.declared.expression.Expression.{Expression, out-Expression}
 use Rattle.p3_tree.specs.declared.expression.Expression.TheOpen.{Expression-F}
@@ -70,6 +71,30 @@ each_of reading (e ∷ es) = do
   first ← reading e
   later ← each_of reading es
   Some (first ∷ later)
+
+abbrev pub is_among : List (List ℕ) → List ℕ → Bool
+is_among words text = list_any (bytes_eq text) words
+
+-- ---- lists by their first words
+
+-- a list whose first word is one of these
+unfoldable pub headed_among : List (List ℕ) → Expression → Option Headed
+headed_among words e = do
+  list ← headed e
+  if is_among words list.word.name then Some list else None
+
+abbrev pub single : {A : Type 0} → List A → Option (Option A)
+single [] = Some None
+single (x ∷ []) = Some (Some x)
+single (x ∷ y ∷ more) = None
+
+-- the list with this first word, where it stands at most once
+unfoldable pub at_most_one : List ℕ → List Headed → Option (Option Headed)
+at_most_one text lists = single (filter (λ list. is_word text list.word) lists)
+
+-- the list with this first word, where it stands once
+unfoldable pub exactly_one : List ℕ → List Headed → Option Headed
+exactly_one text lists = at_most_one text lists >>= λ found. found
 
 -- what no predicate is called
 unfoldable pub reserved_words : List (List ℕ)

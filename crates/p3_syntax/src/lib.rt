@@ -3,9 +3,14 @@
 
 mod domain;
 mod error;
+mod expression;
+mod formed;
+mod part;
 mod problem;
 mod read;
+mod token;
 mod word;
 
 pub use error::ReadFail;
+pub use formed::declares;
 pub use read::{read_domain, read_problem};

@@ -1,0 +1,5 @@
+pub mod Loops
+pub mod PartLemmas
+pub mod TokenLemmas
+pub mod ExpressionLemmas
+pub mod TinyLemmas

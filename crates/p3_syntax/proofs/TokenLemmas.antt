@@ -1,0 +1,183 @@
+-- The tokens of a text, by its first bytes.
+use Rattle.std.proofs.Common.{◌≡◌, ℕ, suc, ◌+◌, ◌-◌, ◌<◌, ◌≤◌, Bool, true, false, cond, ◌||◌, ◌≢◌, if◌then◌else◌, List, [], ◌∷◌, length, get_or, take, drop, drop-drop, Some, None, refl, sym, ap, ◌∙◌, arith}
+use Rattle.std.proofs.lemmas.List.{at_drop_more, at_drop_all}
+use Rattle.std.specs.List.{prefix_len}
+use Rattle.std.specs.Prelude.{◌==◌}
+use Rattle.std.specs.Char.{to_ascii_lowercase}
+use Rattle.std.specs.Str.{str_to_ascii_lowercase}
+use Rattle.std.proofs.lemmas.Bool.Decides.{nat_tests}
+use Rattle.p3_syntax.specs.Lexemes.{is_skipped}
+use Rattle.p3_tree.specs.Tokens.{Token, Open, Close, Word, Tokens, is_blank, is_of_word, is_comment_after, before, joined, with_byte, tokens_from}
+
+-- the tokens from one more byte on
+pub tokens_step : (is_comment : Bool) (text : List ℕ) (at : ℕ) → at < length text
+    → tokens_from is_comment at (drop at text)
+    ≡ (let later = tokens_from (is_comment_after is_comment (get_or text at 0)) (at + 1) (drop (at + 1) text) in if is_comment then later else with_byte at (get_or text at 0) later)
+unfolding tokens_from
+tokens_step is_comment text at within = at_drop_more (tokens_from is_comment at) text at 0 within
+
+-- no token is left at the end
+pub tokens_end : (is_comment : Bool) (text : List ℕ) (at : ℕ) → length text ≤ at → tokens_from is_comment at (drop at text) ≡ record { tokens = []; foreign = None }
+unfolding tokens_from
+tokens_end is_comment text at passed = at_drop_all (tokens_from is_comment at) text at passed
+
+-- ---- what is no part of a token
+
+skipped_byte : (at byte : ℕ) (later : Tokens) → is_skipped byte ≡ true → with_byte at byte later ≡ later
+skipped_byte at byte later skipped = grind (arith, nat_tests)
+
+skipped_here : (is_comment : Bool) (at byte : ℕ) (later : Tokens) → (is_comment || is_skipped byte) ≡ true → (if is_comment then later else with_byte at byte later) ≡ later
+skipped_here true at byte later skipped = refl
+skipped_here false at byte later skipped = skipped_byte at byte later skipped
+
+pub tokens_skip : (is_comment : Bool) (text : List ℕ) (at : ℕ) → at < length text → (is_comment || is_skipped (get_or text at 0)) ≡ true
+    → tokens_from is_comment at (drop at text) ≡ tokens_from (is_comment_after is_comment (get_or text at 0)) (at + 1) (drop (at + 1) text)
+tokens_skip is_comment text at within skipped = tokens_step is_comment text at within ∙ skipped_here is_comment at (get_or text at 0) _ skipped
+
+-- ---- a token of one byte
+
+pub tokens_open : (text : List ℕ) (at : ℕ) → at < length text → get_or text at 0 ≡ 40 → tokens_from false at (drop at text) ≡ before (Open at) (tokens_from false (at + 1) (drop (at + 1) text))
+tokens_open text at within is = tokens_step false text at within ∙ rw is refl
+
+pub tokens_close : (text : List ℕ) (at : ℕ) → at < length text → get_or text at 0 ≡ 41 → tokens_from false at (drop at text) ≡ before (Close at) (tokens_from false (at + 1) (drop (at + 1) text))
+tokens_close text at within is = tokens_step false text at within ∙ rw is refl
+
+first_fails : (b : Bool) (n : ℕ) → cond b (1 + n) 0 ≡ 0 → b ≡ false
+first_fails true n none = absurd (omega (arith, none))
+first_fails false n none = refl
+
+first_passes : (b : Bool) (n : ℕ) → 0 < cond b (1 + n) 0 → b ≡ true
+first_passes true n some = refl
+first_passes false n some = absurd (omega (arith, some))
+
+none_passes : (p : ℕ → Bool) (x : ℕ) (xs : List ℕ) → prefix_len p (x ∷ xs) ≡ 0 → p x ≡ false
+none_passes p x xs none = first_fails (p x) (prefix_len p xs) none
+
+foreign_byte : (at byte : ℕ) (later : Tokens) → is_skipped byte ≡ false → is_of_word byte ≡ false → byte ≢ 40 → byte ≢ 41 → with_byte at byte later ≡ record { tokens = []; foreign = Some at }
+foreign_byte at byte later stands no_word no_open no_close = grind (arith, nat_tests)
+
+pub tokens_foreign : (text : List ℕ) (at : ℕ) → at < length text → is_skipped (get_or text at 0) ≡ false → prefix_len is_of_word (drop at text) ≡ 0 → get_or text at 0 ≢ 40 → get_or text at 0 ≢ 41
+    → tokens_from false at (drop at text) ≡ record { tokens = []; foreign = Some at }
+tokens_foreign text at within stands none no_open no_close =
+    tokens_step false text at within ∙ foreign_byte at _ _ stands (none_passes is_of_word (get_or text at 0) (drop (at + 1) text) (sym (at_drop_more (prefix_len is_of_word) text at 0 within) ∙ none)) no_open no_close
+
+-- ---- a word
+
+-- a word that the tokens begin with stands at the offset or behind it
+FromOn : ℕ → List Token → Type 0
+FromOn at [] = Unit {0}
+FromOn at (Open next ∷ later) = Unit {0}
+FromOn at (Close next ∷ later) = Unit {0}
+FromOn at (Word next text ∷ later) = at ≤ next
+
+module _ (at : ℕ) where
+  FromOn-before : (tokens : List Token) → FromOn (at + 1) tokens → FromOn at tokens
+  unfolding FromOn
+  FromOn-before [] h = tt
+  FromOn-before (Open next ∷ later) h = tt
+  FromOn-before (Close next ∷ later) h = tt
+  FromOn-before (Word next text ∷ later) h = omega (arith, h)
+
+  either : (b : Bool) (x y : Tokens) → FromOn at x.tokens → FromOn at y.tokens → FromOn at (if b then x else y).tokens
+  either true x y p q = p
+  either false x y p q = q
+
+  either_list : (b : Bool) (x y : List Token) → FromOn at x → FromOn at y → FromOn at (if b then x else y)
+  either_list true x y p q = p
+  either_list false x y p q = q
+
+  FromOn-joined : (byte : ℕ) (tokens : List Token) → FromOn at (joined at byte tokens)
+  unfolding FromOn
+  FromOn-joined byte [] = omega arith
+  FromOn-joined byte (Open next ∷ later) = omega arith
+  FromOn-joined byte (Close next ∷ later) = omega arith
+  FromOn-joined byte (Word next text ∷ later) = either_list (next == at + 1) _ _ (omega arith) (omega arith)
+
+  FromOn-with_byte : (byte : ℕ) (later : Tokens) → FromOn (at + 1) later.tokens → FromOn at (with_byte at byte later).tokens
+  unfolding FromOn
+  FromOn-with_byte byte later h =
+      either (byte == 40) _ _ tt (either (byte == 41) _ _ tt (either (is_of_word byte) _ _ (FromOn-joined byte later.tokens) (either (is_blank byte || byte == 59) _ _ (FromOn-before later.tokens h) tt)))
+
+-- the tokens from an offset on
+FromOn-tokens : (is_comment : Bool) (at : ℕ) (bytes : List ℕ) → FromOn at (tokens_from is_comment at bytes).tokens
+unfolding FromOn tokens_from
+FromOn-tokens is_comment at [] = tt
+FromOn-tokens true at (byte ∷ bytes) = FromOn-before at _ (FromOn-tokens (is_comment_after true byte) (at + 1) bytes)
+FromOn-tokens false at (byte ∷ bytes) = FromOn-with_byte at byte _ (FromOn-tokens (is_comment_after false byte) (at + 1) bytes)
+
+-- no word begins at a byte that is of none
+FromOn-behind : (at byte : ℕ) (later : Tokens) → is_of_word byte ≡ false → FromOn (at + 1) later.tokens → FromOn (at + 1) (with_byte at byte later).tokens
+unfolding FromOn
+FromOn-behind at byte later no_word h =
+    rw no_word (either (at + 1) (byte == 40) _ _ tt (either (at + 1) (byte == 41) _ _ tt (either (at + 1) (is_blank byte || byte == 59) _ _ h tt)))
+
+-- a byte before a word that begins behind the next offset is a word of its own
+joined_alone : (at byte : ℕ) (tokens : List Token) → FromOn ((at + 1) + 1) tokens → joined at byte tokens ≡ Word at (to_ascii_lowercase byte ∷ []) ∷ tokens
+unfolding FromOn
+joined_alone at byte [] h = refl
+joined_alone at byte (Open next ∷ later) h = refl
+joined_alone at byte (Close next ∷ later) h = refl
+joined_alone at byte (Word next text ∷ later) h = grind (arith, nat_tests)
+
+word_byte : (at byte : ℕ) (later : Tokens) → is_of_word byte ≡ true → with_byte at byte later ≡ record { tokens = joined at byte later.tokens; foreign = later.foreign }
+word_byte at byte later word = grind (arith, nat_tests)
+
+no_comment : (byte : ℕ) → is_of_word byte ≡ true → is_comment_after false byte ≡ false
+no_comment byte word = grind (arith, nat_tests)
+
+abbrev with_word_byte : ℕ → ℕ → Tokens → Tokens
+with_word_byte at byte later = record { tokens = joined at byte later.tokens; foreign = later.foreign }
+
+word_front : (at byte : ℕ) (bytes : List ℕ) → is_of_word byte ≡ true → tokens_from false at (byte ∷ bytes) ≡ with_word_byte at byte (tokens_from false (at + 1) bytes)
+unfolding tokens_from
+word_front at byte bytes word = word_byte at byte _ word ∙ ap (λ (b : Bool). with_word_byte at byte (tokens_from b (at + 1) bytes)) (no_comment byte word)
+
+abbrev word_before : ℕ → ℕ → List ℕ → Tokens
+word_before at len bytes = before (Word at (str_to_ascii_lowercase (take len bytes))) (tokens_from false (at + len) (drop len bytes))
+
+joined_next : (at byte : ℕ) (text : List ℕ) (later : List Token) → joined at byte (Word (at + 1) text ∷ later) ≡ Word at (to_ascii_lowercase byte ∷ text) ∷ later
+joined_next at byte text later = grind (arith, nat_tests)
+
+grown : (at byte len : ℕ) (bytes : List ℕ) → with_word_byte at byte (word_before (at + 1) len bytes) ≡ word_before at (1 + len) (byte ∷ bytes)
+grown at byte len bytes =
+    let one : 1 + len ≡ suc len = omega arith in
+    let place : at + suc len ≡ (at + 1) + len = omega arith in
+    rw (one, place, joined_next) refl
+
+alone : (at byte next : ℕ) (bytes : List ℕ) → is_of_word next ≡ false
+    → with_word_byte at byte (tokens_from false (at + 1) (next ∷ bytes)) ≡ word_before at 1 (byte ∷ next ∷ bytes)
+unfolding tokens_from
+alone at byte next bytes no_word =
+    let later : Tokens = tokens_from (is_comment_after false next) ((at + 1) + 1) bytes in
+    rw (joined_alone at byte (with_byte (at + 1) next later).tokens (FromOn-behind (at + 1) next later no_word (FromOn-tokens (is_comment_after false next) ((at + 1) + 1) bytes))) refl
+
+word_run_by : (is_word : Bool) (at byte next : ℕ) (bytes : List ℕ) → is_of_word byte ≡ true → is_of_word next ≡ is_word
+    → (is_of_word next ≡ true → tokens_from false (at + 1) (next ∷ bytes) ≡ word_before (at + 1) (prefix_len is_of_word (next ∷ bytes)) (next ∷ bytes))
+    → tokens_from false at (byte ∷ next ∷ bytes) ≡ word_before at (prefix_len is_of_word (byte ∷ next ∷ bytes)) (byte ∷ next ∷ bytes)
+word_run_by true at byte next bytes word is run =
+    word_front at byte (next ∷ bytes) word ∙ ap (with_word_byte at byte) (run is)
+    ∙ grown at byte (prefix_len is_of_word (next ∷ bytes)) (next ∷ bytes)
+    ∙ ap (λ (len : ℕ). word_before at len (byte ∷ next ∷ bytes)) (sym (rw word refl))
+word_run_by false at byte next bytes word is run =
+    word_front at byte (next ∷ bytes) word ∙ alone at byte next bytes is
+    ∙ ap (λ (len : ℕ). word_before at len (byte ∷ next ∷ bytes)) (sym (rw (word, is) refl))
+
+last : (at byte : ℕ) → with_word_byte at byte (tokens_from false (at + 1) []) ≡ word_before at 1 (byte ∷ [])
+unfolding tokens_from
+last at byte = refl
+
+-- the word that the tokens begin with is the longest run of bytes of words
+word_run : (at byte : ℕ) (bytes : List ℕ) → is_of_word byte ≡ true → tokens_from false at (byte ∷ bytes) ≡ word_before at (prefix_len is_of_word (byte ∷ bytes)) (byte ∷ bytes)
+word_run at byte [] word =
+    word_front at byte [] word ∙ last at byte ∙ ap (λ (len : ℕ). word_before at len (byte ∷ [])) (sym (rw word refl))
+word_run at byte (next ∷ bytes) word = word_run_by (is_of_word next) at byte next bytes word refl (word_run (at + 1) next bytes)
+
+pub tokens_word : (text : List ℕ) (at end : ℕ) → at < length text → end ≡ at + prefix_len is_of_word (drop at text) → end ≢ at
+    → tokens_from false at (drop at text) ≡ before (Word at (str_to_ascii_lowercase (take (end - at) (drop at text)))) (tokens_from false end (drop end text))
+tokens_word text at end within is some =
+    let here : drop at text ≡ get_or text at 0 ∷ drop (at + 1) text = at_drop_more (λ (rest : List ℕ). rest) text at 0 within in
+    let long : 0 < prefix_len is_of_word (drop at text) = omega arith in
+    let word : is_of_word (get_or text at 0) ≡ true = first_passes (is_of_word (get_or text at 0)) (prefix_len is_of_word (drop (at + 1) text)) (rw here at long) in
+    let len : end - at ≡ prefix_len is_of_word (drop at text) = omega arith in
+    let front : tokens_from false at (drop at text) ≡ word_before at (prefix_len is_of_word (drop at text)) (drop at text) = rw here (word_run at (get_or text at 0) (drop (at + 1) text) word) in
+    front ∙ rw (len, is, drop-drop (prefix_len is_of_word (drop at text)) at text) refl
