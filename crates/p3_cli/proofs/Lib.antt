@@ -1,0 +1,4 @@
+pub mod PutLemmas
+pub mod RunLemmas
+pub mod SpelledLemmas
+pub mod StoreLemmas

@@ -1,0 +1,156 @@
+-- What follows from how a run ends.
+use Rattle.std.proofs.Common.{◌≡◌, ◌∙◌, ◌≢◌, ◌⊎◌, ℕ, Bool, true, false, cond, List, [], ◌∷◌, map, take, Option, Some, None, IfSome, IsSome, refl, sym, ap, subst, inl, inr}
+use Rattle.std.specs.Option.{option_map, is_some}
+use Rattle.std.specs.List.{AllByRecursion as All, slice_get}
+use Rattle.std.specs.Prelude.{IsSomeAnd, zero, suc}
+use Rattle.std.specs.Ordering.{nat_cmp, eq_by_cmp, is_eq}
+use Rattle.std.specs.declared.cmp.Ordering.{Ordering}
+use Rattle.std.specs.declared.cmp.Ordering.TheVariants.{Less, Equal, Greater}
+use Rattle.std.specs.Cmp.Lexicographic.{slice_cmp, nat_list_cmp_total}
+use Rattle.std.specs.FinMap.{get, insert, get-insert, slice_cmp-IsAntisymmetric, nat_cmp-IsAntisymmetric}
+use Rattle.p3_base.specs.Outside.{Store, Rose, bytes_under, holding, IsPartlyWritten}
+use Rattle.p3_base.specs.declared.refusal.Role.{Role}
+use Rattle.p3_cli.specs.Ending.{status_of}
+use Rattle.p3_cli.specs.Request.{Request, Output, outputs}
+use Rattle.p3_cli.specs.Run.{FilesState, SinkState, IsAccepted, IsProduct, refusal_in, shown_by, Comes, Leaves, Tells, Ends, Answers, IsRefusedIn, IsAcceptedIn, IsNoOutput, SameUnder, OthersStay}
+use Rattle.p3_cli.specs.Store.{holding_all, IsWrittenUpTo, AreFirstWritten}
+use Rattle.p3_cli.specs.declared.ending.Ending.{Ending}
+use Rattle.p3_cli.specs.declared.ending.Ending.TheVariants as ending
+
+-- what is accepted shows no refusal
+accepted_shows_none : (store : Store) (request : Request) → IsAccepted store request → refusal_in store request ≡ None
+accepted_shows_none store request (texts, read, none) = ap (shown_by request) read ∙ none
+
+accepted_or : {A : Type 0} (store : Store) (request : Request) → IsAccepted store request → IsSome (refusal_in store request) → A
+accepted_or store request accepted shown = absurd (subst (λ refusal. IsSome refusal → ⊥) (sym (accepted_shows_none store request accepted)) (λ some. cc) shown)
+
+abbrev state : Option Store → ℕ → ℕ → FilesState
+state told reads writes = record { held = told; read_faults = reads; write_faults = writes }
+
+-- the status, but where the report was not put
+kept_status : (before after : SinkState) (status : ℕ) (how : Ending) → Tells before after status how → status_of how ≢ 0 → status ≡ status_of how
+kept_status before after status (ending.Done report) tells other = absurd (other refl)
+kept_status before after status (ending.Refused line) tells other = elim tells [ inl t ↦ t.0 | inr t ↦ t.0 ]
+kept_status before after status (ending.TooLong role) tells other = elim tells [ inl t ↦ t.0 | inr t ↦ t.0 ]
+kept_status before after status (ending.ReadFailed role) tells other = elim tells [ inl t ↦ t.0 | inr t ↦ t.0 ]
+kept_status before after status (ending.WriteFailed role) tells other = elim tells [ inl t ↦ t.0 | inr t ↦ t.0 ]
+kept_status before after status ending.OutOfMemory tells other = elim tells [ inl t ↦ t.0 | inr t ↦ t.0 ]
+kept_status before after status ending.Usage tells other = elim tells [ inl t ↦ t.0 | inr t ↦ t.0 ]
+
+refuses_request : (request : Request) (told : Option Store) (reads writes : ℕ) (new : FilesState) (before after : SinkState) (status : ℕ) (how : Ending)
+    → Comes request (state told reads writes) new how → Tells before after status how
+    → IfSome told (λ store. IsSome (refusal_in store request) → Rose reads new.read_faults ⊎ ((status ≡ 2) ⊎ (status ≡ 5)))
+refuses_request request None reads writes new before after status how comes tells = tt
+refuses_request request (Some store) reads writes new before after status (ending.Done report) comes tells = accepted_or store request comes
+refuses_request request (Some store) reads writes new before after status (ending.Refused line) comes tells = λ shown. inr (inl (kept_status before after status (ending.Refused line) tells (λ e. cc)))
+refuses_request request (Some store) reads writes new before after status (ending.TooLong role) comes tells = λ shown. inr (inl (kept_status before after status (ending.TooLong role) tells (λ e. cc)))
+refuses_request request (Some store) reads writes new before after status (ending.ReadFailed role) comes tells = λ shown. inl comes.1
+refuses_request request (Some store) reads writes new before after status (ending.WriteFailed role) comes tells = accepted_or store request comes.1
+refuses_request request (Some store) reads writes new before after status ending.OutOfMemory comes tells = λ shown. inr (inr (kept_status before after status ending.OutOfMemory tells (λ e. cc)))
+refuses_request request (Some store) reads writes new before after status ending.Usage comes tells = absurd comes
+
+-- a refusal that is shown comes
+pub refuses : (asked : Option Request) (told : Option Store) (reads writes : ℕ) (new : FilesState) (before after : SinkState) (status : ℕ) (how : Ending)
+    → Answers asked (state told reads writes) new how → Tells before after status how
+    → IfSome told (λ store. IsRefusedIn asked store → Rose reads new.read_faults ⊎ ((status ≡ 2) ⊎ (status ≡ 5)))
+refuses None None reads writes new before after status how answers tells = tt
+refuses None (Some store) reads writes new before after status how answers tells = λ shown. absurd shown
+refuses (Some request) told reads writes new before after status how answers tells = refuses_request request told reads writes new before after status how answers.0 tells
+
+abbrev IsComplete : ℕ → ℕ → FilesState → SinkState → SinkState → ℕ → Type 0
+IsComplete reads writes new before after status =
+    Rose reads new.read_faults ⊎ (Rose writes new.write_faults ⊎ (Rose before.faults after.faults ⊎ ((status ≡ 0) ⊎ (status ≡ 5))))
+
+completes_request : (request : Request) (told : Option Store) (reads writes : ℕ) (new : FilesState) (before after : SinkState) (status : ℕ) (how : Ending)
+    → Comes request (state told reads writes) new how → Tells before after status how
+    → IfSome told (λ store. IsAccepted store request → IsComplete reads writes new before after status)
+completes_request request None reads writes new before after status how comes tells = tt
+completes_request request (Some store) reads writes new before after status (ending.Done report) comes tells =
+    λ accepted. elim tells [ inl t ↦ inr (inr (inr (inl t.0))) | inr t ↦ inr (inr (inl t.1)) ]
+completes_request request (Some store) reads writes new before after status (ending.Refused line) comes tells =
+    λ accepted. let none : refusal_in store request ≡ None = accepted_shows_none store request accepted in absurd cc
+completes_request request (Some store) reads writes new before after status (ending.TooLong role) comes tells =
+    λ accepted. let none : refusal_in store request ≡ None = accepted_shows_none store request accepted in absurd cc
+completes_request request (Some store) reads writes new before after status (ending.ReadFailed role) comes tells = λ accepted. inl comes.1
+completes_request request (Some store) reads writes new before after status (ending.WriteFailed role) comes tells = λ accepted. inr (inl comes.0)
+completes_request request (Some store) reads writes new before after status ending.OutOfMemory comes tells =
+    λ accepted. inr (inr (inr (inr (kept_status before after status ending.OutOfMemory tells (λ e. cc)))))
+completes_request request (Some store) reads writes new before after status ending.Usage comes tells = absurd comes
+
+-- what is accepted is done, where nothing fails
+pub completes : (asked : Option Request) (told : Option Store) (reads writes : ℕ) (new : FilesState) (before after : SinkState) (status : ℕ) (how : Ending)
+    → Answers asked (state told reads writes) new how → Tells before after status how
+    → IfSome told (λ store. IsAcceptedIn asked store → IsComplete reads writes new before after status)
+completes None None reads writes new before after status how answers tells = tt
+completes None (Some store) reads writes new before after status how answers tells = λ accepted. absurd accepted
+completes (Some request) told reads writes new before after status how answers tells = completes_request request told reads writes new before after status how answers.0 tells
+
+untied : (o : Ordering) → (o ≡ Equal → ⊥) → is_eq o ≡ false
+untied Less apart = refl
+untied Equal apart = absurd (apart refl)
+untied Greater apart = refl
+
+-- writing under one name leaves the others
+same_holding : (name other bytes : List ℕ) (told : Option Store) → other ≢ name → SameUnder name told (holding other bytes told)
+same_holding name other bytes None apart = refl
+same_holding name other bytes (Some store) apart =
+    ap Some (get-insert nat_list_cmp_total store other bytes name
+      ∙ ap (λ here. cond here (Some bytes) (get store name))
+        (untied (slice_cmp nat_cmp name other) (λ tie. apart (sym (slice_cmp-IsAntisymmetric nat_cmp-IsAntisymmetric name other tie)))))
+
+abbrev AreOthers : List ℕ → List (Output × List ℕ) → Type 0
+AreOthers name writings = All (λ output. output.name ≢ name) (map (λ written. written.0) writings)
+
+same_holding_all : (name : List ℕ) (writings : List (Output × List ℕ)) (told : Option Store) → AreOthers name writings → SameUnder name told (holding_all writings told)
+same_holding_all name [] told others = refl
+same_holding_all name (written ∷ writings) told others =
+    same_holding_all name writings (holding written.0.name written.1 told) others.1 ∙ same_holding name written.0.name written.1 told others.0
+
+others_first : (name : List ℕ) (writings : List (Output × List ℕ)) (n : ℕ) → AreOthers name writings → AreOthers name (take n writings)
+others_first name writings zero others = tt
+others_first name [] (suc n) others = tt
+others_first name (written ∷ writings) (suc n) others = (others.0, others_first name writings n others.1)
+
+other_at : (name : List ℕ) (writings : List (Output × List ℕ)) (n : ℕ) → AreOthers name writings → IfSome (slice_get writings n) (λ next. next.0.name ≢ name)
+other_at name [] n others = tt
+other_at name (written ∷ writings) zero others = others.0
+other_at name (written ∷ writings) (suc n) others = other_at name writings n others.1
+
+same_partly : (name : List ℕ) (written : Output × List ℕ) (old new : Option Store) → written.0.name ≢ name → IsPartlyWritten written.0.name written.1 old new → SameUnder name old new
+same_partly name written old new apart partly = elim partly [
+    | inl same ↦ ap (option_map (λ store. bytes_under store name)) same
+    | inr (n, is) ↦ ap (option_map (λ store. bytes_under store name)) is ∙ same_holding name written.0.name (take n written.1) old apart
+  ]
+
+same_up_to : (name : List ℕ) (role : Role) (writings : List (Output × List ℕ)) (old new : Option Store) → AreOthers name writings → IsWrittenUpTo role writings old new → SameUnder name old new
+same_up_to name role writings old new others (n, partly) =
+    elim (slice_get writings n) as (λ found. IfSome found (λ next. next.0.name ≢ name)
+      → IsSomeAnd found (λ next. (role ≡ next.0.role) × IsPartlyWritten next.0.name next.1 (holding_all (take n writings) old) new) → SameUnder name old new) [
+      | None ↦ λ apart is. absurd is
+      | Some next ↦ λ apart is. same_partly name next (holding_all (take n writings) old) new apart is.1 ∙ same_holding_all name (take n writings) old (others_first name writings n others)
+    ] (other_at name writings n others) partly
+
+product_others : (name : List ℕ) (told : Option Store) (request : Request) (writings : List (Output × List ℕ)) (report : List ℕ)
+    → All (λ output. output.name ≢ name) (outputs request) → IsProduct told request writings report → AreOthers name writings
+product_others name told request writings report others product = subst (All (λ output. output.name ≢ name)) (sym product.outputs) others
+
+leaves_others : (name : List ℕ) (request : Request) (old new : Option Store) (how : Ending) → All (λ output. output.name ≢ name) (outputs request) → Leaves request old new how → SameUnder name old new
+leaves_others name request old new (ending.Done report) others (writings, product, is) =
+    ap (option_map (λ store. bytes_under store name)) is ∙ same_holding_all name writings old (product_others name old request writings report others product)
+leaves_others name request old new (ending.WriteFailed role) others (writings, report, product, is) =
+    same_up_to name role writings old new (product_others name old request writings report others product) is
+leaves_others name request old new ending.OutOfMemory others leaves = elim leaves [
+    | inl same ↦ ap (option_map (λ store. bytes_under store name)) same
+    | inr (writings, report, product, (n, is)) ↦
+      ap (option_map (λ store. bytes_under store name)) is
+      ∙ same_holding_all name (take n writings) old (others_first name writings n (product_others name old request writings report others product))
+  ]
+leaves_others name request old new (ending.Refused line) others same = ap (option_map (λ store. bytes_under store name)) same
+leaves_others name request old new (ending.TooLong role) others same = ap (option_map (λ store. bytes_under store name)) same
+leaves_others name request old new (ending.ReadFailed role) others same = ap (option_map (λ store. bytes_under store name)) same
+leaves_others name request old new ending.Usage others same = ap (option_map (λ store. bytes_under store name)) same
+
+-- a name that is no output holds what it held
+pub others_stay : (asked : Option Request) (old new : FilesState) (how : Ending) → Answers asked old new how → OthersStay asked old.held new.held
+others_stay None old new how answers name others = ap (option_map (λ store. bytes_under store name)) answers.1
+others_stay (Some request) old new how answers name others = leaves_others name request old.held new.held how others answers.1

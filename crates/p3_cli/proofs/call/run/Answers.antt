@@ -1,0 +1,12 @@
+use Rattle.p3_cli.specs.Request.{request_of}
+use Rattle.p3_cli.proofs.RunLemmas.{refuses, completes, others_stay}
+use Rattle.p3_cli.proofs.call.run.Goals as goal
+
+pub returns-clause-refuses : goal.returns-clause-refuses
+returns-clause-refuses g c = refuses (request_of c.args.words.now) _ _ _ _ _ _ _ _ c.ending_of-ending.ensures.answers c.told.ensures
+
+pub returns-clause-completes : goal.returns-clause-completes
+returns-clause-completes g c = completes (request_of c.args.words.now) _ _ _ _ _ _ _ _ c.ending_of-ending.ensures.answers c.told.ensures
+
+pub returns-clause-others : goal.returns-clause-others
+returns-clause-others g c = others_stay (request_of c.args.words.now) _ _ c.ending_of-ending.result c.ending_of-ending.ensures.answers

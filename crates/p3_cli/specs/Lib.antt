@@ -1,0 +1,11 @@
+pub mod Asked
+pub mod Ending
+pub mod Layout
+pub mod Outcome
+pub mod Product
+pub mod Refusal
+pub mod Request
+pub mod Role
+pub mod Run
+pub mod Store
+pub mod Translation

@@ -1,0 +1,114 @@
+-- A whole run: when each ending comes, what it leaves in the files, and what it puts.
+use Rattle.std.specs.Prelude.{ℕ, ◌≡◌, ◌⊎◌, List, [], ◌∷◌, Option, Some, None, IfSome, IsSome, Contains, map, ◌≢◌}
+use Rattle.std.specs.Option.{option_map}
+use Rattle.std.specs.List.{AllByRecursion as All}
+use Rattle.p3_base.specs.Outside.{Store, Rose, IsPartlyPut, bytes_under, with_put}
+use Rattle.p3_base.specs.declared.refusal.Role.{Role}
+use Rattle.p3_cli.specs.Ending.{status_of, lines_of}
+use Rattle.p3_cli.specs.Product.{refused, Produces}
+use Rattle.p3_cli.specs.Request.{Request, Input, Output, inputs, outputs}
+use Rattle.p3_cli.specs.Store.{Reading, Texts, TooLong, Absent, reading, AreNamed, holding_all, AreFirstWritten, IsWrittenUpTo}
+use Rattle.p3_cli.specs.declared.ending.Ending.{Ending}
+use Rattle.p3_cli.specs.declared.ending.Ending.TheVariants as ending
+
+-- what is seen of the files
+pub record FilesState : Type 0 where
+  pub held : Option Store
+  pub read_faults : ℕ
+  pub write_faults : ℕ
+
+-- what is seen of the sink
+pub record SinkState : Type 0 where
+  pub written : Option (List ℕ)
+  pub faults : ℕ
+
+-- the refusal that a reading shows, as the ending that says it
+abbrev pub shown_by : Request → Reading → Option Ending
+shown_by request (Texts texts) = refused request texts
+shown_by request (TooLong role) = Some (ending.TooLong role)
+shown_by request Absent = None
+
+-- the first refusal that what the store holds shows, in the order of the command line
+abbrev pub refusal_in : Store → Request → Option Ending
+refusal_in store request = shown_by request (reading store (inputs request))
+
+-- all inputs are held, within their limits, and none of them is refused
+abbrev pub IsAccepted : Store → Request → Type 0
+IsAccepted store request = (texts : List (List ℕ)) × (reading store (inputs request) ≡ Texts texts) × (refused request texts ≡ None)
+
+-- there is a text for each output, and the texts and the report are what the command makes of what was read
+pub record IsProduct (told : Option Store) (request : Request) (writings : List (Output × List ℕ)) (report : List ℕ) : Type 0 where
+  pub outputs : map (λ written. written.0) writings ≡ outputs request
+  pub made : IfSome told (λ store. (read : List (List ℕ)) × (reading store (inputs request) ≡ Texts read) × Produces request read writings report)
+
+-- when an ending of a request comes
+abbrev pub Comes : Request → FilesState → FilesState → Ending → Type 0
+Comes request old new (ending.Done report) = IfSome old.held (λ store. IsAccepted store request)
+Comes request old new (ending.Refused line) = IfSome old.held (λ store. refusal_in store request ≡ Some (ending.Refused line))
+Comes request old new (ending.TooLong role) = IfSome old.held (λ store. refusal_in store request ≡ Some (ending.TooLong role))
+Comes request old new (ending.ReadFailed role) = Contains (map (λ input. input.role) (inputs request)) role × Rose old.read_faults new.read_faults
+Comes request old new (ending.WriteFailed role) = Rose old.write_faults new.write_faults × IfSome old.held (λ store. IsAccepted store request)
+Comes request old new ending.OutOfMemory = Unit {0}
+Comes request old new ending.Usage = ⊥
+
+-- what the files hold after an ending of a request: all outputs, a first part of them, or what they held
+abbrev pub Leaves : Request → Option Store → Option Store → Ending → Type 0
+Leaves request old new (ending.Done report) =
+    (writings : List (Output × List ℕ)) × IsProduct old request writings report × (new ≡ holding_all writings old)
+Leaves request old new (ending.WriteFailed role) =
+    (writings : List (Output × List ℕ)) × (report : List ℕ) × IsProduct old request writings report × IsWrittenUpTo role writings old new
+Leaves request old new ending.OutOfMemory =
+    (new ≡ old) ⊎ ((writings : List (Output × List ℕ)) × (report : List ℕ) × IsProduct old request writings report × AreFirstWritten writings old new)
+Leaves request old new (ending.Refused line) = new ≡ old
+Leaves request old new (ending.TooLong role) = new ≡ old
+Leaves request old new (ending.ReadFailed role) = new ≡ old
+Leaves request old new ending.Usage = new ≡ old
+
+-- words that ask for nothing end as usage, and then no file is read or written
+abbrev pub Answers : Option Request → FilesState → FilesState → Ending → Type 0
+Answers None old new how = (how ≡ ending.Usage) × (new.held ≡ old.held)
+Answers (Some request) old new how = Comes request old new how × Leaves request old.held new.held how
+
+-- the status in the place of another where the report was not put
+abbrev pub unput_status : Ending → ℕ
+unput_status (ending.Done report) = 6
+unput_status how = status_of how
+
+-- the lines are put and the status says the ending; or the sink failed, a first part of them is put, and the status 6 takes the place of 0
+abbrev pub Tells : SinkState → SinkState → ℕ → Ending → Type 0
+Tells old new status how =
+    ((status ≡ status_of how) × (new.written ≡ with_put (lines_of how) old.written))
+    ⊎ ((status ≡ unput_status how) × Rose old.faults new.faults × IsPartlyPut (lines_of how) old.written new.written)
+
+-- how a run ends
+pub record Ends (asked : Option Request) (old new : FilesState) (before after : SinkState) (status : ℕ) (how : Ending) : Type 0 where
+  pub answers : Answers asked old new how
+  pub tells : Tells before after status how
+
+-- what the store holds shows a refusal of what is asked
+abbrev pub IsRefusedIn : Option Request → Store → Type 0
+IsRefusedIn None store = ⊥
+IsRefusedIn (Some request) store = IsSome (refusal_in store request)
+
+-- what the store holds is accepted for what is asked
+abbrev pub IsAcceptedIn : Option Request → Store → Type 0
+IsAcceptedIn None store = ⊥
+IsAcceptedIn (Some request) store = IsAccepted store request
+
+-- it is told that each input that is asked for is held
+abbrev pub AreHeld : Option Request → Option Store → Type 0
+AreHeld None told = Unit {0}
+AreHeld (Some request) told = AreNamed told (inputs request)
+
+-- no output that is asked for has the name
+abbrev pub IsNoOutput : Option Request → List ℕ → Type 0
+IsNoOutput None name = Unit {0}
+IsNoOutput (Some request) name = All (λ output. output.name ≢ name) (outputs request)
+
+-- where it is told, the name holds what it held
+abbrev pub SameUnder : List ℕ → Option Store → Option Store → Type 0
+SameUnder name old new = option_map (λ store. bytes_under store name) new ≡ option_map (λ store. bytes_under store name) old
+
+-- a name that is no output holds what it held
+abbrev pub OthersStay : Option Request → Option Store → Option Store → Type 0
+OthersStay asked old new = (name : List ℕ) → IsNoOutput asked name → SameUnder name old new

@@ -1,0 +1,108 @@
+//! The line that says why and where an input is refused.
+
+ghost use Rattle.std.specs.Prelude.{◌≡◌, ◌++◌, ◌≤◌, length, take, IfOk, OnOk, string_bytes};
+ghost use Rattle.p3_cli.specs.Refusal.{code_text, refusal_head, refusal_line, shown_word};
+ghost use Rattle.p3_cli.specs.Role.{role_name};
+
+use p3_base::{Code, NoMemory, Refusal, Role, line_column};
+use std::alloc::{AllocError, Global};
+
+/// The most bytes of a word that are shown.
+const WORD_MAX: usize = 60;
+
+/// The line of a refusal of this text.
+pub(crate) fn line_of_refusal(
+    alloc: Global,
+    text: &[u8],
+    refusal: &Refusal,
+) -> Result<Vec<u8>, NoMemory>
+    requires within { refusal.now.pos.offset ≤ length text.now }
+    requires short { length text.now ≤ 268435456 }
+    ensures { IfOk result (λ line. line.items ≡ refusal_line text.now refusal.now) }
+{
+    let (line, column) = line_column(text, refusal.pos.offset);
+    let why = code_words(refusal.code);
+    let file = role_word(refusal.pos.role);
+    let start = head(alloc, why, file, line, column)?;
+    let mut out = Vec::from_slice(alloc, start.as_bytes())?;
+    push_word(alloc, &mut out, text, refusal)?;
+    out.push(b'\n')?;
+    Ok(out)
+}
+
+/// What stands before the word.
+fn head(alloc: Global, why: &str, file: &str, row: u32, column: u32) -> Result<String, AllocError>
+    ensures { IfOk result (λ head. string_bytes head ≡ refusal_head why.now file.now row column) }
+{
+    format!(in alloc; "refused {why}: {file} {row}:{column} ")
+}
+
+/// Puts the word at fault at the end.
+fn push_word(
+    alloc: Global,
+    out: &mut Vec<u8>,
+    text: &[u8],
+    refusal: &Refusal,
+) -> Result<(), NoMemory>
+    requires { refusal.now.pos.offset ≤ length text.now }
+    ensures { OnOk result (out.new.items ≡ out.old.items ++ shown_word text.now refusal.now) }
+{
+    if refusal.len == 0 {
+        out.extend_from_slice(b"end of text")?;
+        return Ok(());
+    }
+    let rest = &text[refusal.pos.offset as usize..];
+    let word = first(refusal.len as usize, rest);
+    let shown = first(WORD_MAX, word).to_ascii_lowercase(alloc)?;
+    out.extend_from_slice(shown.as_slice())?;
+    Ok(())
+}
+
+/// At most the first `len` bytes.
+fn first(len: usize, bytes: &[u8]) -> &[u8]
+    ensures { result.now ≡ take len bytes.now }
+{
+    &bytes[..len.min(bytes.len())]
+}
+
+/// How a report names a file.
+fn role_word(role: Role) -> &'static str
+    ensures { result.now ≡ role_name role }
+{
+    match role {
+        Role::Domain => "domain",
+        Role::Problem => "problem",
+        Role::WrittenDomain => "written-domain",
+        Role::WrittenProblem => "written-problem",
+        Role::Plan => "plan",
+    }
+}
+
+/// The number and the text of a code.
+fn code_words(code: Code) -> &'static str
+    ensures { result.now ≡ code_text code }
+{
+    match code {
+        Code::BadByte => "1 bad byte",
+        Code::Unbalanced => "2 unbalanced",
+        Code::TooDeep => "3 too deep",
+        Code::Construct => "4 construct",
+        Code::Malformed => "5 malformed",
+        Code::Duplicate => "6 duplicate",
+        Code::Unknown => "7 unknown",
+        Code::Arity => "8 arity",
+        Code::TypeClash => "9 type clash",
+        Code::NegativeWeight => "10 negative weight",
+        Code::NonLinear => "11 not linear",
+        Code::NumberTooLong => "12 number too long",
+        Code::CostTooLarge => "13 cost too large",
+        Code::TooManyInstances => "14 too many instances",
+        Code::FormulaTooLarge => "15 formula too large",
+        Code::TooManyPreferences => "16 too many preferences",
+        Code::SplitTooWide => "17 split too wide",
+        Code::TooManySteps => "18 too many steps",
+        Code::NotPlain => "19 not plain",
+        Code::Mismatch => "20 mismatch",
+        Code::FileTooLong => "21 file too long",
+    }
+}

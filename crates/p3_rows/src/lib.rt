@@ -1,0 +1,9 @@
+//! Worked runs of the top call, over files and a sink in memory.
+#![tactic(auto)]
+
+#[cfg(test)]
+mod outside;
+#[cfg(test)]
+mod rows;
+#[cfg(test)]
+mod world;
