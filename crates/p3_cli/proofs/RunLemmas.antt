@@ -1,19 +1,19 @@
 -- What follows from how a run ends.
-use Rattle.std.proofs.Common.{◌≡◌, ◌∙◌, ◌≢◌, ◌⊎◌, ℕ, Bool, true, false, cond, List, [], ◌∷◌, map, take, Option, Some, None, IfSome, IsSome, refl, sym, ap, subst, inl, inr}
-use Rattle.std.specs.Option.{option_map, is_some}
+use Rattle.std.proofs.Common.{◌≡◌, ◌∙◌, ◌≢◌, ◌⊎◌, ℕ, false, cond, List, [], ◌∷◌, map, take, Option, Some, None, IfSome, IsSome, refl, sym, ap, subst, inl, inr}
+use Rattle.std.specs.Option.{option_map}
 use Rattle.std.specs.List.{AllByRecursion as All, slice_get}
 use Rattle.std.specs.Prelude.{IsSomeAnd, zero, suc}
-use Rattle.std.specs.Ordering.{nat_cmp, eq_by_cmp, is_eq}
+use Rattle.std.specs.Ordering.{nat_cmp, is_eq}
 use Rattle.std.specs.declared.cmp.Ordering.{Ordering}
 use Rattle.std.specs.declared.cmp.Ordering.TheVariants.{Less, Equal, Greater}
 use Rattle.std.specs.Cmp.Lexicographic.{slice_cmp, nat_list_cmp_total}
-use Rattle.std.specs.FinMap.{get, insert, get-insert, slice_cmp-IsAntisymmetric, nat_cmp-IsAntisymmetric}
+use Rattle.std.specs.FinMap.{get, get-insert, slice_cmp-IsAntisymmetric, nat_cmp-IsAntisymmetric}
 use Rattle.p3_base.specs.Outside.{Store, Rose, bytes_under, holding, IsPartlyWritten}
 use Rattle.p3_base.specs.declared.refusal.Role.{Role}
 use Rattle.p3_cli.specs.Ending.{status_of}
 use Rattle.p3_cli.specs.Request.{Request, Output, outputs}
-use Rattle.p3_cli.specs.Run.{FilesState, SinkState, IsAccepted, IsProduct, refusal_in, shown_by, Comes, Leaves, Tells, Ends, Answers, IsRefusedIn, IsAcceptedIn, IsNoOutput, SameUnder, OthersStay}
-use Rattle.p3_cli.specs.Store.{holding_all, IsWrittenUpTo, AreFirstWritten}
+use Rattle.p3_cli.specs.Run.{FilesState, SinkState, IsAccepted, IsProduct, refusal_in, shown_by, Comes, Leaves, Tells, Answers, IsRefusedIn, IsAcceptedIn, SameUnder, OthersStay}
+use Rattle.p3_cli.specs.Store.{holding_all, IsWrittenUpTo}
 use Rattle.p3_cli.specs.declared.ending.Ending.{Ending}
 use Rattle.p3_cli.specs.declared.ending.Ending.TheVariants as ending
 
@@ -95,8 +95,8 @@ same_holding : (name other bytes : List ℕ) (told : Option Store) → other ≢
 same_holding name other bytes None apart = refl
 same_holding name other bytes (Some store) apart =
     ap Some (get-insert nat_list_cmp_total store other bytes name
-      ∙ ap (λ here. cond here (Some bytes) (get store name))
-        (untied (slice_cmp nat_cmp name other) (λ tie. apart (sym (slice_cmp-IsAntisymmetric nat_cmp-IsAntisymmetric name other tie)))))
+    ∙ ap (λ here. cond here (Some bytes) (get store name))
+    (untied (slice_cmp nat_cmp name other) (λ tie. apart (sym (slice_cmp-IsAntisymmetric nat_cmp-IsAntisymmetric name other tie)))))
 
 abbrev AreOthers : List ℕ → List (Output × List ℕ) → Type 0
 AreOthers name writings = All (λ output. output.name ≢ name) (map (λ written. written.0) writings)
@@ -118,14 +118,14 @@ other_at name (written ∷ writings) (suc n) others = other_at name writings n o
 
 same_partly : (name : List ℕ) (written : Output × List ℕ) (old new : Option Store) → written.0.name ≢ name → IsPartlyWritten written.0.name written.1 old new → SameUnder name old new
 same_partly name written old new apart partly = elim partly [
-    | inl same ↦ ap (option_map (λ store. bytes_under store name)) same
-    | inr (n, is) ↦ ap (option_map (λ store. bytes_under store name)) is ∙ same_holding name written.0.name (take n written.1) old apart
-  ]
+  | inl same ↦ ap (option_map (λ store. bytes_under store name)) same
+  | inr (n, is) ↦ ap (option_map (λ store. bytes_under store name)) is ∙ same_holding name written.0.name (take n written.1) old apart
+]
 
 same_up_to : (name : List ℕ) (role : Role) (writings : List (Output × List ℕ)) (old new : Option Store) → AreOthers name writings → IsWrittenUpTo role writings old new → SameUnder name old new
 same_up_to name role writings old new others (n, partly) =
     elim (slice_get writings n) as (λ found. IfSome found (λ next. next.0.name ≢ name)
-      → IsSomeAnd found (λ next. (role ≡ next.0.role) × IsPartlyWritten next.0.name next.1 (holding_all (take n writings) old) new) → SameUnder name old new) [
+    → IsSomeAnd found (λ next. (role ≡ next.0.role) × IsPartlyWritten next.0.name next.1 (holding_all (take n writings) old) new) → SameUnder name old new) [
       | None ↦ λ apart is. absurd is
       | Some next ↦ λ apart is. same_partly name next (holding_all (take n writings) old) new apart is.1 ∙ same_holding_all name (take n writings) old (others_first name writings n others)
     ] (other_at name writings n others) partly
@@ -140,11 +140,11 @@ leaves_others name request old new (ending.Done report) others (writings, produc
 leaves_others name request old new (ending.WriteFailed role) others (writings, report, product, is) =
     same_up_to name role writings old new (product_others name old request writings report others product) is
 leaves_others name request old new ending.OutOfMemory others leaves = elim leaves [
-    | inl same ↦ ap (option_map (λ store. bytes_under store name)) same
-    | inr (writings, report, product, (n, is)) ↦
+  | inl same ↦ ap (option_map (λ store. bytes_under store name)) same
+  | inr (writings, report, product, (n, is)) ↦
       ap (option_map (λ store. bytes_under store name)) is
       ∙ same_holding_all name (take n writings) old (others_first name writings n (product_others name old request writings report others product))
-  ]
+]
 leaves_others name request old new (ending.Refused line) others same = ap (option_map (λ store. bytes_under store name)) same
 leaves_others name request old new (ending.TooLong role) others same = ap (option_map (λ store. bytes_under store name)) same
 leaves_others name request old new (ending.ReadFailed role) others same = ap (option_map (λ store. bytes_under store name)) same

@@ -1,13 +1,13 @@
 -- Reading one more input, and writing one more output.
-use Rattle.std.proofs.Common.{◌≡◌, ◌∙◌, ◌+◌, ◌<◌, ◌≤◌, ◌++◌, ℕ, Bool, true, false, cond, List, [], ◌∷◌, length, map, take, drop, get_or, Option, Some, None, IfSome, refl, sym, ap, subst, arith, inl, inr}
+use Rattle.std.proofs.Common.{◌≡◌, ◌∙◌, ◌+◌, ◌<◌, ◌≤◌, ◌++◌, ℕ, true, false, cond, List, [], ◌∷◌, length, map, take, get_or, Option, Some, None, IfSome, refl, sym, ap, subst, arith, inl, inr}
 use Rattle.std.specs.Prelude.{Contains, nat_lt, zero, suc}
-use Rattle.std.proofs.lemmas.List.{take_more, drop_more, take-map, drop-map, map-append}
+use Rattle.std.proofs.lemmas.List.{take_more, take-map, map-append}
 use Rattle.p3_base.specs.Outside.{Store, bytes_under, holding, Rose}
 use Rattle.p3_base.specs.declared.refusal.Role.{Role}
-use Rattle.p3_cli.specs.Asked.{asked_input, asked_inputs, asked_written, asked_writings}
+use Rattle.p3_cli.specs.Asked.{asked_inputs, asked_written, asked_writings}
 use Rattle.p3_cli.specs.Outcome.{ReadsAll, ReadFails}
 use Rattle.p3_cli.specs.Request.{Input, Output}
-use Rattle.p3_cli.specs.Store.{AreNamed, Reading, Texts, TooLong, Absent, with_text, reading, reading_on, holding_all}
+use Rattle.p3_cli.specs.Store.{Reading, Texts, TooLong, with_text, reading, reading_on, holding_all}
 use Rattle.p3_cli.specs.declared.ending.Ending.{Ending}
 use Rattle.p3_cli.specs.declared.ending.Ending.TheVariants as ending
 use Rattle.p3_cli.specs.declared.request.Input as code
@@ -113,6 +113,6 @@ pub holding_all-more : (writings : List Written) (i : ℕ) (next : Written) (tol
     → holding_all (take (i + 1) (asked_writings writings)) told ≡ holding next.name.now next.text.items (holding_all (take i (asked_writings writings)) told)
 holding_all-more writings i next told within is =
     ap (λ ws. holding_all ws told)
-      (take-map asked_written (i + 1) writings ∙ ap (map asked_written) (take_more writings i next within ∙ ap (λ w. take i writings ++ w ∷ []) (sym is)) ∙ map-append asked_written (take i writings) (next ∷ []))
+    (take-map asked_written (i + 1) writings ∙ ap (map asked_written) (take_more writings i next within ∙ ap (λ w. take i writings ++ w ∷ []) (sym is)) ∙ map-append asked_written (take i writings) (next ∷ []))
     ∙ holding_all-append (map asked_written (take i writings)) (asked_written next) told
     ∙ ap (λ ws. holding next.name.now next.text.items (holding_all ws told)) (sym (take-map asked_written i writings))

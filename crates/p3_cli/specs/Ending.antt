@@ -1,6 +1,5 @@
 -- How a run ends: its status, and the lines that it puts.
-use Rattle.std.specs.Prelude.{ℕ, List, [], ◌∷◌, ◌++◌, codes}
-use Rattle.p3_base.specs.declared.refusal.Role.{Role}
+use Rattle.std.specs.Prelude.{ℕ, List, ◌++◌, codes}
 use Rattle.p3_cli.specs.Role.{role_name, line}
 use Rattle.p3_cli.specs.declared.ending.Ending.{Ending}
 use Rattle.p3_cli.specs.declared.ending.Ending.TheVariants.{Done, Refused, TooLong, ReadFailed, WriteFailed, OutOfMemory, Usage}

@@ -1,9 +1,8 @@
 -- What comes of reading all inputs and of writing all outputs.
-use Rattle.std.specs.Prelude.{ℕ, ◌≡◌, List, Option, Result, Ok, Err, IfSome, Contains, map}
+use Rattle.std.specs.Prelude.{ℕ, ◌≡◌, List, Option, IfSome, Contains, map}
 use Rattle.p3_base.specs.Outside.{Store, Rose}
-use Rattle.p3_base.specs.declared.refusal.Role.{Role}
 use Rattle.p3_cli.specs.Request.{Input, Output}
-use Rattle.p3_cli.specs.Store.{reading, Texts, TooLong, holding_all, AreFirstWritten, IsWrittenUpTo}
+use Rattle.p3_cli.specs.Store.{reading, Texts, TooLong, AreFirstWritten, IsWrittenUpTo}
 use Rattle.p3_cli.specs.declared.ending.Ending.{Ending}
 use Rattle.p3_cli.specs.declared.ending.Ending.TheVariants as ending
 

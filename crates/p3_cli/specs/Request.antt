@@ -1,5 +1,5 @@
 -- What the words of a command line ask for: the files that are read and those that are written.
-use Rattle.std.specs.Prelude.{ℕ, Bool, true, false, ◌==◌, ◌&&◌, not, cond, List, [], ◌∷◌, Option, Some, None, map, length, codes}
+use Rattle.std.specs.Prelude.{ℕ, Bool, true, false, ◌&&◌, not, cond, List, [], ◌∷◌, Option, Some, None, codes}
 use Rattle.std.specs.Str.{bytes_eq}
 use Rattle.p3_base.specs.declared.refusal.Role.{Role}
 use Rattle.p3_base.specs.declared.refusal.Role.TheVariants.{Domain, Problem, WrittenDomain, WrittenProblem}
@@ -48,5 +48,5 @@ are_compile_words domain problem written_domain written_problem =
 abbrev pub request_of : List (List ℕ) → Option Request
 request_of (command ∷ domain ∷ problem ∷ written_domain ∷ written_problem ∷ []) =
     cond (bytes_eq command (codes "compile") && are_compile_words domain problem written_domain written_problem)
-      (Some (Compile domain problem written_domain written_problem)) None
+    (Some (Compile domain problem written_domain written_problem)) None
 request_of _ = None

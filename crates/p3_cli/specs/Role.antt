@@ -14,4 +14,3 @@ role_name Plan = codes "plan"
 -- a line is ended by a line feed
 abbrev pub line : List ℕ → List ℕ
 line text = text ++ 10 ∷ []
-

@@ -1,12 +1,11 @@
 -- A whole run: when each ending comes, what it leaves in the files, and what it puts.
-use Rattle.std.specs.Prelude.{ℕ, ◌≡◌, ◌⊎◌, List, [], ◌∷◌, Option, Some, None, IfSome, IsSome, Contains, map, ◌≢◌}
+use Rattle.std.specs.Prelude.{ℕ, ◌≡◌, ◌⊎◌, List, Option, Some, None, IfSome, IsSome, Contains, map, ◌≢◌}
 use Rattle.std.specs.Option.{option_map}
 use Rattle.std.specs.List.{AllByRecursion as All}
 use Rattle.p3_base.specs.Outside.{Store, Rose, IsPartlyPut, bytes_under, with_put}
-use Rattle.p3_base.specs.declared.refusal.Role.{Role}
 use Rattle.p3_cli.specs.Ending.{status_of, lines_of}
 use Rattle.p3_cli.specs.Product.{refused, Produces}
-use Rattle.p3_cli.specs.Request.{Request, Input, Output, inputs, outputs}
+use Rattle.p3_cli.specs.Request.{Request, Output, inputs, outputs}
 use Rattle.p3_cli.specs.Store.{Reading, Texts, TooLong, Absent, reading, AreNamed, holding_all, AreFirstWritten, IsWrittenUpTo}
 use Rattle.p3_cli.specs.declared.ending.Ending.{Ending}
 use Rattle.p3_cli.specs.declared.ending.Ending.TheVariants as ending

@@ -14,7 +14,10 @@ pub(crate) fn domain_text(alloc: Global, domain: &Domain) -> Result<Vec<u8>, NoM
     ensures { IfOk result (λ text. text.items ≡ layout.domain_layout domain.now) }
 {
     let mut out = Vec::new(alloc);
-    push(&mut out, "(define (domain compiled)\n(:requirements :adl :action-costs)\n(:predicates")?;
+    push(
+        &mut out,
+        "(define (domain compiled)\n(:requirements :adl :action-costs)\n(:predicates",
+    )?;
     push_headers(&mut out, domain.predicates.items())?;
     push(&mut out, ")\n(:functions (total-cost) - number)\n")?;
     push_actions(alloc, &mut out, domain.actions.items())?;
@@ -27,7 +30,10 @@ pub(crate) fn problem_text(alloc: Global, problem: &Problem) -> Result<Vec<u8>, 
     ensures { IfOk result (λ text. text.items ≡ layout.problem_layout problem.now) }
 {
     let mut out = Vec::new(alloc);
-    push(&mut out, "(define (problem compiled)\n(:domain compiled)\n(:init")?;
+    push(
+        &mut out,
+        "(define (problem compiled)\n(:domain compiled)\n(:init",
+    )?;
     push_entries(alloc, &mut out, problem.init.items())?;
     push(&mut out, ")\n(:goal ")?;
     push_condition(&mut out, &problem.goal.body)?;
@@ -215,7 +221,9 @@ fn push_entry(alloc: Global, out: &mut Vec<u8>, entry: &Init) -> Result<(), NoMe
         Init::True { pred, .. } => push_atom(out, pred.name.bytes()),
         Init::False { pred, .. } => push_negated(out, pred.name.bytes()),
         Init::Value {
-            function, number, ..
+            function,
+            number,
+            ..
         } => {
             push(out, "(= ")?;
             push_atom(out, function.name.bytes())?;

@@ -7,9 +7,8 @@ mod layout;
 mod product;
 mod refusal;
 mod request;
-
 mod store;
 mod translation;
 
-pub use ending::Ending;
 pub use call::run;
+pub use ending::Ending;

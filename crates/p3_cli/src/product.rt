@@ -44,7 +44,13 @@ pub(crate) fn product_of<'a>(
             let [domain, problem] = texts else {
                 unreachable!()
             };
-            translated(alloc, written_domain, written_problem, domain.as_slice(), problem.as_slice())
+            translated(
+                alloc,
+                written_domain,
+                written_problem,
+                domain.as_slice(),
+                problem.as_slice(),
+            )
         }
     }
 }

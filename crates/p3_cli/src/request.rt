@@ -60,8 +60,7 @@ pub(crate) fn asked(words: &[Word]) -> Option<Request<'_>>
                 && is_file_word(problem)
                 && is_file_word(written_domain)
                 && is_file_word(written_problem)
-                && written_domain.bytes() != written_problem.bytes() =>
-        {
+                && written_domain.bytes() != written_problem.bytes() => {
             Some(Request::Compile {
                 domain,
                 problem,
@@ -86,7 +85,14 @@ impl<'a> Request<'a> {
         ensures { IfOk result (λ all. asked_inputs all.items ≡ inputs (asked_request self.now)) }
     {
         match self {
-            Request::Compile { domain, problem, .. } => Ok(vec![in alloc; source(Role::Domain, domain), source(Role::Problem, problem)]?),
+            Request::Compile {
+                domain,
+                problem,
+                ..
+            } => Ok(vec![in alloc;
+                source(Role::Domain, domain),
+                source(Role::Problem, problem),
+            ]?),
         }
     }
 }

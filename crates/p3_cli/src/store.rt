@@ -40,11 +40,7 @@ pub(crate) fn read_all<F: Files>(
 }
 
 /// Reads an input.
-fn read_one<F: Files>(
-    alloc: Global,
-    files: &mut F,
-    input: &Input<'_>,
-) -> Result<Vec<u8>, Ending>
+fn read_one<F: Files>(alloc: Global, files: &mut F, input: &Input<'_>) -> Result<Vec<u8>, Ending>
     requires { IsTrue (F.sure files.old) → IsNamed (F.held files.old) input.now.name.now }
     ensures ok { IfOk result (λ text. ReadsAll (F.held files.old) (asked_input input.now ∷ []) (text.items ∷ [])) }
     ensures within { IfOk result (λ text. length text.items ≤ input.now.limit) }

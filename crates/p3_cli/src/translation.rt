@@ -29,11 +29,7 @@ pub(crate) struct Translation {
 }
 
 /// Translates the task that the two texts spell.
-pub(crate) fn translate(
-    alloc: Global,
-    domain: &[u8],
-    problem: &[u8],
-) -> Result<Translation, Ending>
+pub(crate) fn translate(alloc: Global, domain: &[u8], problem: &[u8]) -> Result<Translation, Ending>
     requires domain_short { length domain.now ≤ 16777216 }
     requires problem_short { length problem.now ≤ 16777216 }
     ensures ok { IfOk result (λ made. IsTranslation domain.now problem.now made.domain.items made.problem.items made.report.items) }

@@ -1,5 +1,4 @@
 use Rattle.std.proofs.Common.{◌≡◌, ◌++◌, take}
-use Rattle.std.specs.List.{flat_map}
 use Rattle.p3_cli.specs.Layout as layout
 use Rattle.p3_cli.proofs.layout.push_parts.Given as goal
 
