@@ -6,6 +6,7 @@ pub mod Erased
 pub mod Folds
 pub mod Formulas
 pub mod Goals
+pub mod Grammar
 pub mod Laws
 pub mod Lifting
 pub mod Limits
