@@ -8,5 +8,6 @@ pub mod OffsetLemmas
 pub mod OptimaLemmas
 pub mod PlanLemmas
 pub mod StateLemmas
+pub mod TextLemmas
 pub mod ValidityLemmas
 pub mod Worked

@@ -6,6 +6,7 @@ ghost use Rattle.p3_tree.specs.declared.term.Typed.{Typed};
 ghost use Rattle.p3_tree.specs.declared.formula.Formula.{Formula};
 ghost use Rattle.p3_tree.specs.declared.constraint.Constraint.{Constraint};
 ghost use Rattle.p3_tree.specs.declared.effect.Effect.{Effect};
+ghost use Rattle.p3_tree.specs.declared.expression.Expression.{Expression};
 ghost use Rattle.p3_tree.specs.declared.state.Fact.{Fact};
 ghost use Rattle.p3_tree.specs.declared.task.Task.{Task};
 ghost use Rattle.p3_tree.specs.Names.{Name, object_type};
@@ -16,6 +17,7 @@ ghost use Rattle.p3_tree.specs.Plans.{Plan};
 ghost use Rattle.p3_tree.specs.Validity.{Valid, first_fault};
 ghost use Rattle.p3_tree.specs.Lifting.{lift, Faithful};
 ghost use Rattle.p3_tree.specs.Laws.{Chain, IsCheapest, IsBest, StateCounts, TrajectoryCounts};
+ghost use Rattle.p3_tree.specs.Grammar.Halves.{IsTaskText};
 ghost use Rattle.p3_tree.specs.Erased.{erased};
 ghost use Rattle.p3_tree.specs.Offsets.{OffsetFree};
 ghost use Rattle.p3_tree.specs.Worked.FirstExample.{FirstExample};
@@ -25,6 +27,11 @@ ghost use Rattle.p3_tree.specs.Worked.Preferences.{ATypeMayHaveNoObjects, Counts
 ghost use Rattle.p3_tree.specs.Worked.Steps.{AnInnerVariableHidesAnOuterOne, AnAddWinsOverADelete, TheSecondStepFails};
 ghost use Rattle.p3_tree.specs.Worked.Trajectories.{TheSameStateIsNotBefore, AtMostOnceMeansOneStretch, SometimeAfterMeansThenOrLater};
 ghost use Rattle.p3_tree.specs.Worked.Trucks.{TheDelivery, FaultsOfOneStep};
+
+/// Two expressions are texts of one task at most.
+pub fn one_task_at_most()
+    ensures { (d p : Expression) (T U : Task) → IsTaskText d p T → IsTaskText d p U → T ≡ U }
+{}
 
 /// The order of types is the reflexive and transitive closure of the declared pairs, with `object`
 /// above every type.

@@ -19,7 +19,7 @@ pub use formula::Formula;
 pub use goal::{PreGoal, Pref};
 pub use laws::{
     atoms_of_the_next_state, below_is_the_closure, counts_by_place, offsets_have_no_meaning,
-    optima_are_kept, valid_where_no_fault, worked_cases,
+    one_task_at_most, optima_are_kept, valid_where_no_fault, worked_cases,
 };
 pub use metric::{Metric, Num};
 pub use state::{Binding, Fact};

@@ -1,6 +1,5 @@
 -- Texts of formulas.
-use Rattle.std.specs.Prelude.{not, ◌&&◌, List, [], ◌∷◌, map, codes, if◌then◌else◌, Option, Some, None}
-use Prim.Native.String.{String}
+use Rattle.std.specs.Prelude.{List, [], ◌∷◌, map, codes, Option, Some, None}
 use Rattle.p3_tree.specs.Names.{Name}
 use Rattle.p3_tree.specs.Grammar.Words.{◌>>=◌, Place, Part, descend, raws, all_trees, each_at, only, pair, predicate_place, headed, choose}
 use Rattle.p3_tree.specs.Grammar.Lists.{term_place, variables_place}

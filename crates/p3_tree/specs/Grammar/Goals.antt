@@ -6,7 +6,6 @@ use Rattle.p3_tree.specs.Grammar.Lists.{variables_place}
 use Rattle.p3_tree.specs.Grammar.Formulas.{formula_place}
 use Rattle.p3_tree.specs.declared.expression.Expression.{Expression}
 use Rattle.p3_tree.specs.declared.term.Ref.{Ref}
-use Rattle.p3_tree.specs.declared.goal.Pref.{Pref}
 use Rattle.p3_tree.specs.declared.goal.PreGoal.{PreGoal}
 use Rattle.p3_tree.specs.declared.goal.PreGoal.TheVariants as goal
 

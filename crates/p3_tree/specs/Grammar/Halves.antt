@@ -1,23 +1,19 @@
 -- Texts of the two halves of a task. Sections, and the parts of an action, stand in any order.
-use Rattle.std.specs.Prelude.{◌==◌, Bool, true, false, List, [], ◌∷◌, map, filter, codes, if◌then◌else◌, Option, Some, None, is_some}
+use Rattle.std.specs.Prelude.{◌==◌, Bool, false, List, [], ◌∷◌, map, filter, codes, if◌then◌else◌, Option, Some, None}
 use Rattle.std.specs.List.{list_all}
 use Rattle.p3_tree.specs.Names.{Name, same_name, has_name}
 use Rattle.p3_tree.specs.Grammar.Words.{◌>>=◌, Place, IsText, each_at, only, pair, word_place, parts_place, name_place, predicate_place, function_place, numeral_place, word_if, is_word, headed, choose}
-use Rattle.p3_tree.specs.Grammar.Lists.{object_place, grouped, typed_item, variables_in, variables_place, objects_in}
+use Rattle.p3_tree.specs.Grammar.Lists.{object_place, grouped, variables_in, variables_place, objects_in}
 use Rattle.p3_tree.specs.Grammar.Effects.{effect_or_empty_place}
 use Rattle.p3_tree.specs.Grammar.Goals.{goal_or_empty_place}
 use Rattle.p3_tree.specs.Grammar.Constraints.{constraint_or_empty_place}
 use Rattle.p3_tree.specs.Grammar.Metrics.{metric_in}
 use Rattle.p3_tree.specs.declared.expression.Expression.{Expression}
 use Rattle.p3_tree.specs.declared.term.Ref.{Ref}
-use Rattle.p3_tree.specs.declared.term.Typed.{Typed}
-use Rattle.p3_tree.specs.declared.effect.Effect.{Effect}
 use Rattle.p3_tree.specs.declared.effect.Effect.TheVariants as effect
-use Rattle.p3_tree.specs.declared.goal.PreGoal.{PreGoal}
 use Rattle.p3_tree.specs.declared.goal.PreGoal.TheVariants as goal
 use Rattle.p3_tree.specs.declared.constraint.Constraint.{Constraint}
 use Rattle.p3_tree.specs.declared.constraint.Constraint.TheVariants as constraint
-use Rattle.p3_tree.specs.declared.metric.Metric.{Metric}
 use Rattle.p3_tree.specs.declared.task.Part.{Part}
 use Rattle.p3_tree.specs.declared.task.Kind.{Kind}
 use Rattle.p3_tree.specs.declared.task.Header.{Header}

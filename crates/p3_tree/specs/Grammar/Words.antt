@@ -1,5 +1,5 @@
 -- Words, lists and places of the grammar. A place gives the tree of each of its texts, so that a text has one tree at most.
-use Rattle.std.specs.Prelude.{◌≡◌, ℕ, ◌+◌, ◌-◌, ◌*◌, ◌==◌, nat_le, nat_lt, Bool, true, false, not, ◌&&◌, List, [], ◌∷◌, map, fold, length, codes, if◌then◌else◌, Option, Some, None}
+use Rattle.std.specs.Prelude.{◌≡◌, ℕ, ◌+◌, ◌-◌, ◌*◌, ◌==◌, nat_le, Bool, false, not, ◌&&◌, List, [], ◌∷◌, map, fold, length, codes, if◌then◌else◌, Option, Some, None}
 use Rattle.std.specs.List.{list_all}
 use mathlib.Core.Former.{Count}
 use Rattle.p3_tree.specs.Names.{Name, same_name, has_name, total_cost}
