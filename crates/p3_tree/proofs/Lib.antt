@@ -5,6 +5,7 @@ pub mod Erased
 pub mod FoldLemmas
 pub mod MeaningLemmas
 pub mod OffsetLemmas
+pub mod OneInstance
 pub mod OptimaLemmas
 pub mod PlanLemmas
 pub mod StateLemmas

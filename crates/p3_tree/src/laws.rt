@@ -20,7 +20,7 @@ ghost use Rattle.p3_tree.specs.Laws.{Chain, IsCheapest, IsBest, StateCounts, Tra
 ghost use Rattle.p3_tree.specs.Grammar.Halves.{IsTaskText};
 ghost use Rattle.p3_tree.specs.Erased.{erased};
 ghost use Rattle.p3_tree.specs.Offsets.{OffsetFree};
-ghost use Rattle.p3_tree.specs.Worked.FirstExample.{FirstExample};
+ghost use Rattle.p3_tree.specs.Worked.FirstExample.{read, written, FirstExample};
 ghost use Rattle.p3_tree.specs.Worked.Limits.{CountsForLimits};
 ghost use Rattle.p3_tree.specs.Worked.Offences.{DomainOffences, ProblemOffences};
 ghost use Rattle.p3_tree.specs.Worked.Preferences.{ATypeMayHaveNoObjects, CountsOfOneNameAdd, GreatValuesMayBeBetter};
@@ -66,6 +66,11 @@ pub fn optima_are_kept()
 pub fn offsets_have_no_meaning()
     ensures definitions { (T : Task) → OffsetFree T }
     ensures faithful { (T U : Task) → Faithful (erased T) (erased U) ↔ Faithful T U }
+{}
+
+/// What is written for the first example is a faithful translation of it.
+pub fn first_example_is_faithful()
+    ensures { Faithful read written }
 {}
 
 /// What small tasks mean.
