@@ -4,6 +4,7 @@ pub mod CountLemmas
 pub mod Erased
 pub mod FoldLemmas
 pub mod MeaningLemmas
+pub mod OffenceLemmas
 pub mod OffsetLemmas
 pub mod OneInstance
 pub mod OptimaLemmas

@@ -3,6 +3,7 @@ pub mod Constraints
 pub mod Costs
 pub mod Effects
 pub mod Erased
+pub mod FirstOffence
 pub mod Folds
 pub mod Formulas
 pub mod Goals

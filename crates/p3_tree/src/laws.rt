@@ -15,6 +15,8 @@ ghost use Rattle.p3_tree.specs.States.{State, Environment, has_fact};
 ghost use Rattle.p3_tree.specs.Effects.{adds, dels, next};
 ghost use Rattle.p3_tree.specs.Plans.{Plan};
 ghost use Rattle.p3_tree.specs.Validity.{Valid, first_fault};
+ghost use Rattle.p3_tree.specs.Offences.{WellFormed};
+ghost use Rattle.p3_tree.specs.FirstOffence.{first_offence};
 ghost use Rattle.p3_tree.specs.Lifting.{lift, Faithful};
 ghost use Rattle.p3_tree.specs.Laws.{Chain, IsCheapest, IsBest, StateCounts, TrajectoryCounts};
 ghost use Rattle.p3_tree.specs.Grammar.Halves.{IsTaskText};
@@ -42,6 +44,11 @@ pub fn below_is_the_closure()
 /// An atom is in the next state exactly where it is added, or was there and is not deleted.
 pub fn atoms_of_the_next_state()
     ensures { (T : Task) (s : State) (env : Environment) (e : Effect) (fact : Fact) → has_fact (next T s env e) fact ≡ (has_fact (adds T s env e) fact || (has_fact s fact && not (has_fact (dels T s env e) fact))) }
+{}
+
+/// A task is well-formed exactly where it has no first offence.
+pub fn well_formed_where_no_offence()
+    ensures { (T : Task) → WellFormed T ↔ (first_offence T ≡ None) }
 {}
 
 /// A plan is valid exactly where it has no first fault.
