@@ -1,2 +1,4 @@
+pub mod Memory
+pub mod Outside
 pub mod Place
 pub mod formers

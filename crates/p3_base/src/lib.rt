@@ -4,14 +4,29 @@
 
 mod boxed;
 mod error;
+mod files;
 mod list;
+mod mem_files;
+mod mem_sink;
 mod name;
 mod place;
+mod real_files;
+mod real_sink;
 mod refusal;
+mod shelf;
+mod sink;
+mod sure;
 
 pub use boxed::Boxed;
 pub use error::{NoMemory, ReadFault, SinkFailed, WriteFault};
+pub use files::Files;
 pub use list::List;
+pub use mem_files::MemFiles;
+pub use mem_sink::MemSink;
 pub use name::{Name, Word};
 pub use place::line_column;
+pub use real_files::RealFiles;
+pub use real_sink::RealSink;
 pub use refusal::{Code, Direction, Pos, Refusal, Role, Side};
+pub use sink::Sink;
+pub use sure::{SureFiles, SureSink};

@@ -65,6 +65,14 @@ impl<T> List<T> {
     }
 }
 
+impl<T> From<Vec<T>> for List<T> {
+    ghost from_gives = { λ items list. list ≡ items.items };
+
+    fn from(items: Vec<T>) -> List<T> {
+        List { items }
+    }
+}
+
 impl<T: Drop> List<T> {
     /// Puts an item at the end. After a refusal the list is unchanged and the item is dropped.
     pub fn push(&mut self, item: T) -> Result<(), NoMemory>

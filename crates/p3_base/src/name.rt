@@ -75,6 +75,14 @@ impl Word {
         Ok(Word { bytes })
     }
 
+    /// The bytes, out of the word.
+    pub(crate) fn into_bytes(self) -> Vec<u8>
+        ensures { result.items ≡ self }
+    {
+        let Word { bytes } = self;
+        bytes
+    }
+
     /// The bytes as they were given.
     pub fn bytes(&self) -> &[u8]
         ensures { result.now ≡ self.now }

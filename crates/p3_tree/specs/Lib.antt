@@ -3,6 +3,7 @@ pub mod Constraints
 pub mod Costs
 pub mod Effects
 pub mod Erased
+pub mod Expressions
 pub mod FirstOffence
 pub mod Folds
 pub mod Formulas
@@ -17,6 +18,8 @@ pub mod Offences
 pub mod Offsets
 pub mod Plans
 pub mod States
+pub mod Tiny
+pub mod Tokens
 pub mod Types
 pub mod Uses
 pub mod Validity

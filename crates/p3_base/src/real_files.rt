@@ -1,0 +1,122 @@
+//! The files of the machine.
+
+ghost use Rattle.std.specs.Prelude.{◌≡◌, ◌+◌, ◌≤◌, ◌<◌, [], None, false, length, OnOk, IsErrOf, ◌≢◌, Err};
+
+use crate::{Files, ReadFault, Word, WriteFault};
+use std::alloc::Global;
+use std::io::{Read, Write};
+use std::{fs, rt};
+
+/// How many bytes one read asks for at the most.
+const PIECE: usize = 1 << 18;
+
+/// The files of the machine. They tell nothing of what they hold.
+#[derive(Drop)]
+pub struct RealFiles<'r, R: rt::Files> {
+    runtime: &'r R,
+    read_faults: u64,
+    write_faults: u64,
+}
+
+impl<'r, R: rt::Files> RealFiles<'r, R> {
+    /// The files that the runtime reaches.
+    pub fn new(runtime: &'r R) -> RealFiles<'r, R> {
+        RealFiles {
+            runtime,
+            read_faults: 0,
+            write_faults: 0,
+        }
+    }
+}
+
+impl<'r, R: rt::Files> Files for RealFiles<'r, R> {
+    ghost held = { λ _. None };
+
+    ghost sure = { λ _. false };
+
+    ghost read_faults = { λ files. files.read_faults };
+
+    ghost write_faults = { λ files. files.write_faults };
+
+    fn read(
+        &mut self,
+        alloc: Global,
+        name: &Word,
+        limit: u32,
+        into: &mut Vec<u8>,
+    ) -> Result<(), ReadFault> {
+        into.clear();
+        let answer = read_file(self.runtime, alloc, name.bytes(), limit as usize, into);
+        if let Err(ReadFault::Failed) = answer {
+            self.read_faults = self.read_faults.saturating_add(1);
+        }
+        answer
+    }
+
+    fn write(&mut self, alloc: Global, name: &Word, bytes: &[u8]) -> Result<(), WriteFault> {
+        let answer = write_file(self.runtime, name.bytes(), bytes);
+        if answer.is_err() {
+            self.write_faults = self.write_faults.saturating_add(1);
+        }
+        answer
+    }
+
+    ghost sure_tells = { λ store sure. sure };
+}
+
+/// Reads at most `limit` bytes and one more.
+fn read_file<R: rt::Files>(
+    runtime: &R,
+    alloc: Global,
+    name: &[u8],
+    limit: usize,
+    into: &mut Vec<u8>,
+) -> Result<(), ReadFault>
+    requires empty { into.old.items ≡ [] }
+    requires limited { limit < 4294967296 }
+    ensures within_limit { OnOk result (length into.new.items ≤ limit) }
+    ensures too_long { IsErrOf result ReadFault.TooLong → length into.new.items ≡ limit + 1 }
+{
+    let Ok(path) = str::from_utf8(name) else {
+        return Err(ReadFault::Failed);
+    };
+    let Ok(mut file) = fs::open(runtime, path) else {
+        return Err(ReadFault::Failed);
+    };
+    let Ok(mut piece) = Vec::from_elem(alloc, 0u8, PIECE) else {
+        return Err(ReadFault::NoMemory);
+    };
+    while into.len() <= limit {
+        let room = (limit + 1 - into.len()).min(PIECE);
+        let Ok(count) = file.read(&mut piece[..room]) else {
+            return Err(ReadFault::Failed);
+        };
+        if count == 0 {
+            return Ok(());
+        }
+        let Ok(()) = into.extend_from_slice(&piece[..count]) else {
+            return Err(ReadFault::NoMemory);
+        };
+    }
+    Err(ReadFault::TooLong)
+}
+
+/// Writes all bytes. A write that takes nothing is a fault.
+fn write_file<R: rt::Files>(runtime: &R, name: &[u8], bytes: &[u8]) -> Result<(), WriteFault>
+    ensures { result ≢ Err WriteFault.NoMemory }
+{
+    let Ok(path) = str::from_utf8(name) else {
+        return Err(WriteFault::Failed);
+    };
+    let Ok(mut file) = fs::create(runtime, path) else {
+        return Err(WriteFault::Failed);
+    };
+    let mut rest = bytes;
+    while !rest.is_empty() {
+        match file.write(rest) {
+            Ok(count) if count > 0 => rest = &rest[count..],
+            _ => return Err(WriteFault::Failed),
+        }
+    }
+    Ok(())
+}

@@ -1,0 +1,40 @@
+//! Standard output.
+
+ghost use Rattle.std.specs.Prelude.{None};
+
+use crate::{Sink, SinkFailed};
+use std::io::Print;
+
+/// Standard output. It tells nothing of what it was given.
+#[derive(Drop)]
+pub struct RealSink<'r, R: Print> {
+    runtime: &'r R,
+    faults: u64,
+}
+
+impl<'r, R: Print> RealSink<'r, R> {
+    /// The standard output that the runtime reaches.
+    pub fn new(runtime: &'r R) -> RealSink<'r, R> {
+        RealSink { runtime, faults: 0 }
+    }
+}
+
+impl<'r, R: Print> Sink for RealSink<'r, R> {
+    ghost written = { λ _. None };
+
+    ghost faults = { λ sink. sink.faults };
+
+    fn put(&mut self, bytes: &[u8]) -> Result<(), SinkFailed> {
+        let mut rest = bytes;
+        while !rest.is_empty() {
+            match self.runtime.write_some(rest) {
+                Ok(count) if count > 0 => rest = &rest[count..],
+                _ => {
+                    self.faults = self.faults.saturating_add(1);
+                    return Err(SinkFailed);
+                }
+            }
+        }
+        Ok(())
+    }
+}

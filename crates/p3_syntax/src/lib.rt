@@ -1,0 +1,11 @@
+//! Reads the domain half and the problem half of a task.
+#![tactic(auto)]
+
+mod domain;
+mod error;
+mod problem;
+mod read;
+mod word;
+
+pub use error::ReadFail;
+pub use read::{read_domain, read_problem};
