@@ -1,17 +1,22 @@
 -- A pair of texts has one task at most.
-use Rattle.std.proofs.Common.{◌≡◌, ◌∙◌, sym, Some}
+use Rattle.std.proofs.Common.{◌≡◌, ◌∙◌, sym, subst, ℕ, List, Some}
+use Rattle.p3_tree.specs.Tokens.{tokens_of}
 use Rattle.p3_tree.specs.Grammar.Words.{Place, IsText}
-use Rattle.p3_tree.specs.Grammar.Halves.{domain_place, problem_place, IsTaskText}
+use Rattle.p3_tree.specs.Grammar.Halves.{domain_place, problem_place}
+use Rattle.p3_tree.specs.Grammar.Texts.{IsBalanced, Reads}
+use Rattle.p3_tree.proofs.SpellingLemmas.{one_expression_at_most}
 use Rattle.p3_tree.specs.declared.expression.Expression.{Expression}
 use Rattle.p3_tree.specs.declared.task.Task.{Task}
 
-pub one_tree_at_most : {A : Type 0} (place : Place A) (e : Expression) (first second : A) → IsText place e first → IsText place e second → first ≡ second
-one_tree_at_most place e first second reads others =
-    let same : Some first ≡ Some second = sym reads ∙ others in
+-- of a text at a place
+one_tree_at_most : {A : Type 0} (place : Place A) (text : List ℕ) (e f : Expression) (first second : A) → IsBalanced text e → IsBalanced text f → IsText place e first → IsText place f second → first ≡ second
+one_tree_at_most place text e f first second balanced others reads read =
+    let one : e ≡ f = one_expression_at_most (tokens_of text).tokens e f balanced.spelled others.spelled in
+    let same : Some first ≡ Some second = sym (subst (λ expression. place expression ≡ Some first) one reads) ∙ read in
     cc
 
-pub one_task_at_most : (d p : Expression) (T U : Task) → IsTaskText d p T → IsTaskText d p U → T ≡ U
+pub one_task_at_most : (d p : List ℕ) (T U : Task) → Reads d p T → Reads d p U → T ≡ U
 one_task_at_most d p T U reads others = λ i. record {
-  domain = one_tree_at_most domain_place d T.domain U.domain reads.domain others.domain i;
-  problem = one_tree_at_most problem_place p T.problem U.problem reads.problem others.problem i;
+  domain = one_tree_at_most domain_place d reads.domain others.domain T.domain U.domain reads.domain_balanced others.domain_balanced reads.texts.domain others.texts.domain i;
+  problem = one_tree_at_most problem_place p reads.problem others.problem T.problem U.problem reads.problem_balanced others.problem_balanced reads.texts.problem others.texts.problem i;
 }

@@ -5,4 +5,5 @@ pub mod Goals
 pub mod Halves
 pub mod Lists
 pub mod Metrics
+pub mod Texts
 pub mod Words

@@ -6,7 +6,6 @@ ghost use Rattle.p3_tree.specs.declared.term.Typed.{Typed};
 ghost use Rattle.p3_tree.specs.declared.formula.Formula.{Formula};
 ghost use Rattle.p3_tree.specs.declared.constraint.Constraint.{Constraint};
 ghost use Rattle.p3_tree.specs.declared.effect.Effect.{Effect};
-ghost use Rattle.p3_tree.specs.declared.expression.Expression.{Expression};
 ghost use Rattle.p3_tree.specs.declared.state.Fact.{Fact};
 ghost use Rattle.p3_tree.specs.declared.task.Task.{Task};
 ghost use Rattle.p3_tree.specs.Names.{Name, object_type};
@@ -19,7 +18,7 @@ ghost use Rattle.p3_tree.specs.Offences.{WellFormed};
 ghost use Rattle.p3_tree.specs.FirstOffence.{first_offence};
 ghost use Rattle.p3_tree.specs.Lifting.{lift, Faithful};
 ghost use Rattle.p3_tree.specs.Laws.{Chain, IsCheapest, IsBest, StateCounts, TrajectoryCounts};
-ghost use Rattle.p3_tree.specs.Grammar.Halves.{IsTaskText};
+ghost use Rattle.p3_tree.specs.Grammar.Texts.{Reads};
 ghost use Rattle.p3_tree.specs.Erased.{erased};
 ghost use Rattle.p3_tree.specs.Offsets.{OffsetFree};
 ghost use Rattle.p3_tree.specs.Worked.FirstExample.{read, written, FirstExample};
@@ -27,12 +26,13 @@ ghost use Rattle.p3_tree.specs.Worked.Limits.{CountsForLimits};
 ghost use Rattle.p3_tree.specs.Worked.Offences.{DomainOffences, ProblemOffences};
 ghost use Rattle.p3_tree.specs.Worked.Preferences.{ATypeMayHaveNoObjects, CountsOfOneNameAdd, GreatValuesMayBeBetter};
 ghost use Rattle.p3_tree.specs.Worked.Steps.{AnInnerVariableHidesAnOuterOne, AnAddWinsOverADelete, TheSecondStepFails};
+ghost use Rattle.p3_tree.specs.Worked.Texts.{TextsOfTasks, TextsOfNoTask};
 ghost use Rattle.p3_tree.specs.Worked.Trajectories.{TheSameStateIsNotBefore, AtMostOnceMeansOneStretch, SometimeAfterMeansThenOrLater};
 ghost use Rattle.p3_tree.specs.Worked.Trucks.{TheDelivery, FaultsOfOneStep};
 
-/// Two expressions are texts of one task at most.
+/// A pair of texts has one task at most.
 pub fn one_task_at_most()
-    ensures { (d p : Expression) (T U : Task) → IsTaskText d p T → IsTaskText d p U → T ≡ U }
+    ensures { (d p : List ℕ) (T U : Task) → Reads d p T → Reads d p U → T ≡ U }
 {}
 
 /// The order of types is the reflexive and transitive closure of the declared pairs, with `object`
@@ -97,4 +97,6 @@ pub fn worked_cases()
     ensures domain_offences { DomainOffences }
     ensures problem_offences { ProblemOffences }
     ensures limits { CountsForLimits }
+    ensures texts { TextsOfTasks }
+    ensures refused { TextsOfNoTask }
 {}
