@@ -21,6 +21,15 @@ use Rattle.p3_tree.specs.Uses.{formula_uses, effect_uses, goal_uses, constraint_
 use Rattle.p3_tree.specs.Offences.{domain_duplicates, problem_duplicates, goal_names, constraint_names, preference_names, domain_unknowns, problem_unknowns, domain_miscounts, problem_miscounts, domain_clashes, problem_clashes}
 use Rattle.p3_tree.specs.Lifting.{constrains, prefers, is_plain, is_formula_free, is_effect_free, is_goal_free, is_constraint_free, is_variable_free, steps, lifted_step, lift}
 use Rattle.p3_tree.specs.Limits.{binding_count, formula_size, effect_size, goal_size, constraint_size, width, cost_bound}
+use Rattle.p3_tree.specs.declared.expression.Expression.TheBlock.{hidden-the_row-Expression-0, shape-the_row-Expression-0}
+use Rattle.p3_tree.specs.Tokens.{tokens_from}
+use Rattle.p3_tree.specs.Expressions.{expression_of}
+use Rattle.p3_tree.specs.Grammar.Formulas.{formula_place}
+use Rattle.p3_tree.specs.Grammar.Effects.{effect_place}
+use Rattle.p3_tree.specs.Grammar.Goals.{goal_place}
+use Rattle.p3_tree.specs.Grammar.Constraints.{inner_place, constraint_place}
+use Rattle.p3_tree.specs.Grammar.Metrics.{num_place}
+use Rattle.p3_tree.specs.Grammar.Halves.{domain_place, problem_place}
 
 -- the trees
 unfoldable pub trees_compute : Unit {0}
@@ -31,3 +40,8 @@ trees_compute = tt
 unfoldable pub meaning_computes : Unit {0}
 unfolding trees_compute digits below objects start tuples bind are_arguments holds adds dels next hard_holds prefs given_value increases effect_cost action_named step_cost fits state_after visited steps_fit satisfies sat hard_modals hard_list instances_of instances goal_holds is_valid misfit step_fault goal_fault constraint_fault first_fault step_prefs violated cost num_value value loss base_loss weight cost_weight constrains prefers is_plain is_formula_free is_effect_free is_goal_free is_constraint_free is_variable_free steps lifted_step lift binding_count formula_size effect_size goal_size constraint_size width cost_bound formula_uses effect_uses goal_uses constraint_uses num_uses domain_uses problem_uses domain_duplicates problem_duplicates goal_names constraint_names preference_names domain_unknowns problem_unknowns domain_miscounts problem_miscounts domain_clashes problem_clashes
 meaning_computes = trees_compute
+
+-- texts, their expressions and their trees
+unfoldable pub texts_compute : Unit {0}
+unfolding trees_compute hidden-the_row-Expression-0 shape-the_row-Expression-0 tokens_from expression_of formula_place effect_place goal_place inner_place constraint_place num_place domain_place problem_place
+texts_compute = trees_compute

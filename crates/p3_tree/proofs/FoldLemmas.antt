@@ -1,10 +1,7 @@
--- The folds at each form of a tree, as the program builds and matches it.
-use Rattle.std.proofs.Common.{◌≡◌, ◌∙◌, ℕ, List, ◌∷◌, Option, map, refl, ap}
+-- The folds at a tree that is built from a list of parts. At the other forms they compute.
+use Rattle.std.proofs.Common.{◌≡◌, ◌∙◌, ℕ, List, ◌∷◌, map, refl, ap}
 use mathlib.Core.Former.{Count}
 use Rattle.p3_tree.specs.Folds.{fold_formula, fold_formulas, fold_effect, fold_effects, fold_goal, fold_goals, fold_constraint, fold_constraints, fold_num, fold_nums}
-use Rattle.p3_tree.proofs.Computes.{trees_compute}
-use Rattle.p3_tree.specs.declared.term.Ref.{Ref}
-use Rattle.p3_tree.specs.declared.term.Typed.{Typed}
 use Rattle.p3_tree.specs.declared.formula.Formula.{Formula, Formula-F, Row_of-Formula, end_of-Formula, more_of-Formula, items-the_row-Formula, items_hidden-the_row-Formula-0}
 use Rattle.p3_tree.specs.declared.formula.Formula.TheBlock.{hidden-the_row-Formula-0}
 use Rattle.p3_tree.specs.declared.formula.Formula.TheVariants as formula
@@ -40,22 +37,6 @@ module _ {A : Type 0} (layer : Formula-F A → A) where
   pub fold_formula-Or : (parts : List Formula) → fold_formula layer (formula.Or parts) ≡ layer (formula_layer.Or (map (fold_formula layer) parts))
   fold_formula-Or parts = ap (λ results. layer (formula_layer.Or results)) (hidden_formulas parts)
 
-  pub fold_formula-Not : (part : Formula) → fold_formula layer (formula.Not part) ≡ layer (formula_layer.Not (fold_formula layer part))
-  unfolding trees_compute
-  fold_formula-Not part = refl
-
-  pub fold_formula-Imply : (first second : Formula) → fold_formula layer (formula.Imply first second) ≡ layer (formula_layer.Imply (fold_formula layer first) (fold_formula layer second))
-  unfolding trees_compute
-  fold_formula-Imply first second = refl
-
-  pub fold_formula-Exists : (variables : List Typed) (part : Formula) → fold_formula layer (formula.Exists variables part) ≡ layer (formula_layer.Exists variables (fold_formula layer part))
-  unfolding trees_compute
-  fold_formula-Exists variables part = refl
-
-  pub fold_formula-Forall : (variables : List Typed) (part : Formula) → fold_formula layer (formula.Forall variables part) ≡ layer (formula_layer.Forall variables (fold_formula layer part))
-  unfolding trees_compute
-  fold_formula-Forall variables part = refl
-
 module _ {A : Type 0} (layer : Effect-F A → A) where
   row_effects : {n : Count} (row : Row_of-Effect n) → fold_effects layer row ≡ map (fold_effect layer) (items-the_row-Effect n row)
   row_effects end_of-Effect = refl
@@ -66,14 +47,6 @@ module _ {A : Type 0} (layer : Effect-F A → A) where
 
   pub fold_effect-All : (parts : List Effect) → fold_effect layer (effect.All parts) ≡ layer (effect_layer.All (map (fold_effect layer) parts))
   fold_effect-All parts = ap (λ results. layer (effect_layer.All results)) (hidden_effects parts)
-
-  pub fold_effect-Each : (variables : List Typed) (part : Effect) → fold_effect layer (effect.Each variables part) ≡ layer (effect_layer.Each variables (fold_effect layer part))
-  unfolding trees_compute
-  fold_effect-Each variables part = refl
-
-  pub fold_effect-If : (condition : Formula) (part : Effect) → fold_effect layer (effect.If condition part) ≡ layer (effect_layer.If condition (fold_effect layer part))
-  unfolding trees_compute
-  fold_effect-If condition part = refl
 
 module _ {A : Type 0} (layer : PreGoal-F A → A) where
   row_goals : {n : Count} (row : Row_of-PreGoal n) → fold_goals layer row ≡ map (fold_goal layer) (items-the_row-PreGoal n row)
@@ -86,10 +59,6 @@ module _ {A : Type 0} (layer : PreGoal-F A → A) where
   pub fold_goal-Both : (parts : List PreGoal) → fold_goal layer (goal.Both parts) ≡ layer (goal_layer.Both (map (fold_goal layer) parts))
   fold_goal-Both parts = ap (λ results. layer (goal_layer.Both results)) (hidden_goals parts)
 
-  pub fold_goal-Each : (variables : List Typed) (part : PreGoal) → fold_goal layer (goal.Each variables part) ≡ layer (goal_layer.Each variables (fold_goal layer part))
-  unfolding trees_compute
-  fold_goal-Each variables part = refl
-
 module _ {A : Type 0} (layer : Constraint-F A → A) where
   row_constraints : {n : Count} (row : Row_of-Constraint n) → fold_constraints layer row ≡ map (fold_constraint layer) (items-the_row-Constraint n row)
   row_constraints end_of-Constraint = refl
@@ -101,14 +70,6 @@ module _ {A : Type 0} (layer : Constraint-F A → A) where
   pub fold_constraint-Both : (parts : List Constraint) → fold_constraint layer (constraint.Both parts) ≡ layer (constraint_layer.Both (map (fold_constraint layer) parts))
   fold_constraint-Both parts = ap (λ results. layer (constraint_layer.Both results)) (hidden_constraints parts)
 
-  pub fold_constraint-Each : (variables : List Typed) (part : Constraint) → fold_constraint layer (constraint.Each variables part) ≡ layer (constraint_layer.Each variables (fold_constraint layer part))
-  unfolding trees_compute
-  fold_constraint-Each variables part = refl
-
-  pub fold_constraint-Soft : (at : ℕ) (name : Option Ref) (part : Constraint) → fold_constraint layer (constraint.Soft at name part) ≡ layer (constraint_layer.Soft at name (fold_constraint layer part))
-  unfolding trees_compute
-  fold_constraint-Soft at name part = refl
-
 module _ {A : Type 0} (layer : Num-F A → A) where
   row_nums : {n : Count} (row : Row_of-Num n) → fold_nums layer row ≡ map (fold_num layer) (items-the_row-Num n row)
   row_nums end_of-Num = refl
@@ -116,14 +77,6 @@ module _ {A : Type 0} (layer : Num-F A → A) where
 
   hidden_nums : (parts : List Num) → fold_nums layer (hidden-the_row-Num-1 parts) ≡ map (fold_num layer) parts
   hidden_nums parts = row_nums (hidden-the_row-Num-1 parts) ∙ ap (map (fold_num layer)) (items_hidden-the_row-Num-1 parts)
-
-  pub fold_num-Neg : (at : ℕ) (part : Num) → fold_num layer (num.Neg at part) ≡ layer (num_layer.Neg at (fold_num layer part))
-  unfolding trees_compute
-  fold_num-Neg at part = refl
-
-  pub fold_num-Sub : (at : ℕ) (first second : Num) → fold_num layer (num.Sub at first second) ≡ layer (num_layer.Sub at (fold_num layer first) (fold_num layer second))
-  unfolding trees_compute
-  fold_num-Sub at first second = refl
 
   pub fold_num-Sum : (at : ℕ) (parts : List Num) → fold_num layer (num.Sum at parts) ≡ layer (num_layer.Sum at (map (fold_num layer) parts))
   fold_num-Sum at parts = ap (λ results. layer (num_layer.Sum at results)) (hidden_nums parts)

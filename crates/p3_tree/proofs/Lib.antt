@@ -4,9 +4,13 @@ pub mod CountLemmas
 pub mod Erased
 pub mod FoldLemmas
 pub mod MeaningLemmas
+pub mod OffenceLemmas
 pub mod OffsetLemmas
+pub mod OneInstance
 pub mod OptimaLemmas
 pub mod PlanLemmas
+pub mod SpellingLemmas
 pub mod StateLemmas
+pub mod TextLemmas
 pub mod ValidityLemmas
 pub mod Worked

@@ -1,11 +1,11 @@
 -- A plan walked step by step, for inductions: the definitions range over the whole list of visited states.
-use Rattle.std.proofs.Common.{◌≡◌, ◌∙◌, ℕ, ◌+◌, ◌-◌, suc, refl, sym, ap, Bool, true, ◌&&◌, List, [], ◌∷◌, length, get_or, arith}
+use Rattle.std.proofs.Common.{◌≡◌, ◌∙◌, ℕ, ◌+◌, ◌-◌, suc, refl, ap, Bool, true, ◌&&◌, [], ◌∷◌, length, get_or, arith}
 use Rattle.std.specs.Prelude.{zip, sum_by, unwrap_or}
 use Rattle.std.specs.List.{list_all}
 use Rattle.std.proofs.lemmas.List.Sums.{sum_by-cons}
 use Rattle.p3_tree.specs.Names.{Name}
 use Rattle.p3_tree.specs.States.{State, start}
-use Rattle.p3_tree.specs.Plans.{Plan, fits, state_after, step_cost, visited, visited_from, last_state, moves, steps_fit}
+use Rattle.p3_tree.specs.Plans.{Plan, fits, state_after, step_cost, visited, visited_from, last_state, steps_fit}
 use Rattle.p3_tree.specs.Costs.{initial_cost}
 use Rattle.p3_tree.specs.Constraints.{instances}
 use Rattle.p3_tree.specs.Metrics.{false_in, step_prefs, unsatisfied, violated, cost}

@@ -1,5 +1,5 @@
 -- Facts and states: when two facts are the same, and which facts the next state has.
-use Rattle.std.proofs.Common.{◌≡◌, ◌∙◌, refl, ap, Bool, true, false, not, ◌&&◌, ◌||◌, List, [], ◌∷◌, cond}
+use Rattle.std.proofs.Common.{◌≡◌, ◌∙◌, refl, ap, Bool, true, false, not, ◌&&◌, ◌||◌, List, [], ◌∷◌, ◌++◌, cond}
 use Rattle.std.specs.Prelude.{filter}
 use Rattle.std.specs.Bool.{Decides}
 use Rattle.std.specs.Cmp.Lexicographic.{pointwise_decides}
@@ -44,6 +44,9 @@ has_fact-filter gone (fact ∷ s) other =
     ∙ ap (λ rest. (not (has_fact gone fact) && same_fact fact other) || rest) (has_fact-filter gone s other)
     ∙ two_ways (not (has_fact gone fact)) (same_fact fact other) (has_fact s other) (has_fact gone other) (λ e. ap (λ f. not (has_fact gone f)) ((same_fact-Decides fact other).0 e))
 
+pub has_fact-changed : (added gone s : State) (other : Fact) → has_fact (added ++ filter (λ fact. not (has_fact gone fact)) s) other ≡ (has_fact added other || (has_fact s other && not (has_fact gone other)))
+has_fact-changed added gone s other = list_any-append (λ fact. same_fact fact other) added (filter (λ fact. not (has_fact gone fact)) s) ∙ ap (λ rest. has_fact added other || rest) (has_fact-filter gone s other)
+
 pub has_fact-next : (T : Task) (s : State) (env : Environment) (e : Effect) (fact : Fact) → has_fact (next T s env e) fact ≡ (has_fact (adds T s env e) fact || (has_fact s fact && not (has_fact (dels T s env e) fact)))
 unfolding next
-has_fact-next T s env e fact = list_any-append (λ other. same_fact other fact) (adds T s env e) (filter (λ f. not (has_fact (dels T s env e) f)) s) ∙ ap (λ rest. has_fact (adds T s env e) fact || rest) (has_fact-filter (dels T s env e) s fact)
+has_fact-next T s env e fact = has_fact-changed (adds T s env e) (dels T s env e) s fact

@@ -4,9 +4,11 @@ pub mod Costs
 pub mod Effects
 pub mod Erased
 pub mod Expressions
+pub mod FirstOffence
 pub mod Folds
 pub mod Formulas
 pub mod Goals
+pub mod Grammar
 pub mod Laws
 pub mod Lifting
 pub mod Limits

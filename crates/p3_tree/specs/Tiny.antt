@@ -14,7 +14,6 @@ use Rattle.p3_tree.specs.declared.formula.Formula.{Formula, out-Formula}
 use Rattle.p3_tree.specs.declared.formula.Formula.TheOpen.{Formula-F}
 use Rattle.p3_tree.specs.declared.goal.PreGoal.{PreGoal, out-PreGoal}
 use Rattle.p3_tree.specs.declared.goal.PreGoal.TheOpen.{PreGoal-F}
-use Rattle.p3_tree.specs.declared.goal.Pref.{Pref}
 use Rattle.p3_tree.specs.declared.metric.Metric.{Metric}
 use Rattle.p3_tree.specs.declared.metric.Num.{Num, out-Num}
 use Rattle.p3_tree.specs.declared.metric.Num.TheOpen.{Num-F}

@@ -4,5 +4,6 @@ pub mod Limits
 pub mod Offences
 pub mod Preferences
 pub mod Steps
+pub mod Texts
 pub mod Trajectories
 pub mod Trucks

@@ -14,17 +14,26 @@ ghost use Rattle.p3_tree.specs.States.{State, Environment, has_fact};
 ghost use Rattle.p3_tree.specs.Effects.{adds, dels, next};
 ghost use Rattle.p3_tree.specs.Plans.{Plan};
 ghost use Rattle.p3_tree.specs.Validity.{Valid, first_fault};
+ghost use Rattle.p3_tree.specs.Offences.{WellFormed};
+ghost use Rattle.p3_tree.specs.FirstOffence.{first_offence};
 ghost use Rattle.p3_tree.specs.Lifting.{lift, Faithful};
 ghost use Rattle.p3_tree.specs.Laws.{Chain, IsCheapest, IsBest, StateCounts, TrajectoryCounts};
+ghost use Rattle.p3_tree.specs.Grammar.Texts.{Reads};
 ghost use Rattle.p3_tree.specs.Erased.{erased};
 ghost use Rattle.p3_tree.specs.Offsets.{OffsetFree};
-ghost use Rattle.p3_tree.specs.Worked.FirstExample.{FirstExample};
+ghost use Rattle.p3_tree.specs.Worked.FirstExample.{read, written, FirstExample};
 ghost use Rattle.p3_tree.specs.Worked.Limits.{CountsForLimits};
 ghost use Rattle.p3_tree.specs.Worked.Offences.{DomainOffences, ProblemOffences};
 ghost use Rattle.p3_tree.specs.Worked.Preferences.{ATypeMayHaveNoObjects, CountsOfOneNameAdd, GreatValuesMayBeBetter};
 ghost use Rattle.p3_tree.specs.Worked.Steps.{AnInnerVariableHidesAnOuterOne, AnAddWinsOverADelete, TheSecondStepFails};
+ghost use Rattle.p3_tree.specs.Worked.Texts.{TextsOfTasks, TextsOfNoTask};
 ghost use Rattle.p3_tree.specs.Worked.Trajectories.{TheSameStateIsNotBefore, AtMostOnceMeansOneStretch, SometimeAfterMeansThenOrLater};
 ghost use Rattle.p3_tree.specs.Worked.Trucks.{TheDelivery, FaultsOfOneStep};
+
+/// A pair of texts has one task at most.
+pub fn one_task_at_most()
+    ensures { (d p : List ℕ) (T U : Task) → Reads d p T → Reads d p U → T ≡ U }
+{}
 
 /// The order of types is the reflexive and transitive closure of the declared pairs, with `object`
 /// above every type.
@@ -35,6 +44,11 @@ pub fn below_is_the_closure()
 /// An atom is in the next state exactly where it is added, or was there and is not deleted.
 pub fn atoms_of_the_next_state()
     ensures { (T : Task) (s : State) (env : Environment) (e : Effect) (fact : Fact) → has_fact (next T s env e) fact ≡ (has_fact (adds T s env e) fact || (has_fact s fact && not (has_fact (dels T s env e) fact))) }
+{}
+
+/// A task is well-formed exactly where it has no first offence.
+pub fn well_formed_where_no_offence()
+    ensures { (T : Task) → WellFormed T ↔ (first_offence T ≡ None) }
 {}
 
 /// A plan is valid exactly where it has no first fault.
@@ -61,6 +75,11 @@ pub fn offsets_have_no_meaning()
     ensures faithful { (T U : Task) → Faithful (erased T) (erased U) ↔ Faithful T U }
 {}
 
+/// What is written for the first example is a faithful translation of it.
+pub fn first_example_is_faithful()
+    ensures { Faithful read written }
+{}
+
 /// What small tasks mean.
 pub fn worked_cases()
     ensures first_example { FirstExample }
@@ -78,4 +97,6 @@ pub fn worked_cases()
     ensures domain_offences { DomainOffences }
     ensures problem_offences { ProblemOffences }
     ensures limits { CountsForLimits }
+    ensures texts { TextsOfTasks }
+    ensures refused { TextsOfNoTask }
 {}

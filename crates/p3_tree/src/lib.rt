@@ -18,8 +18,9 @@ pub use expression::Expression;
 pub use formula::Formula;
 pub use goal::{PreGoal, Pref};
 pub use laws::{
-    atoms_of_the_next_state, below_is_the_closure, counts_by_place, offsets_have_no_meaning,
-    optima_are_kept, valid_where_no_fault, worked_cases,
+    atoms_of_the_next_state, below_is_the_closure, counts_by_place, first_example_is_faithful,
+    offsets_have_no_meaning, one_task_at_most, optima_are_kept, valid_where_no_fault,
+    well_formed_where_no_offence, worked_cases,
 };
 pub use metric::{Metric, Num};
 pub use state::{Binding, Fact};

@@ -7,7 +7,8 @@ use Rattle.p3_tree.specs.Worked.Trajectories.{both_at_once, switched, answered, 
 use Rattle.p3_tree.specs.Worked.Trucks.{trucks, delivery, written_delivery, TheDelivery, FaultsOfOneStep}
 use Rattle.p3_tree.specs.Worked.Limits.{hundred_objects, eight_objects, dear, sum_of_three, CountsForLimits}
 use Rattle.p3_tree.specs.Worked.Offences.{with_action, with_problem, DomainOffences, ProblemOffences}
-use Rattle.p3_tree.proofs.Computes.{meaning_computes}
+use Rattle.p3_tree.specs.Worked.Texts.{domain_text, problem_text, TextsOfTasks, TextsOfNoTask}
+use Rattle.p3_tree.proofs.Computes.{meaning_computes, texts_compute}
 
 pub first_example : FirstExample
 unfolding meaning_computes read written
@@ -129,3 +130,11 @@ domain_offences = record { fine = refl; duplicate = refl; unknown = refl; miscou
 pub problem_offences : ProblemOffences
 unfolding meaning_computes with_problem
 problem_offences = record { duplicate = refl; unknown = refl }
+
+pub texts_of_tasks : TextsOfTasks
+unfolding texts_compute domain_text problem_text read written
+texts_of_tasks = record { first_domain = refl; first_problem = refl; written_domain = refl; written_problem = refl; delivery_domain = refl; delivery_problem = refl }
+
+pub texts_of_no_task : TextsOfNoTask
+unfolding texts_compute domain_text problem_text
+texts_of_no_task = record { nested_operator = refl; number_argument = refl; increase_under_when = refl; twice = refl; nested_preference = refl }

@@ -118,9 +118,6 @@ bare_steps names = map (λ name. step name []) names
 abbrev pub no_goal : PreGoal
 no_goal = goal.Both []
 
-abbrev pub no_effect : Effect
-no_effect = effect.All []
-
 abbrev pub no_constraint : Part Constraint
 no_constraint = part (constraint.Both [])
 

@@ -1,0 +1,9 @@
+pub mod Constraints
+pub mod Effects
+pub mod Formulas
+pub mod Goals
+pub mod Halves
+pub mod Lists
+pub mod Metrics
+pub mod Texts
+pub mod Words
