@@ -4,6 +4,8 @@
 #[cfg(test)]
 mod outside;
 #[cfg(test)]
+mod reading;
+#[cfg(test)]
 mod rows;
 #[cfg(test)]
 mod world;

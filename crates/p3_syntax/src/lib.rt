@@ -14,6 +14,3 @@ mod word;
 pub use error::ReadFail;
 pub use formed::declares;
 pub use read::{read_domain, read_problem};
-
-#[cfg(test)]
-mod tests;
