@@ -1,7 +1,7 @@
 -- What follows from how a run ends.
 use Rattle.std.proofs.Common.{◌≡◌, ◌∙◌, ◌≢◌, ◌⊎◌, ℕ, false, cond, List, [], ◌∷◌, map, take, Option, Some, None, IfSome, IsSome, refl, sym, ap, subst, inl, inr}
 use Rattle.std.specs.Option.{option_map}
-use Rattle.std.specs.List.{AllByRecursion as All, slice_get}
+use Rattle.std.specs.List.{AllByRecursion, slice_get}
 use Rattle.std.specs.Prelude.{IsSomeAnd, zero, suc}
 use Rattle.std.specs.Ordering.{nat_cmp, is_eq}
 use Rattle.std.specs.declared.cmp.Ordering.{Ordering}
@@ -99,7 +99,7 @@ same_holding name other bytes (Some store) apart =
     (untied (slice_cmp nat_cmp name other) (λ tie. apart (sym (slice_cmp-IsAntisymmetric nat_cmp-IsAntisymmetric name other tie)))))
 
 abbrev AreOthers : List ℕ → List (Output × List ℕ) → Type 0
-AreOthers name writings = All (λ output. output.name ≢ name) (map (λ written. written.0) writings)
+AreOthers name writings = AllByRecursion (λ output. output.name ≢ name) (map (λ written. written.0) writings)
 
 same_holding_all : (name : List ℕ) (writings : List (Output × List ℕ)) (told : Option Store) → AreOthers name writings → SameUnder name told (holding_all writings told)
 same_holding_all name [] told others = refl
@@ -131,10 +131,10 @@ same_up_to name role writings old new others (n, partly) =
     ] (other_at name writings n others) partly
 
 product_others : (name : List ℕ) (told : Option Store) (request : Request) (writings : List (Output × List ℕ)) (report : List ℕ)
-    → All (λ output. output.name ≢ name) (outputs request) → IsProduct told request writings report → AreOthers name writings
-product_others name told request writings report others product = subst (All (λ output. output.name ≢ name)) (sym product.outputs) others
+    → AllByRecursion (λ output. output.name ≢ name) (outputs request) → IsProduct told request writings report → AreOthers name writings
+product_others name told request writings report others product = subst (AllByRecursion (λ output. output.name ≢ name)) (sym product.outputs) others
 
-leaves_others : (name : List ℕ) (request : Request) (old new : Option Store) (how : Ending) → All (λ output. output.name ≢ name) (outputs request) → Leaves request old new how → SameUnder name old new
+leaves_others : (name : List ℕ) (request : Request) (old new : Option Store) (how : Ending) → AllByRecursion (λ output. output.name ≢ name) (outputs request) → Leaves request old new how → SameUnder name old new
 leaves_others name request old new (ending.Done report) others (writings, product, is) =
     ap (option_map (λ store. bytes_under store name)) is ∙ same_holding_all name writings old (product_others name old request writings report others product)
 leaves_others name request old new (ending.WriteFailed role) others (writings, report, product, is) =

@@ -1,7 +1,7 @@
 -- A whole run: when each ending comes, what it leaves in the files, and what it puts.
 use Rattle.std.specs.Prelude.{ℕ, ◌≡◌, ◌⊎◌, List, Option, Some, None, IfSome, IsSome, Contains, map, ◌≢◌}
 use Rattle.std.specs.Option.{option_map}
-use Rattle.std.specs.List.{AllByRecursion as All}
+use Rattle.std.specs.List.{AllByRecursion}
 use Rattle.p3_base.specs.Outside.{Store, Rose, IsPartlyPut, bytes_under, with_put}
 use Rattle.p3_cli.specs.Ending.{status_of, lines_of}
 use Rattle.p3_cli.specs.Product.{refused, Produces}
@@ -102,7 +102,7 @@ AreHeld (Some request) told = AreNamed told (inputs request)
 -- no output that is asked for has the name
 abbrev pub IsNoOutput : Option Request → List ℕ → Type 0
 IsNoOutput None name = Unit {0}
-IsNoOutput (Some request) name = All (λ output. output.name ≢ name) (outputs request)
+IsNoOutput (Some request) name = AllByRecursion (λ output. output.name ≢ name) (outputs request)
 
 -- where it is told, the name holds what it held
 abbrev pub SameUnder : List ℕ → Option Store → Option Store → Type 0
