@@ -38,7 +38,7 @@ planned files = option_map (λ failure. failure.1) (find (λ failure. failure.0 
 abbrev pub IsPlanned : FilesInMemory → Type 0
 IsPlanned files = IsSome (planned files)
 
--- the files after a call that failed no more than planned
+-- the files with one more call counted
 abbrev pub after_call : FilesInMemory → FilesInMemory
 after_call files = record files { calls = one_more files.calls }
 
@@ -80,3 +80,11 @@ IsRefused sink bytes = (Contains sink.failing sink.puts) ⊎ (sink.room < length
 abbrev pub after_put : Result (Unit {0}) SinkFailed → List ℕ → SinkInMemory → SinkInMemory
 after_put (Ok done) bytes sink = record sink { written = sink.written ++ bytes; puts = one_more sink.puts }
 after_put (Err failed) bytes sink = record sink { puts = one_more sink.puts; faults = one_more sink.faults }
+
+-- how often the machine's files failed
+pub record FaultCounts : Type 0 where
+  pub reads : ℕ
+  pub writes : ℕ
+
+abbrev pub counts_code : Coded FaultCounts
+counts_code = code_by (ℕ × ℕ) (coded× coded_ℕ coded_ℕ) (λ c. (c.reads, c.writes)) (λ p. record { reads = p.0; writes = p.1 }) (λ _. refl)

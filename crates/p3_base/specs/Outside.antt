@@ -46,7 +46,7 @@ IsPartlyWritten name bytes old new = (new ≡ old) ⊎ ((n : ℕ) × (new ≡ ho
 
 -- a count is greater than before, or stands at the greatest that it can reach
 abbrev pub Rose : ℕ → ℕ → Type 0
-Rose before after = (before < after) ⊎ (2 ^ 64 - 1 ≤ after)
+Rose before after = (before < after) ⊎ (after ≡ 2 ^ 64 - 1)
 
 -- what is told of a sink after the bytes were put
 abbrev pub with_put : List ℕ → Option (List ℕ) → Option (List ℕ)

@@ -5,6 +5,7 @@ ghost use Rattle.std.specs.Prelude.{◌≡◌, ◌+◌, ◌≤◌, ◌<◌, [], 
 use crate::{Files, ReadFault, Word, WriteFault};
 use std::alloc::Global;
 use std::io::{Read, Write};
+use std::marker::Model;
 use std::{fs, rt};
 
 /// How many bytes one read asks for at the most.
@@ -18,9 +19,21 @@ pub struct RealFiles<'r, R: rt::Files> {
     write_faults: u64,
 }
 
+impl<'r, R: rt::Files> Model for RealFiles<'r, R> {
+    ghost use Rattle.p3_base.specs.Memory.{FaultCounts, counts_code};
+
+    ghost Value = { FaultCounts };
+
+    ghost coded = { counts_code };
+
+    ghost view = { λ files. record { reads = files.read_faults; writes = files.write_faults } };
+}
+
 impl<'r, R: rt::Files> RealFiles<'r, R> {
     /// The files that the runtime reaches.
-    pub fn new(runtime: &'r R) -> RealFiles<'r, R> {
+    pub fn new(runtime: &'r R) -> RealFiles<'r, R>
+        ensures { result ≡ record { reads = 0; writes = 0 } }
+    {
         RealFiles {
             runtime,
             read_faults: 0,
@@ -34,9 +47,9 @@ impl<'r, R: rt::Files> Files for RealFiles<'r, R> {
 
     ghost sure = { λ _. false };
 
-    ghost read_faults = { λ files. files.read_faults };
+    ghost read_faults = { λ files. files.reads };
 
-    ghost write_faults = { λ files. files.write_faults };
+    ghost write_faults = { λ files. files.writes };
 
     fn read(
         &mut self,

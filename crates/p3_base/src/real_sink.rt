@@ -1,9 +1,10 @@
 //! Standard output.
 
-ghost use Rattle.std.specs.Prelude.{None};
+ghost use Rattle.std.specs.Prelude.{◌≡◌, None};
 
 use crate::{Sink, SinkFailed};
 use std::io::Print;
+use std::marker::Model;
 
 /// Standard output. It tells nothing of what it was given.
 #[derive(Drop)]
@@ -12,9 +13,19 @@ pub struct RealSink<'r, R: Print> {
     faults: u64,
 }
 
+impl<'r, R: Print> Model for RealSink<'r, R> {
+    ghost use Rattle.std.specs.Prelude.{ℕ};
+
+    ghost Value = { ℕ };
+
+    ghost view = { λ sink. sink.faults };
+}
+
 impl<'r, R: Print> RealSink<'r, R> {
     /// The standard output that the runtime reaches.
-    pub fn new(runtime: &'r R) -> RealSink<'r, R> {
+    pub fn new(runtime: &'r R) -> RealSink<'r, R>
+        ensures { result ≡ 0 }
+    {
         RealSink { runtime, faults: 0 }
     }
 }
@@ -22,7 +33,7 @@ impl<'r, R: Print> RealSink<'r, R> {
 impl<'r, R: Print> Sink for RealSink<'r, R> {
     ghost written = { λ _. None };
 
-    ghost faults = { λ sink. sink.faults };
+    ghost faults = { λ sink. sink };
 
     fn put(&mut self, bytes: &[u8]) -> Result<(), SinkFailed> {
         let mut rest = bytes;

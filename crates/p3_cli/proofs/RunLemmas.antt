@@ -141,7 +141,7 @@ leaves_others name request old new (ending.WriteFailed role) others (writings, r
     same_up_to name role writings old new (product_others name old request writings report others product) is
 leaves_others name request old new ending.OutOfMemory others leaves = elim leaves [
   | inl same ↦ ap (option_map (λ store. bytes_under store name)) same
-  | inr (writings, report, product, (n, is)) ↦
+  | inr (writings, report, product, (n, fewer, is)) ↦
       ap (option_map (λ store. bytes_under store name)) is
       ∙ same_holding_all name (take n writings) old (others_first name writings n (product_others name old request writings report others product))
 ]

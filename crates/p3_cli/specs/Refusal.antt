@@ -32,7 +32,7 @@ code_text code.NotPlain = codes "19 not plain"
 code_text code.Mismatch = codes "20 mismatch"
 code_text code.FileTooLong = codes "21 file too long"
 
--- the word at fault, lowered, its first 60 bytes; at the text's end there is none
+-- the word at fault of a code 2 to 18, lowered, its first 60 bytes; at the text's end there is none
 abbrev pub shown_word : List ℕ → Refusal → List ℕ
 shown_word text refusal =
     if refusal.len == 0 then codes "end of text"
@@ -43,7 +43,7 @@ abbrev pub refusal_head : List ℕ → List ℕ → ℕ → ℕ → List ℕ
 refusal_head why file row column =
     codes "refused " ++ (why ++ (codes ": " ++ (file ++ (codes " " ++ (decimal row ++ (codes ":" ++ (decimal column ++ codes " ")))))))
 
--- the line of a refusal
+-- the line of a refusal with a code 2 to 18
 abbrev pub refusal_line : List ℕ → Refusal → List ℕ
 refusal_line text refusal =
     refusal_head (code_text refusal.code) (role_name refusal.pos.role) (line_of text refusal.pos.offset) (column_of text refusal.pos.offset)

@@ -1,5 +1,5 @@
 -- Reading all inputs from what a store holds, and writing all outputs to it.
-use Rattle.std.specs.Prelude.{ℕ, ◌≡◌, ◌≤◌, nat_lt, cond, List, [], ◌∷◌, Option, Some, None, take, length, IsSomeAnd, slice_get}
+use Rattle.std.specs.Prelude.{ℕ, ◌≡◌, ◌<◌, ◌≤◌, nat_lt, cond, List, [], ◌∷◌, Option, Some, None, take, length, IsSomeAnd, slice_get}
 use Rattle.p3_base.specs.Outside.{Store, bytes_under, holding, IsNamed, IsPartlyWritten}
 use Rattle.p3_base.specs.declared.refusal.Role.{Role}
 use Rattle.p3_cli.specs.Request.{Input, Output}
@@ -43,9 +43,9 @@ abbrev pub holding_all : List (Output × List ℕ) → Option Store → Option S
 holding_all [] told = told
 holding_all (written ∷ rest) told = holding_all rest (holding written.0.name written.1 told)
 
--- a first part of the outputs is written
+-- a first part of the outputs is written, but not all
 abbrev pub AreFirstWritten : List (Output × List ℕ) → Option Store → Option Store → Type 0
-AreFirstWritten written old new = (n : ℕ) × (new ≡ holding_all (take n written) old)
+AreFirstWritten written old new = (n : ℕ) × (n < length written) × (new ≡ holding_all (take n written) old)
 
 -- the outputs before one of this role are written, and that one holds a first part of its text or what it held
 abbrev pub IsWrittenUpTo : Role → List (Output × List ℕ) → Option Store → Option Store → Type 0

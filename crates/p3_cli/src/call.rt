@@ -19,8 +19,8 @@ use std::alloc::Global;
 ///
 /// It reads the inputs in order, computes, writes the outputs in order, and then puts the report.
 /// The statuses are 0 (done), 2 (an input is refused), 3 (an input was not read), 4 (an output was
-/// not written), 5 (want of memory, which may come at any point before the first write), 6 (done, but
-/// the report was not put) and 64 (usage).
+/// not written), 5 (want of memory, at any point before the first write, or where a write answers
+/// it), 6 (done, but the report was not put) and 64 (usage).
 pub fn run<F: Files, S: Sink>(alloc: Global, words: &[Word], files: &mut F, out: &mut S) -> u8
     requires { IsTrue (F.sure files.old) → AreHeld (request_of words.now) (F.held files.old) }
 

@@ -3,7 +3,7 @@ use Rattle.p3_base.proofs.real_sink.RealSinkSink.put.Given as goal
 
 -- no fault so far
 abbrev pub invariant-loop-rest : goal.invariant-loop-rest
-invariant-loop-rest g l = l.self.faults ≡ l.initial.self.faults
+invariant-loop-rest g l = l.self-inside.faults ≡ l.initial.self-inside.faults
 
 abbrev pub decreases-loop-rest : goal.decreases-loop-rest
 decreases-loop-rest g l = length l.rest
