@@ -12,5 +12,6 @@ pub mod PlanLemmas
 pub mod SpellingLemmas
 pub mod StateLemmas
 pub mod TextLemmas
+pub mod TinyMeaning
 pub mod ValidityLemmas
 pub mod Worked
