@@ -13,5 +13,6 @@ pub mod SpellingLemmas
 pub mod StateLemmas
 pub mod TextLemmas
 pub mod TinyMeaning
+pub mod TinyReading
 pub mod ValidityLemmas
 pub mod Worked
