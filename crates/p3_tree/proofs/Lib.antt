@@ -13,6 +13,7 @@ pub mod SpellingLemmas
 pub mod StateLemmas
 pub mod TextLemmas
 pub mod TinyMeaning
+pub mod TinyParts
 pub mod TinyReading
 pub mod ValidityLemmas
 pub mod Worked

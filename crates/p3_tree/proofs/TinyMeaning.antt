@@ -7,19 +7,17 @@ use Rattle.p3_tree.specs.Names.{Name}
 use Rattle.p3_tree.specs.States.{State, Environment, has_fact}
 use Rattle.p3_tree.specs.Formulas.{holds}
 use Rattle.p3_tree.specs.Effects.{adds, dels}
-use Rattle.p3_tree.specs.Goals.{StatePref, hard_holds, prefs}
+use Rattle.p3_tree.specs.Goals.{hard_holds, prefs}
 use Rattle.p3_tree.specs.Costs.{increases}
-use Rattle.p3_tree.specs.Constraints.{HardModal, Instance, hard_modals, instances_of}
 use Rattle.p3_tree.specs.Metrics.{num_value}
 use Rattle.p3_tree.specs.Tiny.{Literal, is_empty, atom_in, literal_of_formula, literal_of_effect, literal_without, is_nothing, is_unconstrained, Wish, named_wish, wish_of, Summand, weighted, product_of, summand_of}
-use Rattle.p3_tree.proofs.Computes.{trees_compute}
 use Rattle.p3_tree.specs.declared.state.Fact.{Fact}
 use Rattle.p3_tree.specs.declared.term.Ref.{Ref}
 use Rattle.p3_tree.specs.declared.term.Term.{Term}
-use Rattle.p3_tree.specs.declared.formula.Formula.{Formula, Row_of-Formula, end_of-Formula, more_of-Formula, out-Formula}
-use Rattle.p3_tree.specs.declared.formula.Formula.TheBlock.{shown-the_row-Formula-0, shown-the_row-Formula-1}
+use Rattle.p3_tree.specs.declared.formula.Formula.{Formula, Row_of-Formula, more_of-Formula, out-Formula}
+use Rattle.p3_tree.specs.declared.formula.Formula.TheBlock.{shown-the_row-Formula-1}
 use Rattle.p3_tree.specs.declared.formula.Formula.TheVariants as formula
-use Rattle.p3_tree.specs.declared.goal.PreGoal.{PreGoal, Row_of-PreGoal, end_of-PreGoal, more_of-PreGoal, roll-PreGoal, out-PreGoal, roll-out-PreGoal}
+use Rattle.p3_tree.specs.declared.goal.PreGoal.{PreGoal, roll-PreGoal, out-PreGoal, roll-out-PreGoal}
 use Rattle.p3_tree.specs.declared.goal.PreGoal.TheBlock.{shown-the_row-PreGoal-0}
 use Rattle.p3_tree.specs.declared.goal.PreGoal.TheVariants as goal
 use Rattle.p3_tree.specs.declared.effect.Effect.{Effect, out-Effect}

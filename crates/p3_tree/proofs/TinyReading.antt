@@ -1,30 +1,26 @@
 -- A tiny task as the task read: its plans repeat the one action, and its loss is the weight of the preference where that does not hold at the end.
-use Rattle.std.proofs.Common.{◌≡◌, ◌∙◌, ◌⊎◌, inl, inr, ℕ, ◌+◌, ◌*◌, zero, suc, add-zero, refl, sym, ap, subst, Bool, true, false, not, ◌&&◌, ◌||◌, List, [], ◌∷◌, ◌++◌, cond, length, map, true≢false, Option, Some, None, ℤ, pos, ◌-ℤ◌, is_some, arith}
-use Rattle.std.specs.Prelude.{find, count_by}
+use Rattle.std.proofs.Common.{◌≡◌, ◌∙◌, inl, inr, ℕ, ◌+◌, ◌*◌, zero, suc, add-zero, refl, sym, ap, subst, Bool, true, false, not, ◌&&◌, ◌||◌, List, [], ◌∷◌, ◌++◌, cond, length, map, true≢false, Some, None, pos, ◌-ℤ◌, is_some, arith}
+use Rattle.std.specs.Prelude.{find}
 use Rattle.std.specs.List.{list_all}
 use Rattle.std.proofs.lemmas.Int.{ints}
 use Rattle.std.proofs.lemmas.Slice.Eq.{bytes_eq-Decides}
-use Rattle.p3_base.specs.declared.refusal.Direction.{Direction}
 use Rattle.p3_base.specs.declared.refusal.Direction.TheVariants.{Minimize}
 use Rattle.p3_tree.specs.Names.{Name, same_name}
 use Rattle.p3_tree.specs.States.{State, Environment, has_fact, start}
 use Rattle.p3_tree.specs.Bindings.{extended, are_arguments}
 use Rattle.p3_tree.specs.Effects.{next}
 use Rattle.p3_tree.specs.Goals.{hard_holds, prefs}
-use Rattle.p3_tree.specs.Costs.{increases, amount_value, total, effect_cost, initial_cost}
+use Rattle.p3_tree.specs.Costs.{amount_value, total, effect_cost, initial_cost}
 use Rattle.p3_tree.specs.Plans.{Plan, action_named, arguments, fits, fits_by, state_by, state_after, visited, last_state, steps_fit}
 use Rattle.p3_tree.specs.Constraints.{Instance, hard_list, hard_modals, instances_of, instances, at_end, sat, satisfies}
 use Rattle.p3_tree.specs.Validity.{Valid, is_valid, is_met, goal_holds}
 use Rattle.p3_tree.specs.Metrics.{is_called, unsatisfied, false_in, prefs_by, step_prefs, violated, cost, num_value, signed, direction_by, value_by, loss_at, loss, base_loss, no_counts}
-use Rattle.p3_tree.specs.Tiny.{Literal, is_empty, literal_of_formula, literal_of_effect, Wish, wish_of, Summand, summand_of}
+use Rattle.p3_tree.specs.Tiny.{Literal, is_empty, literal_of_effect, Wish, wish_of, Summand, summand_of}
 use Rattle.p3_tree.proofs.Computes.{trees_compute}
 use Rattle.p3_tree.proofs.StateLemmas.{has_fact-next}
 use Rattle.p3_tree.proofs.PlanLemmas.{fit_from, state_from, false_from, steps_fit-walk, last_state-walk, violated-walk}
 use Rattle.p3_tree.proofs.OneInstance.{Words, IsCount, repeated, held, Reading}
 use Rattle.p3_tree.proofs.TinyMeaning.{fact_of_literal, signed_by, truth, holds_literal, Changes, changes_literal, Wishes, wishes, summand_counts}
-use Rattle.p3_tree.specs.declared.formula.Formula.{Formula}
-use Rattle.p3_tree.specs.declared.effect.Effect.{Effect}
-use Rattle.p3_tree.specs.declared.goal.PreGoal.{PreGoal}
 use Rattle.p3_tree.specs.declared.goal.PreGoal.TheVariants as goal
 use Rattle.p3_tree.specs.declared.constraint.Modal.TheVariants.{AtEnd}
 use Rattle.p3_tree.specs.declared.constraint.Constraint.TheVariants as constraint
@@ -181,9 +177,11 @@ module _ (T : Task) (act : OneAction T) where
       both : (first second : Bool) → (first && second) ≡ true → (first ≡ true) × (second ≡ true)
       both true second e = (refl, e)
       both false second e = absurd (cc)
+
       no_args : (args : List Name) → is_empty args ≡ true → args ≡ []
       no_args [] e = refl
       no_args (arg ∷ args) e = absurd (cc)
+
       by : (st : Step) → (same_name act.action.name.name st.action ≡ true) × (is_empty st.args ≡ true) → st ≡ the_step
       by st parts = λ i. record { action = sym ((bytes_eq-Decides act.action.name.name st.action).0 parts.0) i; args = no_args st.args parts.1 i }
 
