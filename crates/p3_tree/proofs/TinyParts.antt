@@ -16,13 +16,13 @@ use Rattle.p3_tree.specs.declared.task.Domain.{Domain}
 use Rattle.p3_tree.specs.declared.task.Problem.{Problem}
 use Rattle.p3_tree.specs.declared.task.Task.{Task}
 
-first_of : (a b : Bool) → (a && b) ≡ true → a ≡ true
-first_of true b e = refl
-first_of false b e = e
+pub front_true : (a b : Bool) → (a && b) ≡ true → a ≡ true
+front_true true b e = refl
+front_true false b e = e
 
-second_of : (a b : Bool) → (a && b) ≡ true → b ≡ true
-second_of true b e = e
-second_of false b e = absurd (cc)
+pub back_true : (a b : Bool) → (a && b) ≡ true → b ≡ true
+back_true true b e = e
+back_true false b e = absurd (cc)
 
 -- ---- the parts of the tests
 
@@ -38,13 +38,13 @@ pub record DomainParts (D : Domain) : Type 0 where
 pub domain_parts : (T : Task) → IsTinyTask T → DomainParts T.domain
 unfolding is_tiny_task is_tiny_domain
 domain_parts T tiny =
-    let shape : has_tiny_domain_shape T.domain ≡ true = first_of (has_tiny_domain_shape T.domain) (is_well_formed_domain T.domain) (first_of (is_tiny_domain T.domain) (is_tiny_problem T.problem) (first_of _ (declares_all T.domain T.problem) tiny)) in
-    let six : _ ≡ true = first_of _ _ shape in
-    let five : _ ≡ true = first_of _ _ six in
-    let four : _ ≡ true = first_of _ _ five in
-    let three : _ ≡ true = first_of _ _ four in
-    let two : _ ≡ true = first_of _ _ three in
-    record { kinds = first_of _ _ two; constants = second_of _ _ two; functions = second_of _ _ three; constraints = second_of _ _ four; predicates = second_of _ _ five; one_at_most = second_of _ _ six; actions = second_of _ _ shape }
+    let shape : has_tiny_domain_shape T.domain ≡ true = front_true (has_tiny_domain_shape T.domain) (is_well_formed_domain T.domain) (front_true (is_tiny_domain T.domain) (is_tiny_problem T.problem) (front_true _ (declares_all T.domain T.problem) tiny)) in
+    let six : _ ≡ true = front_true _ _ shape in
+    let five : _ ≡ true = front_true _ _ six in
+    let four : _ ≡ true = front_true _ _ five in
+    let three : _ ≡ true = front_true _ _ four in
+    let two : _ ≡ true = front_true _ _ three in
+    record { kinds = front_true _ _ two; constants = back_true _ _ two; functions = back_true _ _ three; constraints = back_true _ _ four; predicates = back_true _ _ five; one_at_most = back_true _ _ six; actions = back_true _ _ shape }
 
 pub record ProblemParts (P : Problem) : Type 0 where
   pub objects : is_empty P.objects ≡ true
@@ -57,21 +57,21 @@ pub record ProblemParts (P : Problem) : Type 0 where
 pub problem_parts : (T : Task) → IsTinyTask T → ProblemParts T.problem
 unfolding is_tiny_task is_tiny_problem is_well_formed_problem
 problem_parts T tiny =
-    let both : _ ≡ true = second_of (is_tiny_domain T.domain) (is_tiny_problem T.problem) (first_of _ (declares_all T.domain T.problem) tiny) in
-    let shape : has_tiny_problem_shape T.problem ≡ true = first_of (has_tiny_problem_shape T.problem) _ both in
-    let four : _ ≡ true = first_of _ _ shape in
-    let three : _ ≡ true = first_of _ _ four in
-    let two : _ ≡ true = first_of _ _ three in
-    record { objects = first_of _ _ two; init = second_of _ _ two; wish = second_of _ _ three; constraints = second_of _ _ four; metric = second_of _ _ shape; counted = second_of (has_tiny_problem_shape T.problem) _ both }
+    let both : _ ≡ true = back_true (is_tiny_domain T.domain) (is_tiny_problem T.problem) (front_true _ (declares_all T.domain T.problem) tiny) in
+    let shape : has_tiny_problem_shape T.problem ≡ true = front_true (has_tiny_problem_shape T.problem) _ both in
+    let four : _ ≡ true = front_true _ _ shape in
+    let three : _ ≡ true = front_true _ _ four in
+    let two : _ ≡ true = front_true _ _ three in
+    record { objects = front_true _ _ two; init = back_true _ _ two; wish = back_true _ _ three; constraints = back_true _ _ four; metric = back_true _ _ shape; counted = back_true (has_tiny_problem_shape T.problem) _ both }
 
 -- ---- the action
 
 one_action : (T : Task) (actions : List Action) → T.domain.actions ≡ actions → has_one_at_most actions ≡ true → list_all is_tiny_action actions ≡ true → OneAction T ⊎ (T.domain.actions ≡ [])
 one_action T [] is one tiny = inr is
 one_action T (action ∷ []) is one tiny =
-    let own : is_tiny_action action ≡ true = first_of _ _ tiny in
-    let two : _ ≡ true = first_of _ _ own in
-    inl (with_literal (literal_of_effect action.effect.body) refl (second_of _ _ own) (no_items action.params (first_of _ _ two)) (nothing_is action.pre.body (second_of _ _ two)))
+    let own : is_tiny_action action ≡ true = front_true _ _ tiny in
+    let two : _ ≡ true = front_true _ _ own in
+    inl (with_literal (literal_of_effect action.effect.body) refl (back_true _ _ own) (no_items action.params (front_true _ _ two)) (nothing_is action.pre.body (back_true _ _ two)))
   where
     no_items : {A : Type 0} (items : List A) → is_empty items ≡ true → items ≡ []
     no_items [] e = refl
@@ -108,7 +108,7 @@ preference_of T parts free (Some wish) (Some metric) wished given tiny same = wi
       wished = wished;
       metric = metric;
       given = given;
-      minimal = minimal_of metric.direction (first_of _ _ tiny);
+      minimal = minimal_of metric.direction (front_true _ _ tiny);
       summand = summand;
       summed = e;
       counted = (bytes_eq-Decides wish.name.name summand.name.name).0 same_name;
