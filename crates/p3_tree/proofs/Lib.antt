@@ -12,5 +12,8 @@ pub mod PlanLemmas
 pub mod SpellingLemmas
 pub mod StateLemmas
 pub mod TextLemmas
+pub mod TinyMeaning
+pub mod TinyParts
+pub mod TinyReading
 pub mod ValidityLemmas
 pub mod Worked

@@ -39,6 +39,8 @@ module _ (W : Words) where
     pub first_link : W.first_link t ≡ false
     pub last_link : W.last_link t ≡ false
     pub holds : W.holds t ≡ p
+    -- no step was done, or some
+    pub known : (p ≡ W.at_first) ⊎ (p ≡ W.later)
 
   pub record Ending (t : State) (p : Bool) : Type 0 where
     pub go : W.go t ≡ false

@@ -23,12 +23,12 @@ least_word (word ∷ words) = Some (fold (λ least other. if nat_lt other.at lea
 abbrev pub offence : Code → Half → List Ref → Option Offence
 offence code half words = option_map (λ word. record { code = code; half = half; word = word }) (least_word words)
 
-abbrev pub first_of : List (Option Offence) → Option Offence
-first_of [] = None
-first_of (first ∷ others) = option_or first (first_of others)
+abbrev pub first_some : List (Option Offence) → Option Offence
+first_some [] = None
+first_some (first ∷ others) = option_or first (first_some others)
 
 unfoldable pub first_offence : Task → Option Offence
-first_offence T = first_of (
+first_offence T = first_some (
     offence Duplicate InDomain (domain_duplicates T.domain) ∷ offence Duplicate InProblem (problem_duplicates T.problem)
     ∷ offence Unknown InDomain (domain_unknowns T) ∷ offence Unknown InProblem (problem_unknowns T)
     ∷ offence Arity InDomain (domain_miscounts T) ∷ offence Arity InProblem (problem_miscounts T)

@@ -1,5 +1,5 @@
 -- The written task of the first example is a faithful translation of the task read.
-use Rattle.std.proofs.Common.{◌≡◌, ◌∙◌, inl, ℕ, ◌+◌, ◌*◌, zero, suc, zero-add, refl, sym, ap, Bool, true, false, not, ◌&&◌, ◌||◌, List, [], ◌∷◌, ◌++◌, cond, length, Option, Some, None, pos, ◌-ℤ◌, ◌*ℤ◌}
+use Rattle.std.proofs.Common.{inr, ◌≡◌, ◌∙◌, inl, ℕ, ◌+◌, ◌*◌, zero, suc, zero-add, refl, sym, ap, Bool, true, false, not, ◌&&◌, ◌||◌, List, [], ◌∷◌, ◌++◌, cond, length, Option, Some, None, pos, ◌-ℤ◌, ◌*ℤ◌}
 use Rattle.std.specs.Prelude.{codes, slice_get, filter}
 use Rattle.std.proofs.lemmas.Slice.Eq.{bytes_eq-Decides}
 use Prim.Native.String.{String}
@@ -207,12 +207,13 @@ fitting = record {
   finish_fits = λ t go. ap (λ test. test && true) go;
   collect_fits = λ t link holds. λ i. (link i && (holds i && true)) && true;
   forgo_fits = λ t link holds. λ i. (link i && (not (holds i) && true)) && true;
-  at_start = record { go = refl; first_link = refl; last_link = refl; holds = refl };
+  at_start = record { go = refl; first_link = refl; last_link = refl; holds = refl; known = inl refl };
   after_copy = λ t p has phase. record {
     go = kept t (fact "f0" ∷ []) [] (fact "go") true phase.go;
     first_link = kept t (fact "f0" ∷ []) [] (fact "e0") false phase.first_link;
     last_link = kept t (fact "f0" ∷ []) [] (fact "e1") false phase.last_link;
     holds = refl;
+    known = inr refl;
   };
   after_finish = λ t p phase. record {
     go = kept t (fact "e0" ∷ []) (fact "go" ∷ []) (fact "go") true phase.go;
