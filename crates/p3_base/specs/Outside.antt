@@ -1,5 +1,5 @@
 -- What a store of files holds and what a sink was given, where they tell it, and when a count of faults rose.
-use Rattle.std.specs.Prelude.{ℕ, ◌≡◌, ◌+◌, ◌-◌, ◌^◌, ◌<◌, ◌≤◌, ◌++◌, ◌⊎◌, List, [], length, take, Option, IfSome, IsSome, IsSomeAnd, unwrap_or, Some, map}
+use Rattle.std.specs.Prelude.{ℕ, ◌≡◌, ◌+◌, ◌-◌, ◌^◌, ◌<◌, ◌++◌, ◌⊎◌, List, [], length, take, Option, IfSome, IsSome, IsSomeAnd, unwrap_or, Some, map}
 use Rattle.std.specs.Option.{option_map}
 use Rattle.std.specs.Ordering.{nat_cmp}
 use Rattle.std.specs.Cmp.Lexicographic.{slice_cmp}

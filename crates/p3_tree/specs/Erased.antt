@@ -1,4 +1,4 @@
--- Trees with all offsets 0. No definition tells a tree from its erased form.
+-- Trees with all offsets 0. No definition of meaning tells a tree from its erased form.
 use Rattle.std.specs.Prelude.{List, map, option_map}
 use mathlib.Core.Former.{Count}
 use Rattle.p3_tree.specs.Goals.{StatePref}

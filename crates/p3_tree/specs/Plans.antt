@@ -2,11 +2,12 @@
 use Rattle.std.specs.Prelude.{◌≡◌, ℕ, ◌-◌, Bool, false, ◌&&◌, List, [], ◌∷◌, length, slice_index_or, zip, find, Option, Some, None, is_some, option_and_then, IsTrue}
 use Rattle.std.specs.List.{list_all}
 use Rattle.p3_tree.specs.Names.{Name, same_name}
-use Rattle.p3_tree.specs.States.{State, Environment, start}
+use Rattle.p3_tree.specs.States.{State, Environment, has_fact, start}
 use Rattle.p3_tree.specs.Bindings.{extended, are_arguments}
 use Rattle.p3_tree.specs.Effects.{next}
 use Rattle.p3_tree.specs.Goals.{hard_holds}
 use Rattle.p3_tree.specs.Costs.{effect_cost}
+use Rattle.p3_tree.specs.declared.state.Fact.{Fact}
 use Rattle.p3_tree.specs.declared.task.Action.{Action}
 use Rattle.p3_tree.specs.declared.task.Step.{Step}
 use Rattle.p3_tree.specs.declared.task.Task.{Task}
@@ -77,4 +78,5 @@ steps_fit T plan = list_all (λ move. fits T move.0 move.1) (moves T plan)
 pub record Reached (T : Task) (s : State) : Type 0 where
   pub plan : Plan
   pub fit : IsTrue (steps_fit T plan)
-  pub last : s ≡ last_state (visited T plan)
+  -- of a state only the membership counts
+  pub last : (fact : Fact) → has_fact s fact ≡ has_fact (last_state (visited T plan)) fact

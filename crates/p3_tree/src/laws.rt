@@ -56,8 +56,8 @@ pub fn valid_where_no_fault()
     ensures { (T : Task) (plan : Plan) → Valid T plan ↔ (first_fault T plan ≡ None) }
 {}
 
-/// A preference under `forall` counts once for each binding, and one whose body is a `forall` counts
-/// once.
+/// A preference under `forall` counts once for each binding that leaves it unsatisfied, and one whose
+/// body is a `forall` counts once.
 pub fn counts_by_place()
     ensures states { (T : Task) (s : State) (env : Environment) (variables : List Typed) (at : ℕ) (name : Ref) (body : Formula) → StateCounts T s env variables at name body }
     ensures trajectories { (T : Task) (W : List State) (env : Environment) (variables : List Typed) (at : ℕ) (name : Ref) (body : Constraint) → TrajectoryCounts T W env variables at name body }
@@ -68,8 +68,8 @@ pub fn optima_are_kept()
     ensures { (T U : Task) → Faithful T U → (q : Plan) → IsCheapest U q → IsBest T (lift T q) }
 {}
 
-/// No definition depends on the offsets kept in trees, down to what it is that a translation is
-/// faithful.
+/// No definition of meaning, from types on, depends on the offsets kept in trees, down to what it is
+/// that a translation is faithful.
 pub fn offsets_have_no_meaning()
     ensures definitions { (T : Task) → OffsetFree T }
     ensures faithful { (T U : Task) → Faithful (erased T) (erased U) ↔ Faithful T U }

@@ -5,7 +5,7 @@ use Rattle.std.specs.Option.{option_or}
 use Rattle.std.specs.List.{list_all, enumerate_from, prefix_len}
 use Rattle.std.proofs.lemmas.List.{length-map}
 use Rattle.p3_tree.specs.Names.{Name, total_cost}
-use Rattle.p3_tree.specs.States.{State, start}
+use Rattle.p3_tree.specs.States.{has_fact, State, start}
 use Rattle.p3_tree.specs.Effects.{next}
 use Rattle.p3_tree.specs.Goals.{StatePref, hard_holds, prefs}
 use Rattle.p3_tree.specs.Costs.{initial_cost, effect_cost}
@@ -84,8 +84,8 @@ module _ (T : Task) where
 
   pub Reached-erased : (s : State) → Reached (erased T) s ↔ Reached T s
   Reached-erased s = (
-    λ reached. record { plan = reached.plan; fit = sym (steps_fit-erased reached.plan) ∙ reached.fit; last = reached.last ∙ ap last_state (visited-erased reached.plan) },
-    λ reached. record { plan = reached.plan; fit = steps_fit-erased reached.plan ∙ reached.fit; last = reached.last ∙ ap last_state (sym (visited-erased reached.plan)) },
+    λ reached. record { plan = reached.plan; fit = sym (steps_fit-erased reached.plan) ∙ reached.fit; last = λ fact. reached.last fact ∙ ap (λ W. has_fact (last_state W) fact) (visited-erased reached.plan) },
+    λ reached. record { plan = reached.plan; fit = steps_fit-erased reached.plan ∙ reached.fit; last = λ fact. reached.last fact ∙ ap (λ W. has_fact (last_state W) fact) (sym (visited-erased reached.plan)) },
   )
 
   -- ---- validity
