@@ -1,3 +1,10 @@
 pub mod AtomLemmas
 pub mod ListLemmas
 pub mod TinyLemmas
+pub mod Targets
+pub mod NextStates
+pub mod Sources
+pub mod Formed
+pub mod FineUses
+pub mod WellFormed
+pub mod TinyFaithful

@@ -2,8 +2,10 @@
 #![tactic(auto)]
 
 mod atom;
+mod laws;
 mod literal;
 mod tree;
 mod written;
 
+pub use laws::tiny_tasks_keep_their_meaning;
 pub use written::compile_small;

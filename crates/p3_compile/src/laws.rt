@@ -1,0 +1,12 @@
+//! What is written for tiny tasks keeps their meaning.
+
+ghost use Rattle.std.specs.Prelude.{◌<◌, ◌^◌, length};
+ghost use Rattle.p3_tree.specs.declared.task.Task.{Task};
+ghost use Rattle.p3_tree.specs.Tiny.{IsTinyTask};
+ghost use Rattle.p3_tree.specs.Lifting.{Faithful};
+ghost use Rattle.p3_compile.specs.Written.{written_of};
+
+/// What is written for a tiny task is a faithful translation of it.
+pub fn tiny_tasks_keep_their_meaning()
+    ensures { (T : Task) → IsTinyTask T → length T.domain.predicates < 2 ^ 64 → Faithful T (written_of T) }
+{}
