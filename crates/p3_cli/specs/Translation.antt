@@ -3,6 +3,7 @@ use Rattle.std.specs.Prelude.{ℕ, ◌≡◌, if◌then◌else◌, List, ◌++�
 use Rattle.std.specs.Fmt.{decimal}
 use Rattle.p3_base.specs.declared.refusal.Role.{Role}
 use Rattle.p3_base.specs.declared.refusal.Role.TheVariants as role
+use Rattle.p3_tree.specs.Lifting.{Faithful}
 use Rattle.p3_tree.specs.Tiny.{declares_all}
 use Rattle.p3_tree.specs.declared.task.Domain.{Domain}
 use Rattle.p3_tree.specs.declared.task.Problem.{Problem}
@@ -45,10 +46,11 @@ pub record IsSpelled (d p : List ℕ) (task : Task) : Type 0 where
 abbrev pub report_text : ℕ → List ℕ
 report_text count = codes "steps " ++ (decimal count ++ codes "\npreferences 1\nbase 0\ndirection minimize\n")
 
--- the texts and the report that are made of a task
+-- the texts and the report that are made of a task: those of a faithful translation, whose cheapest plans lift to best plans
 pub record IsWritten (task : Task) (od op report : List ℕ) : Type 0 where
   pub domain : od ≡ domain_layout (written_of task).domain
   pub problem : op ≡ problem_layout (written_of task).problem
+  pub faithful : Faithful task (written_of task)
   pub told : report ≡ report_text (length task.domain.actions)
 
 -- the texts od and op are what is written for the task that d and p spell

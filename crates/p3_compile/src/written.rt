@@ -1,6 +1,7 @@
 //! The written task.
 
 ghost use Rattle.std.specs.Prelude.{◌≡◌, ◌++◌, ◌∷◌, [], map, option_to_list, IfOk, OnOk};
+ghost use Rattle.p3_tree.specs.Lifting.{Faithful};
 ghost use Rattle.p3_tree.specs.Tiny.{IsTinyTask};
 ghost use Rattle.p3_compile.specs.Seen.{seen};
 ghost use Rattle.p3_compile.specs.Written as written;
@@ -19,8 +20,10 @@ use std::alloc::Global;
 /// The written task of a tiny task: a plain task with action costs.
 pub fn compile_small(alloc: Global, task: &Task) -> Result<Task, NoMemory>
     requires { IsTinyTask task.now }
-    ensures { IfOk result (λ made. made ≡ written.written_of task.now) }
+    ensures written { IfOk result (λ made. made ≡ written.written_of task.now) }
+    ensures faithful { IfOk result (λ made. Faithful task.now made) }
 {
+    let count = task.domain.predicates.len();
     let wished = wished_literal(&task.problem.goal.body).unwrap();
     let weight = weight(&task.problem).unwrap();
     Ok(Task {
