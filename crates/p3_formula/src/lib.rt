@@ -1,0 +1,15 @@
+//! The ground core: formulas over numbered atoms, their truth in a state of bits, and the ground
+//! tasks and targets that are made of them.
+#![tactic(auto)]
+
+mod bits;
+mod form;
+mod modal;
+mod target;
+mod task;
+
+pub use bits::Bits;
+pub use form::{Change, Effects, Form};
+pub use modal::{GroundModal, GroundPref, GroundSoft};
+pub use target::{Target, TargetAction, Weights};
+pub use task::{GroundStep, GroundTask};
