@@ -1,0 +1,5 @@
+pub mod Folds
+pub mod Forms
+pub mod GroundSat
+pub mod Next
+pub mod Tidy
