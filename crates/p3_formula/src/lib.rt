@@ -3,12 +3,14 @@
 #![tactic(auto)]
 
 mod bits;
+mod evaluation;
 mod form;
 mod modal;
 mod target;
 mod task;
 
 pub use bits::Bits;
+pub use evaluation::eval;
 pub use form::{Change, Effects, Form};
 pub use modal::{GroundModal, GroundPref, GroundSoft};
 pub use target::{Target, TargetAction, Weights};
