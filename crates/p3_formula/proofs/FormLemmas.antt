@@ -20,7 +20,7 @@ module _ {A : Type 0} (step : Form-F A → A) where
   pub fold_parts : (parts : List Form) → fold_forms step (hidden-the_row-Form-1 parts) ≡ map (fold_form step) parts
   fold_parts parts = row_forms (hidden-the_row-Form-1 parts) ∙ ap (map (fold_form step)) (items_hidden-the_row-Form-1 parts)
 
-list_any-map : {A B : Type 0} (test : B → Bool) (f : A → B) (xs : List A) → list_any test (map f xs) ≡ list_any (λ x. test (f x)) xs
+pub list_any-map : {A B : Type 0} (test : B → Bool) (f : A → B) (xs : List A) → list_any test (map f xs) ≡ list_any (λ x. test (f x)) xs
 list_any-map test f [] = refl
 list_any-map test f (x ∷ xs) = ap (λ rest. test (f x) || rest) (list_any-map test f xs)
 

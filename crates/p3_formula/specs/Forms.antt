@@ -1,5 +1,5 @@
 -- Truth of a form in a state, the atoms that it reads, and its size.
-use Rattle.std.specs.Prelude.{ℕ, ◌+◌, nat_lt, Bool, true, false, not, List, slice_index_or, sum, IsTrue}
+use Rattle.std.specs.Prelude.{◌≡◌, ℕ, ◌+◌, nat_lt, Bool, true, false, not, List, slice_index_or, sum, IsTrue}
 use Rattle.std.specs.List.{list_any, list_all}
 use Rattle.p3_formula.specs.Folds.{fold_form}
 use Rattle.p3_formula.specs.declared.form.Form.{Form}
@@ -24,6 +24,14 @@ truth_layer state (Or parts) = list_any (λ part. part) parts
 -- whether the form holds in the state
 unfoldable pub truth : State → Form → Bool
 truth state form = fold_form (truth_layer state) form
+
+-- the forms hold in the same states
+abbrev pub HasSameTruth : Form → Form → Type 0
+HasSameTruth first second = (state : State) → truth state first ≡ truth state second
+
+-- each form holds where the other does not
+abbrev pub IsOpposite : Form → Form → Type 0
+IsOpposite first second = (state : State) → truth state first ≡ not (truth state second)
 
 abbrev pub within_layer : (ℕ → Bool) → Form-F Bool → Bool
 within_layer allowed True = true

@@ -3,3 +3,4 @@ pub mod Forms
 pub mod GroundSat
 pub mod Next
 pub mod Tidy
+pub mod Simplified

@@ -3,9 +3,11 @@
 #![tactic(auto)]
 
 mod bits;
+mod copy;
 mod evaluation;
 mod form;
 mod modal;
+mod simpler;
 mod target;
 mod task;
 
@@ -13,5 +15,6 @@ pub use bits::Bits;
 pub use evaluation::eval;
 pub use form::{Change, Effects, Form};
 pub use modal::{GroundModal, GroundPref, GroundSoft};
+pub use simpler::{negate, simplify};
 pub use target::{Target, TargetAction, Weights};
 pub use task::{GroundStep, GroundTask};
