@@ -3,6 +3,8 @@
 #![tactic(auto)]
 
 mod bits;
+#[cfg(test)]
+mod cases;
 mod copy;
 mod evaluation;
 mod form;
