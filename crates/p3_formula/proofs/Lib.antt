@@ -1,0 +1,5 @@
+pub mod FormLemmas
+pub mod SimplifiedLemmas
+pub mod TruthLaws
+pub mod AtomLaws
+pub mod TidyLaws

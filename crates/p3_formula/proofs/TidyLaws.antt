@@ -1,0 +1,88 @@
+-- Simplified forms are tidy.
+use Rattle.std.proofs.Common.{◌≡◌, ◌∙◌, ℕ, suc, Bool, true, false, not, ◌||◌, nat_le, List, [], ◌∷◌, ◌++◌, length, map, refl, ap, arith}
+use Rattle.std.proofs.lemmas.Bool.Decides.{nat_tests}
+use Rattle.std.specs.List.{list_all}
+use Rattle.std.proofs.lemmas.List.Folds.{list_all-map, list_all-append}
+use mathlib.Core.Former.{Count}
+use denote.Hole.Carrier.{hidden}
+use Rattle.p3_formula.specs.Folds.{fold_forms}
+use Rattle.p3_formula.specs.Tidy.{look, look_layer, joined as joined_look, is_tidy, is_tidy_part, is_constant}
+use Rattle.p3_formula.specs.Simplified.{negated, joined, junction, simplified, simplified_layer}
+use Rattle.p3_formula.specs.declared.form.Form.{Form, Row_of-Form, end_of-Form, more_of-Form}
+use Rattle.p3_formula.specs.declared.form.Form.TheBlock.{hidden-the_row-Form-0}
+use Rattle.p3_formula.specs.declared.form.Form.TheVariants.{True, False, Atom, Not, And, Or, Not', And', Or'}
+use Rattle.p3_formula.proofs.FormLemmas.{fold_parts}
+use Rattle.p3_formula.proofs.AtomLaws.{left, right, both}
+
+look-And : (parts : List Form) → look (And parts) ≡ joined_look (map look parts)
+unfolding look
+look-And parts = ap joined_look (fold_parts look_layer parts)
+
+look-Or : (parts : List Form) → look (Or parts) ≡ joined_look (map look parts)
+unfolding look
+look-Or parts = ap joined_look (fold_parts look_layer parts)
+
+or-true : (b : Bool) → (b || true) ≡ true
+or-true true = refl
+or-true false = refl
+
+two_or_more : (n : ℕ) → nat_le 2 (suc (suc n)) ≡ true
+two_or_more n = grind (arith, nat_tests)
+
+-- a tidy form that may be a part is tidy
+as_part : (form : Form) → is_tidy_part form ≡ true → is_tidy form ≡ true
+as_part form h = ap (λ b. is_constant form || b) h ∙ or-true (is_constant form)
+
+-- a form that is no negation may be negated
+negation : (form : Form) → is_tidy_part form ≡ true → (look form).negation ≡ false → is_tidy (Not form) ≡ true
+unfolding look hidden-the_row-Form-0 hidden
+negation form fits positive = both (look form).fits (not (look form).negation) fits (ap not positive)
+
+negated_tidy : (form : Form) → is_tidy form ≡ true → is_tidy (negated form) ≡ true
+unfolding look
+negated_tidy True h = refl
+negated_tidy False h = refl
+negated_tidy (Atom atom) h = negation (Atom atom) h refl
+negated_tidy (Not' shape (more_of-Form part rest)) h = as_part part (left (look part).fits _ h)
+negated_tidy (And' shape parts) h = negation (And' shape parts) h refl
+negated_tidy (Or' shape parts) h = negation (Or' shape parts) h refl
+
+together_tidy : (parts : List Form) → nat_le 2 (length (map look parts)) ≡ true → list_all is_tidy_part parts ≡ true → (joined_look (map look parts)).fits ≡ true
+together_tidy parts many h = both (nat_le 2 (length (map look parts))) _ many (list_all-map (λ part. part.fits) look parts ∙ h)
+
+joined_tidy : (every : Bool) (parts : List Form) → list_all is_tidy_part parts ≡ true → is_tidy (joined every parts) ≡ true
+joined_tidy true [] h = refl
+joined_tidy false [] h = refl
+joined_tidy every (part ∷ []) h = as_part part (left (is_tidy_part part) _ h)
+joined_tidy true (part ∷ other ∷ parts) h = as_part (And (part ∷ other ∷ parts)) (ap (λ l. l.fits) (look-And (part ∷ other ∷ parts)) ∙ together_tidy (part ∷ other ∷ parts) (two_or_more (length (map look parts))) h)
+joined_tidy false (part ∷ other ∷ parts) h = as_part (Or (part ∷ other ∷ parts)) (ap (λ l. l.fits) (look-Or (part ∷ other ∷ parts)) ∙ together_tidy (part ∷ other ∷ parts) (two_or_more (length (map look parts))) h)
+
+-- one more part is kept
+more : (kept : List Form) (part : Form) → list_all is_tidy_part kept ≡ true → is_tidy_part part ≡ true → list_all is_tidy_part (kept ++ part ∷ []) ≡ true
+more kept part h fits = list_all-append is_tidy_part kept (part ∷ []) ∙ both (list_all is_tidy_part kept) _ h (both (is_tidy_part part) true fits refl)
+
+junction_tidy : (every : Bool) (kept rest : List Form) → list_all is_tidy_part kept ≡ true → list_all is_tidy rest ≡ true → is_tidy (junction every kept rest) ≡ true
+junction_tidy every kept [] h k = joined_tidy every kept h
+junction_tidy true kept (True ∷ rest) h k = junction_tidy true kept rest h k
+junction_tidy true kept (False ∷ rest) h k = refl
+junction_tidy false kept (True ∷ rest) h k = refl
+junction_tidy false kept (False ∷ rest) h k = junction_tidy false kept rest h k
+junction_tidy every kept (Atom atom ∷ rest) h k = junction_tidy every (kept ++ Atom atom ∷ []) rest (more kept (Atom atom) h (left (is_tidy_part (Atom atom)) _ k)) (right (is_tidy_part (Atom atom)) _ k)
+junction_tidy every kept (Not' shape part ∷ rest) h k = junction_tidy every (kept ++ Not' shape part ∷ []) rest (more kept (Not' shape part) h (left (is_tidy_part (Not' shape part)) _ k)) (right (is_tidy_part (Not' shape part)) _ k)
+junction_tidy every kept (And' shape parts ∷ rest) h k = junction_tidy every (kept ++ And' shape parts ∷ []) rest (more kept (And' shape parts) h (left (is_tidy_part (And' shape parts)) _ k)) (right (is_tidy_part (And' shape parts)) _ k)
+junction_tidy every kept (Or' shape parts ∷ rest) h k = junction_tidy every (kept ++ Or' shape parts ∷ []) rest (more kept (Or' shape parts) h (left (is_tidy_part (Or' shape parts)) _ k)) (right (is_tidy_part (Or' shape parts)) _ k)
+
+mutual
+  unfolding simplified look
+
+  pub simplified_tidy : (form : Form) → is_tidy (simplified form) ≡ true
+  simplified_tidy True = refl
+  simplified_tidy False = refl
+  simplified_tidy (Atom atom) = refl
+  simplified_tidy (Not' shape (more_of-Form part rest)) = negated_tidy (simplified part) (simplified_tidy part)
+  simplified_tidy (And' shape parts) = junction_tidy true [] (fold_forms simplified_layer parts) refl (all_tidy parts)
+  simplified_tidy (Or' shape parts) = junction_tidy false [] (fold_forms simplified_layer parts) refl (all_tidy parts)
+
+  all_tidy : {n : Count} (parts : Row_of-Form n) → list_all is_tidy (fold_forms simplified_layer parts) ≡ true
+  all_tidy end_of-Form = refl
+  all_tidy (more_of-Form part rest) = both (is_tidy (simplified part)) _ (simplified_tidy part) (all_tidy rest)

@@ -1,0 +1,59 @@
+-- What negating and simplifying make of a form, from what they make of its parts.
+use Rattle.std.specs.Prelude.{Bool, true, false, not, if◌then◌else◌, List, [], ◌∷◌, ◌++◌}
+use mathlib.Core.Former.{Count, one_more}
+use Rattle.p3_formula.specs.Folds.{fold_form}
+use Rattle.p3_formula.specs.declared.form.Form.{Form, Row_of-Form, more_of-Form}
+use Rattle.p3_formula.specs.declared.form.Form.TheVariants.{True, False, Atom, Not, And, Or, Not', And', Or'}
+use Rattle.p3_formula.specs.declared.form.Form.TheOpen as layer
+
+abbrev pub one_part : {n : Count} → Row_of-Form (one_more n) → Form
+one_part (more_of-Form part rest) = part
+
+-- the opposite, with no negation of a constant or of a negation
+abbrev pub negated : Form → Form
+negated True = False
+negated False = True
+negated (Atom atom) = Not (Atom atom)
+negated (Not' _ part) = one_part part
+negated (And' shape parts) = Not (And' shape parts)
+negated (Or' shape parts) = Not (Or' shape parts)
+
+abbrev pub constant : Bool → Form
+constant true = True
+constant false = False
+
+-- the form is that constant
+abbrev pub is_value : Bool → Form → Bool
+is_value value True = value
+is_value value False = not value
+is_value value (Atom atom) = false
+is_value value (Not' _ part) = false
+is_value value (And' _ parts) = false
+is_value value (Or' _ parts) = false
+
+-- a conjunction of the parts, or else their disjunction
+abbrev pub together : Bool → List Form → Form
+together true parts = And parts
+together false parts = Or parts
+
+abbrev pub joined : Bool → List Form → Form
+joined every [] = constant every
+joined every (part ∷ []) = part
+joined every (part ∷ other ∷ parts) = together every (part ∷ other ∷ parts)
+
+-- the parts kept so far and those to come, without the constants
+abbrev pub junction : Bool → List Form → List Form → Form
+junction every kept [] = joined every kept
+junction every kept (part ∷ rest) =
+    if is_value (not every) part then constant (not every) else junction every (if is_value every part then kept else (kept ++ part ∷ [])) rest
+
+abbrev pub simplified_layer : layer.Form-F Form → Form
+simplified_layer layer.True = True
+simplified_layer layer.False = False
+simplified_layer (layer.Atom atom) = Atom atom
+simplified_layer (layer.Not part) = negated part
+simplified_layer (layer.And parts) = junction true [] parts
+simplified_layer (layer.Or parts) = junction false [] parts
+
+unfoldable pub simplified : Form → Form
+simplified form = fold_form simplified_layer form

@@ -1,0 +1,129 @@
+//! Negated and simplified forms.
+
+ghost use Rattle.std.specs.Prelude.{◌≡◌, ◌≤◌, IfOk, IsTrue, true, [], map};
+ghost use Rattle.p3_formula.specs.Forms.{HasAtomsOf, HasSameTruth, IsOpposite, nodes};
+ghost use Rattle.p3_formula.specs.Tidy.{is_tidy};
+ghost use Rattle.p3_formula.specs.Simplified as made;
+
+use crate::Form;
+use crate::copy::copied;
+use p3_base::{Boxed, List, NoMemory};
+use std::alloc::Global;
+
+/// The opposite of a form: it holds in a state exactly where the form does not.
+#[tactic(auto, using(crate::proofs::TruthLaws::negated_truth, crate::proofs::AtomLaws::negated_atoms))]
+pub fn negate(alloc: Global, form: &Form) -> Result<Form, NoMemory>
+    ensures truth { IfOk result (λ opposite. IsOpposite opposite form.now) }
+    ensures atoms { IfOk result (λ opposite. HasAtomsOf opposite form.now) }
+{
+    negated(alloc, copied(alloc, form)?)
+}
+
+/// A tidy form that holds in the same states. It reads no other atoms and is no greater.
+#[tactic(auto, using(crate::proofs::TruthLaws::simplified_truth, crate::proofs::AtomLaws::simplified_atoms, crate::proofs::AtomLaws::simplified_nodes, crate::proofs::TidyLaws::simplified_tidy))]
+pub fn simplify(alloc: Global, form: &Form) -> Result<Form, NoMemory>
+    ensures truth { IfOk result (λ simple. HasSameTruth simple form.now) }
+    ensures tidy { IfOk result (λ simple. IsTrue (is_tidy simple)) }
+    ensures size { IfOk result (λ simple. nodes simple ≤ nodes form.now) }
+    ensures atoms { IfOk result (λ simple. HasAtomsOf simple form.now) }
+{
+    simplified(alloc, form)
+}
+
+/// A negation.
+fn negation(alloc: Global, part: Form) -> Result<Form, NoMemory>
+    ensures { IfOk result (λ form. form ≡ Form.Not part) }
+{
+    Ok(Form::Not(Boxed::new(alloc, part)?))
+}
+
+/// The opposite, with no negation of a constant or of a negation.
+#[tactic(auto, using(crate::proofs::SimplifiedLemmas::negated_laws))]
+fn negated(alloc: Global, form: Form) -> Result<Form, NoMemory>
+    ensures { IfOk result (λ opposite. opposite ≡ made.negated form) }
+{
+    match form {
+        Form::True => Ok(Form::False),
+        Form::False => Ok(Form::True),
+        Form::Not(part) => Ok(part.into_inner()),
+        Form::Atom(atom) => negation(alloc, Form::Atom(atom)),
+        Form::And(parts) => negation(alloc, Form::And(parts)),
+        Form::Or(parts) => negation(alloc, Form::Or(parts)),
+    }
+}
+
+/// The constant of that value.
+fn constant(value: bool) -> Form
+    ensures { result ≡ made.constant value }
+{
+    if value { Form::True } else { Form::False }
+}
+
+/// Whether the form is the constant of that value.
+fn is_value(form: &Form, value: bool) -> bool
+    ensures { result ≡ made.is_value value form.now }
+{
+    match form {
+        Form::True => value,
+        Form::False => !value,
+        Form::Atom(_) | Form::Not(_) | Form::And(_) | Form::Or(_) => false,
+    }
+}
+
+/// The conjunction of the parts, or else their disjunction, where there are two or more.
+fn joined(mut parts: Vec<Form>, every: bool) -> Form
+    ensures { result ≡ made.joined every parts.items }
+{
+    if parts.len() > 1 {
+        return together(List::from(parts), every);
+    }
+    match parts.pop() {
+        Some(part) => part,
+        None => constant(every),
+    }
+}
+
+/// A conjunction of the parts, or else their disjunction.
+fn together(parts: List<Form>, every: bool) -> Form
+    ensures { result ≡ made.together every parts }
+{
+    if every {
+        Form::And(parts)
+    } else {
+        Form::Or(parts)
+    }
+}
+
+/// The form without constants, superfluous connectives and double negations.
+#[cycle(simplify)]
+#[tactic(auto, using(crate::proofs::SimplifiedLemmas::simplified_laws))]
+fn simplified(alloc: Global, form: &Form) -> Result<Form, NoMemory>
+    ensures { IfOk result (λ simple. simple ≡ made.simplified form.now) }
+{
+    match form {
+        Form::True => Ok(Form::True),
+        Form::False => Ok(Form::False),
+        Form::Atom(atom) => Ok(Form::Atom(*atom)),
+        Form::Not(part) => negated(alloc, simplified(alloc, part.get())?),
+        Form::And(parts) => junction(alloc, parts.items(), true),
+        Form::Or(parts) => junction(alloc, parts.items(), false),
+    }
+}
+
+/// The conjunction of the parts, or else their disjunction, each of them simplified.
+#[cycle(simplify)]
+fn junction(alloc: Global, parts: &[Form], every: bool) -> Result<Form, NoMemory>
+    ensures { IfOk result (λ simple. simple ≡ made.junction every [] (map made.simplified parts.now)) }
+{
+    let mut kept = Vec::new(alloc);
+    for part in parts {
+        let part = simplified(alloc, part)?;
+        if is_value(&part, !every) {
+            return Ok(constant(!every));
+        }
+        if !is_value(&part, every) {
+            kept.push(part)?;
+        }
+    }
+    Ok(joined(kept, every))
+}
