@@ -9,6 +9,7 @@ pub mod OffsetLemmas
 pub mod OneInstance
 pub mod OptimaLemmas
 pub mod PlanLemmas
+pub mod ShapeLemmas
 pub mod SpellingLemmas
 pub mod StateLemmas
 pub mod TextLemmas

@@ -35,7 +35,7 @@ use Rattle.p3_tree.specs.declared.metric.Num.TheVariants as num
 use Rattle.p3_tree.specs.declared.task.Task.{Task}
 use mathlib.Core.Former.{Count}
 
-list_any-map : {A B : Type 0} (test : B → Bool) (item : A → B) (xs : List A) → list_any test (map item xs) ≡ list_any (λ x. test (item x)) xs
+pub list_any-map : {A B : Type 0} (test : B → Bool) (item : A → B) (xs : List A) → list_any test (map item xs) ≡ list_any (λ x. test (item x)) xs
 list_any-map test item [] = refl
 list_any-map test item (x ∷ xs) = ap (λ rest. test (item x) || rest) (list_any-map test item xs)
 
