@@ -7,7 +7,7 @@ use Rattle.p3_tree.specs.declared.expression.Expression.{Expression, Row_of-Expr
 use Rattle.p3_tree.specs.declared.expression.Expression.TheVariants as expression
 
 -- a list of expressions is known by its items
-group_is : (at : _) (shape : _) (parts : Row_of-Expression _) → expression.Group' at shape parts ≡ expression.Group at (items-the_row-Expression _ parts)
+pub group_is : (at : _) (shape : _) (parts : Row_of-Expression _) → expression.Group' at shape parts ≡ expression.Group at (items-the_row-Expression _ parts)
 group_is at shape parts = sym (roll-out-Expression (expression.Group' at shape parts)) ∙ ap roll-Expression (expression.outs-Group' at shape parts) ∙ expression.rolls-Group at _ ∙ ap (expression.Group at) (items_shown-the_row-Expression-0 shape parts)
 
 -- no spelling begins with `)`

@@ -76,7 +76,7 @@ module _ (T : Task) (one : OnePreference T) where
   unfolding is_valid goal_holds
   valid_is plan = (λ i. steps_fit T plan && wishing.hard (last_state (visited T plan)) i && list_all (is_met T plan) (hard_list_is i)) ∙ and_true (steps_fit T plan && true) ∙ and_true (steps_fit T plan)
 
-  one_instance : length (instances T) ≡ 1
+  pub one_instance : length (instances T) ≡ 1
   one_instance = ap length instances_is
 
   -- ---- the loss
@@ -102,7 +102,7 @@ module _ (T : Task) (one : OnePreference T) where
       ∙ (λ i. signed (one.minimal i) (num_value counts total one.metric.body))
       ∙ summand_counts counts total one.metric.body one.summand one.summed
 
-  base_is : base_loss T ≡ pos (one.summand.weight * 0)
+  pub base_is : base_loss T ≡ pos (one.summand.weight * 0)
   unfolding base_loss
   base_is = value_is no_counts (initial_cost T)
 
