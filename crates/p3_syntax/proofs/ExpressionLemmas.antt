@@ -5,13 +5,13 @@ use Rattle.std.proofs.lemmas.List.Folds.{fold_stays}
 use Rattle.p3_tree.specs.declared.expression.Expression.{Expression}
 use Rattle.p3_tree.specs.Tokens.{Tokens, tokens_of}
 use Rattle.p3_tree.specs.Expressions.{Reading, Within, Whole, Stopped, read_token, whole_of, expression_of, expression_of_text}
-use Rattle.p3_syntax.specs.declared.token.Lexeme.{Lexeme}
-use Rattle.p3_syntax.specs.declared.token.Lexeme.TheVariants as lexeme
+use Rattle.p3_lexer.specs.declared.lexer.Next.{Next}
+use Rattle.p3_lexer.specs.declared.lexer.Next.TheVariants as next
+use Rattle.p3_lexer.specs.Lexing.{with_next, token_of}
 use Rattle.p3_syntax.specs.declared.error.Fault.{Fault}
 use Rattle.p3_syntax.specs.declared.error.Fault.TheVariants.{Malformed, NoMemory}
 use Rattle.p3_syntax.specs.Reading.{Fails}
-use Rattle.p3_syntax.specs.Lexemes.{with_lexeme}
-use Rattle.p3_syntax.specs.Progresses.{read_lexeme, going}
+use Rattle.p3_syntax.specs.Progresses.{read_next, going}
 
 -- what the later tokens make of what was read
 unfoldable pub finished : ℕ → Reading → Tokens → Option Expression
@@ -42,28 +42,24 @@ going_none (Whole e) is = absurd cc
 going_none Stopped is = refl
 
 -- one more token is read
-pub finished_more : (limit : ℕ) (read next : Reading) (l : Lexeme) (later : Tokens) → going (read_lexeme limit read l) ≡ Some next → finished limit read (with_lexeme l later) ≡ finished limit next later
+pub finished_more : (limit : ℕ) (read behind : Reading) (given : Next) (later : Tokens) → going (read_next limit read given) ≡ Some behind → finished limit read (with_next given later) ≡ finished limit behind later
 unfolding finished
-finished_more limit read next lexeme.End later is = absurd cc
-finished_more limit read next (lexeme.Foreign at) later is = absurd cc
-finished_more limit read next (lexeme.Open at) later is = ap (λ (r : Reading). finished limit r later) (going_some (read_lexeme limit read (lexeme.Open at)) next is)
-finished_more limit read next (lexeme.Close at) later is = ap (λ (r : Reading). finished limit r later) (going_some (read_lexeme limit read (lexeme.Close at)) next is)
-finished_more limit read next (lexeme.Word at text) later is = ap (λ (r : Reading). finished limit r later) (going_some (read_lexeme limit read (lexeme.Word at text)) next is)
+finished_more limit read behind next.End later is = absurd cc
+finished_more limit read behind (next.Bad at) later is = absurd cc
+finished_more limit read behind (next.Token text at) later is = ap (λ (r : Reading). finished limit r later) (going_some (read_token limit read (token_of at text.now)) behind is)
 
 -- no token may stand here
-refused : (limit : ℕ) (read : Reading) (l : Lexeme) (later : Tokens) → l ≢ lexeme.End → going (read_lexeme limit read l) ≡ None → finished limit read (with_lexeme l later) ≡ None
+refused : (limit : ℕ) (read : Reading) (given : Next) (later : Tokens) → given ≢ next.End → going (read_next limit read given) ≡ None → finished limit read (with_next given later) ≡ None
 unfolding finished
-refused limit read lexeme.End later some is = absurd (some refl)
-refused limit read (lexeme.Foreign at) later some is = refl
-refused limit read (lexeme.Open at) later some is = ap (λ (r : Reading). finished limit r later) (going_none (read_lexeme limit read (lexeme.Open at)) is) ∙ finished_stopped limit later
-refused limit read (lexeme.Close at) later some is = ap (λ (r : Reading). finished limit r later) (going_none (read_lexeme limit read (lexeme.Close at)) is) ∙ finished_stopped limit later
-refused limit read (lexeme.Word at text) later some is = ap (λ (r : Reading). finished limit r later) (going_none (read_lexeme limit read (lexeme.Word at text)) is) ∙ finished_stopped limit later
+refused limit read next.End later some is = absurd (some refl)
+refused limit read (next.Bad at) later some is = refl
+refused limit read (next.Token text at) later some is = ap (λ (r : Reading). finished limit r later) (going_none (read_token limit read (token_of at text.now)) is) ∙ finished_stopped limit later
 
-pub finished_fails : (fault : Fault) (limit : ℕ) (read : Reading) (l : Lexeme) (later : Tokens) (total : Option Expression)
-    → l ≢ lexeme.End → Fails fault (going (read_lexeme limit read l)) → finished limit read (with_lexeme l later) ≡ total → Fails fault total
-finished_fails NoMemory limit read l later total some fails leads = tt
-finished_fails Malformed limit read l later total some fails leads = sym leads ∙ refused limit read l later some fails
+pub finished_fails : (fault : Fault) (limit : ℕ) (read : Reading) (given : Next) (later : Tokens) (total : Option Expression)
+    → given ≢ next.End → Fails fault (going (read_next limit read given)) → finished limit read (with_next given later) ≡ total → Fails fault total
+finished_fails NoMemory limit read given later total some fails leads = tt
+finished_fails Malformed limit read given later total some fails leads = sym leads ∙ refused limit read given later some fails
 
-pub finished_end : (limit : ℕ) (read : Reading) (later : Tokens) → finished limit read (with_lexeme lexeme.End later) ≡ whole_of read
+pub finished_end : (limit : ℕ) (read : Reading) (later : Tokens) → finished limit read (with_next next.End later) ≡ whole_of read
 unfolding finished
 finished_end limit read later = refl

@@ -1,5 +1,4 @@
 pub mod Loops
 pub mod PartLemmas
-pub mod TokenLemmas
 pub mod ExpressionLemmas
 pub mod TinyLemmas

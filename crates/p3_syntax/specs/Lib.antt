@@ -6,7 +6,6 @@ pub mod Signs
 pub mod Domain
 pub mod Problem
 pub mod Contents
-pub mod Lexemes
 pub mod Progresses
 pub mod Prefs
 pub mod Texts

@@ -1,14 +1,14 @@
 -- What a reader sees of how far it has come.
 use Rattle.std.specs.Prelude.{ℕ, List, map, reverse, Option, Some, None}
-use Rattle.std.specs.Str.{str_to_ascii_lowercase}
 use Rattle.p3_tree.specs.Tokens as tokens
 use Rattle.p3_tree.specs.Expressions.{Group, Reading, read_token}
 use Rattle.p3_tree.specs.Expressions as reading
 use Rattle.p3_syntax.specs.declared.expression.OpenGroup.{OpenGroup}
 use Rattle.p3_syntax.specs.declared.expression.Progress.{Progress}
 use Rattle.p3_syntax.specs.declared.expression.Progress.TheVariants.{Within, Whole}
-use Rattle.p3_syntax.specs.declared.token.Lexeme.{Lexeme}
-use Rattle.p3_syntax.specs.declared.token.Lexeme.TheVariants.{End, Foreign, Open, Close, Word}
+use Rattle.p3_lexer.specs.Lexing.{token_of}
+use Rattle.p3_lexer.specs.declared.lexer.Next.{Next}
+use Rattle.p3_lexer.specs.declared.lexer.Next.TheVariants as next
 
 abbrev pub the_group : OpenGroup → Group
 the_group group = record { at = group.at; parts = group.parts }
@@ -28,9 +28,11 @@ going read = Some read
 abbrev pub opened : ℕ → ℕ → List Group → Reading
 opened limit at groups = read_token limit (reading.Within groups) (tokens.Open at)
 
-abbrev pub read_lexeme : ℕ → Reading → Lexeme → Reading
-read_lexeme limit read End = reading.Stopped
-read_lexeme limit read (Foreign at) = reading.Stopped
-read_lexeme limit read (Open at) = read_token limit read (tokens.Open at)
-read_lexeme limit read (Close at) = read_token limit read (tokens.Close at)
-read_lexeme limit read (Word at text) = read_token limit read (tokens.Word at (str_to_ascii_lowercase text.now))
+abbrev pub with_token : ℕ → ℕ → List ℕ → List Group → Reading
+with_token limit at text groups = read_token limit (reading.Within groups) (token_of at text)
+
+-- what comes next is read; only a token may
+abbrev pub read_next : ℕ → Reading → Next → Reading
+read_next limit read (next.Token text offset) = read_token limit read (token_of offset text.now)
+read_next limit read next.End = reading.Stopped
+read_next limit read (next.Bad offset) = reading.Stopped

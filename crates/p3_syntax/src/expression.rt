@@ -3,11 +3,11 @@
 ghost use Rattle.std.specs.Prelude.{◌≡◌, ◌≤◌, length, Some, false, is_none};
 ghost use Rattle.p3_tree.specs.Expressions.{with_part, closed, whole_of, expression_of_text};
 ghost use Rattle.p3_syntax.specs.Reading.{Gives};
-ghost use Rattle.p3_syntax.specs.Progresses.{the_groups, the_reading, going, opened, read_lexeme};
+ghost use Rattle.p3_syntax.specs.Progresses.{the_groups, the_reading, going, opened, with_token, read_next};
 
 use crate::error::Fault;
-use crate::token::{Lexeme, next_lexeme};
 use p3_base::{List, Name};
+use p3_lexer::{Lexer, Next};
 use p3_tree::Expression;
 use std::alloc::Global;
 
@@ -26,59 +26,74 @@ enum Progress {
 }
 
 /// An expression is a part of the innermost group, or is the whole.
-fn with_part(part: Expression, mut open: Vec<OpenGroup>) -> Result<Progress, Fault>
-    ensures { Gives the_reading result (Some (with_part part (the_groups open.items))) }
+fn with_part(part: Expression, mut groups: Vec<OpenGroup>) -> Result<Progress, Fault>
+    ensures { Gives the_reading result (Some (with_part part (the_groups groups.items))) }
 {
-    let Some(OpenGroup { at, mut parts }) = open.pop() else {
+    let Some(OpenGroup { at, mut parts }) = groups.pop() else {
         return Ok(Progress::Whole(part));
     };
     parts.push(part)?;
-    open.push(OpenGroup { at, parts })?;
-    Ok(Progress::Within(open))
+    groups.push(OpenGroup { at, parts })?;
+    Ok(Progress::Within(groups))
 }
 
 /// The innermost group is whole.
-fn closed(mut open: Vec<OpenGroup>) -> Result<Progress, Fault>
-    ensures { Gives the_reading result (going (closed (the_groups open.items))) }
+fn closed(mut groups: Vec<OpenGroup>) -> Result<Progress, Fault>
+    ensures { Gives the_reading result (going (closed (the_groups groups.items))) }
 {
-    let Some(OpenGroup { at, parts }) = open.pop() else {
+    let Some(OpenGroup { at, parts }) = groups.pop() else {
         return Err(Fault::Malformed);
     };
-    with_part(Expression::Group { at, parts }, open)
+    with_part(Expression::Group { at, parts }, groups)
 }
 
 /// One more group, where the limit allows it.
-fn opened(alloc: Global, limit: usize, at: u32, mut open: Vec<OpenGroup>) -> Result<Progress, Fault>
-    ensures { Gives the_reading result (going (opened limit at (the_groups open.items))) }
+fn opened(
+    alloc: Global,
+    limit: usize,
+    at: u32,
+    mut groups: Vec<OpenGroup>,
+) -> Result<Progress, Fault>
+    ensures { Gives the_reading result (going (opened limit at (the_groups groups.items))) }
 {
-    if open.len() >= limit {
+    if groups.len() >= limit {
         return Err(Fault::Malformed);
     }
     let parts = List::new(alloc);
-    open.push(OpenGroup { at, parts })?;
-    Ok(Progress::Within(open))
+    groups.push(OpenGroup { at, parts })?;
+    Ok(Progress::Within(groups))
 }
 
-/// One more token.
-fn add(
+/// One more token, where groups are open.
+fn with_token(
     alloc: Global,
     limit: usize,
-    progress: Progress,
-    lexeme: Lexeme<'_>,
+    at: u32,
+    text: &[u8],
+    groups: Vec<OpenGroup>,
 ) -> Result<Progress, Fault>
-    ensures { Gives the_reading result (going (read_lexeme limit (the_reading progress) lexeme.entry)) }
+    ensures { Gives the_reading result (going (with_token limit at text.now (the_groups groups.items))) }
 {
-    let Progress::Within(open) = progress else {
+    if text == b"(".as_slice() {
+        opened(alloc, limit, at, groups)
+    } else if text == b")".as_slice() {
+        closed(groups)
+    } else {
+        let text = Name::of(alloc, text)?;
+        with_part(Expression::Word { at, text }, groups)
+    }
+}
+
+/// What comes next is read.
+fn add(alloc: Global, limit: usize, progress: Progress, next: Next<'_>) -> Result<Progress, Fault>
+    ensures { Gives the_reading result (going (read_next limit (the_reading progress) next.entry)) }
+{
+    let Progress::Within(groups) = progress else {
         return Err(Fault::Malformed);
     };
-    match lexeme {
-        Lexeme::Open(at) => opened(alloc, limit, at, open),
-        Lexeme::Close(_) => closed(open),
-        Lexeme::Word(at, text) => {
-            let text = Name::of(alloc, text)?;
-            with_part(Expression::Word { at, text }, open)
-        }
-        Lexeme::End | Lexeme::Foreign(_) => Err(Fault::Malformed),
+    match next {
+        Next::Token { text, offset } => with_token(alloc, limit, offset, text, groups),
+        Next::End | Next::Bad(_) => Err(Fault::Malformed),
     }
 }
 
@@ -97,13 +112,12 @@ pub fn read_expression(alloc: Global, text: &[u8], limit: usize) -> Result<Expre
     ensures { Gives (λ expression. expression) result (expression_of_text limit text.now) }
 {
     let mut progress = Progress::Within(Vec::new(alloc));
-    let mut at = 0;
+    let mut lexer = Lexer::new(text);
     loop {
-        let (lexeme, next) = next_lexeme(text, at);
-        if let Lexeme::End = lexeme {
+        let next = lexer.next();
+        if let Next::End = next {
             return whole(progress);
         }
-        progress = add(alloc, limit, progress, lexeme)?;
-        at = next;
+        progress = add(alloc, limit, progress, next)?;
     }
 }

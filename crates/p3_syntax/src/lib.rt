@@ -8,7 +8,6 @@ mod formed;
 mod part;
 mod problem;
 mod read;
-mod token;
 mod word;
 
 pub use error::ReadFail;

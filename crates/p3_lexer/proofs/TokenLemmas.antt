@@ -6,11 +6,11 @@ use Rattle.std.specs.Prelude.{◌==◌}
 use Rattle.std.specs.Char.{to_ascii_lowercase}
 use Rattle.std.specs.Str.{str_to_ascii_lowercase}
 use Rattle.std.proofs.lemmas.Bool.Decides.{nat_tests}
-use Rattle.p3_syntax.specs.Lexemes.{is_skipped}
+use Rattle.p3_lexer.specs.Lexing.{is_between, gap_len, token_of, token_len}
 use Rattle.p3_tree.specs.Tokens.{Token, Open, Close, Word, Tokens, is_blank, is_of_word, is_comment_after, before, joined, with_byte, tokens_from}
 
 -- the tokens from one more byte on
-pub tokens_step : (is_comment : Bool) (text : List ℕ) (at : ℕ) → at < length text
+tokens_step : (is_comment : Bool) (text : List ℕ) (at : ℕ) → at < length text
     → tokens_from is_comment at (drop at text)
     ≡ (let later = tokens_from (is_comment_after is_comment (get_or text at 0)) (at + 1) (drop (at + 1) text) in if is_comment then later else with_byte at (get_or text at 0) later)
 unfolding tokens_from
@@ -23,23 +23,72 @@ tokens_end is_comment text at passed = at_drop_all (tokens_from is_comment at) t
 
 -- ---- what is no part of a token
 
-skipped_byte : (at byte : ℕ) (later : Tokens) → is_skipped byte ≡ true → with_byte at byte later ≡ later
+skipped_byte : (at byte : ℕ) (later : Tokens) → is_between byte ≡ true → with_byte at byte later ≡ later
 skipped_byte at byte later skipped = grind (arith, nat_tests)
 
-skipped_here : (is_comment : Bool) (at byte : ℕ) (later : Tokens) → (is_comment || is_skipped byte) ≡ true → (if is_comment then later else with_byte at byte later) ≡ later
+skipped_here : (is_comment : Bool) (at byte : ℕ) (later : Tokens) → (is_comment || is_between byte) ≡ true → (if is_comment then later else with_byte at byte later) ≡ later
 skipped_here true at byte later skipped = refl
 skipped_here false at byte later skipped = skipped_byte at byte later skipped
 
-pub tokens_skip : (is_comment : Bool) (text : List ℕ) (at : ℕ) → at < length text → (is_comment || is_skipped (get_or text at 0)) ≡ true
-    → tokens_from is_comment at (drop at text) ≡ tokens_from (is_comment_after is_comment (get_or text at 0)) (at + 1) (drop (at + 1) text)
-tokens_skip is_comment text at within skipped = tokens_step is_comment text at within ∙ skipped_here is_comment at (get_or text at 0) _ skipped
+abbrev behind_gap : Bool → ℕ → List ℕ → Tokens
+behind_gap is_comment at bytes = tokens_from false (at + gap_len is_comment bytes) (drop (gap_len is_comment bytes) bytes)
+
+no_gap : (is_comment : Bool) (byte : ℕ) → (is_comment || is_between byte) ≡ false → is_comment ≡ false
+no_gap true byte e = absurd (cc)
+no_gap false byte e = refl
+
+gap_more : (is_comment : Bool) (byte : ℕ) (bytes : List ℕ) → (is_comment || is_between byte) ≡ true → gap_len is_comment (byte ∷ bytes) ≡ 1 + gap_len (is_comment_after is_comment byte) bytes
+unfolding gap_len
+gap_more is_comment byte bytes e = ap (λ (b : Bool). cond b (1 + gap_len (is_comment_after is_comment byte) bytes) 0) e
+
+gap_none : (is_comment : Bool) (byte : ℕ) (bytes : List ℕ) → (is_comment || is_between byte) ≡ false → gap_len is_comment (byte ∷ bytes) ≡ 0
+unfolding gap_len
+gap_none is_comment byte bytes e = ap (λ (b : Bool). cond b (1 + gap_len (is_comment_after is_comment byte) bytes) 0) e
+
+-- a byte before a gap, or where none is
+gap_step : (between is_comment : Bool) (at byte : ℕ) (bytes : List ℕ) → (is_comment || is_between byte) ≡ between
+    → tokens_from (is_comment_after is_comment byte) (at + 1) bytes ≡ behind_gap (is_comment_after is_comment byte) (at + 1) bytes
+    → tokens_from is_comment at (byte ∷ bytes) ≡ behind_gap is_comment at (byte ∷ bytes)
+unfolding tokens_from
+gap_step true is_comment at byte bytes e later =
+    let rest : ℕ = gap_len (is_comment_after is_comment byte) bytes in
+    let place : (at + 1) + rest ≡ at + (1 + rest) = omega arith in
+    let one : 1 + rest ≡ suc rest = omega arith in
+    skipped_here is_comment at byte (tokens_from (is_comment_after is_comment byte) (at + 1) bytes) e ∙ later
+    ∙ ap (λ (n : ℕ). tokens_from false n (drop rest bytes)) place ∙ ap (λ (n : ℕ). tokens_from false (at + (1 + rest)) (drop n (byte ∷ bytes))) (sym one)
+    ∙ ap (λ (n : ℕ). tokens_from false (at + n) (drop n (byte ∷ bytes))) (sym (gap_more is_comment byte bytes e))
+gap_step false is_comment at byte bytes e later =
+    let same : at ≡ at + 0 = omega arith in
+    ap (λ (b : Bool). tokens_from b at (byte ∷ bytes)) (no_gap is_comment byte e)
+    ∙ ap (λ (n : ℕ). tokens_from false n (byte ∷ bytes)) same ∙ ap (λ (n : ℕ). tokens_from false (at + n) (drop n (byte ∷ bytes))) (sym (gap_none is_comment byte bytes e))
+
+-- blanks and comments have no tokens
+tokens_gap : (is_comment : Bool) (at : ℕ) (bytes : List ℕ) → tokens_from is_comment at bytes ≡ behind_gap is_comment at bytes
+unfolding tokens_from gap_len
+tokens_gap is_comment at [] = refl
+tokens_gap is_comment at (byte ∷ bytes) = gap_step (is_comment || is_between byte) is_comment at byte bytes refl (tokens_gap (is_comment_after is_comment byte) (at + 1) bytes)
+
+-- the same at a place of a text
+module _ (is_comment : Bool) (text : List ℕ) (at : ℕ) where
+  pub gap_more_at : at < length text → (is_comment || is_between (get_or text at 0)) ≡ true → gap_len is_comment (drop at text) ≡ 1 + gap_len (is_comment_after is_comment (get_or text at 0)) (drop (at + 1) text)
+  gap_more_at within e = at_drop_more (gap_len is_comment) text at 0 within ∙ gap_more is_comment (get_or text at 0) (drop (at + 1) text) e
+
+  pub gap_none_at : at < length text → (is_comment || is_between (get_or text at 0)) ≡ false → gap_len is_comment (drop at text) ≡ 0
+  gap_none_at within e = at_drop_more (gap_len is_comment) text at 0 within ∙ gap_none is_comment (get_or text at 0) (drop (at + 1) text) e
+
+  pub gap_end_at : length text ≤ at → gap_len is_comment (drop at text) ≡ 0
+  unfolding gap_len
+  gap_end_at passed = at_drop_all (gap_len is_comment) text at passed
+
+pub tokens_behind : (text : List ℕ) (at place : ℕ) → place ≡ at + gap_len false (drop at text) → tokens_from false at (drop at text) ≡ tokens_from false place (drop place text)
+tokens_behind text at place is = tokens_gap false at (drop at text) ∙ (λ i. tokens_from false (at + gap_len false (drop at text)) (drop-drop (gap_len false (drop at text)) at text i)) ∙ ap (λ (n : ℕ). tokens_from false n (drop n text)) (sym is)
 
 -- ---- a token of one byte
 
-pub tokens_open : (text : List ℕ) (at : ℕ) → at < length text → get_or text at 0 ≡ 40 → tokens_from false at (drop at text) ≡ before (Open at) (tokens_from false (at + 1) (drop (at + 1) text))
+tokens_open : (text : List ℕ) (at : ℕ) → at < length text → get_or text at 0 ≡ 40 → tokens_from false at (drop at text) ≡ before (Open at) (tokens_from false (at + 1) (drop (at + 1) text))
 tokens_open text at within is = tokens_step false text at within ∙ rw is refl
 
-pub tokens_close : (text : List ℕ) (at : ℕ) → at < length text → get_or text at 0 ≡ 41 → tokens_from false at (drop at text) ≡ before (Close at) (tokens_from false (at + 1) (drop (at + 1) text))
+tokens_close : (text : List ℕ) (at : ℕ) → at < length text → get_or text at 0 ≡ 41 → tokens_from false at (drop at text) ≡ before (Close at) (tokens_from false (at + 1) (drop (at + 1) text))
 tokens_close text at within is = tokens_step false text at within ∙ rw is refl
 
 first_fails : (b : Bool) (n : ℕ) → cond b (1 + n) 0 ≡ 0 → b ≡ false
@@ -53,10 +102,10 @@ first_passes false n some = absurd (omega (arith, some))
 none_passes : (p : ℕ → Bool) (x : ℕ) (xs : List ℕ) → prefix_len p (x ∷ xs) ≡ 0 → p x ≡ false
 none_passes p x xs none = first_fails (p x) (prefix_len p xs) none
 
-foreign_byte : (at byte : ℕ) (later : Tokens) → is_skipped byte ≡ false → is_of_word byte ≡ false → byte ≢ 40 → byte ≢ 41 → with_byte at byte later ≡ record { tokens = []; foreign = Some at }
+foreign_byte : (at byte : ℕ) (later : Tokens) → is_between byte ≡ false → is_of_word byte ≡ false → byte ≢ 40 → byte ≢ 41 → with_byte at byte later ≡ record { tokens = []; foreign = Some at }
 foreign_byte at byte later stands no_word no_open no_close = grind (arith, nat_tests)
 
-pub tokens_foreign : (text : List ℕ) (at : ℕ) → at < length text → is_skipped (get_or text at 0) ≡ false → prefix_len is_of_word (drop at text) ≡ 0 → get_or text at 0 ≢ 40 → get_or text at 0 ≢ 41
+tokens_foreign : (text : List ℕ) (at : ℕ) → at < length text → is_between (get_or text at 0) ≡ false → prefix_len is_of_word (drop at text) ≡ 0 → get_or text at 0 ≢ 40 → get_or text at 0 ≢ 41
     → tokens_from false at (drop at text) ≡ record { tokens = []; foreign = Some at }
 tokens_foreign text at within stands none no_open no_close =
     tokens_step false text at within ∙ foreign_byte at _ _ stands (none_passes is_of_word (get_or text at 0) (drop (at + 1) text) (sym (at_drop_more (prefix_len is_of_word) text at 0 within) ∙ none)) no_open no_close
@@ -172,7 +221,7 @@ word_run at byte [] word =
     word_front at byte [] word ∙ last at byte ∙ ap (λ (len : ℕ). word_before at len (byte ∷ [])) (sym (rw word refl))
 word_run at byte (next ∷ bytes) word = word_run_by (is_of_word next) at byte next bytes word refl (word_run (at + 1) next bytes)
 
-pub tokens_word : (text : List ℕ) (at end : ℕ) → at < length text → end ≡ at + prefix_len is_of_word (drop at text) → end ≢ at
+tokens_word : (text : List ℕ) (at end : ℕ) → at < length text → end ≡ at + prefix_len is_of_word (drop at text) → end ≢ at
     → tokens_from false at (drop at text) ≡ before (Word at (str_to_ascii_lowercase (take (end - at) (drop at text)))) (tokens_from false end (drop end text))
 tokens_word text at end within is some =
     let here : drop at text ≡ get_or text at 0 ∷ drop (at + 1) text = at_drop_more (λ (rest : List ℕ). rest) text at 0 within in
@@ -181,3 +230,69 @@ tokens_word text at end within is some =
     let len : end - at ≡ prefix_len is_of_word (drop at text) = omega arith in
     let front : tokens_from false at (drop at text) ≡ word_before at (prefix_len is_of_word (drop at text)) (drop at text) = rw here (word_run at (get_or text at 0) (drop (at + 1) text) word) in
     front ∙ rw (len, is, drop-drop (prefix_len is_of_word (drop at text)) at text) refl
+
+-- ---- the first token
+
+is_byte : (byte other : ℕ) → (byte == other) ≡ true → byte ≡ other
+is_byte byte other e = grind (arith, nat_tests)
+
+no_byte : (byte other : ℕ) → (byte == other) ≡ false → byte ≢ other
+no_byte byte other e = grind (arith, nat_tests)
+
+module _ (text : List ℕ) (at end : ℕ) (within : at < length text) (is : end ≡ at + token_len (drop at text)) where
+  abbrev byte : ℕ
+  byte = get_or text at 0
+
+  abbrev len_by : Bool → ℕ
+  len_by one = cond one 1 (prefix_len is_of_word (byte ∷ drop (at + 1) text))
+
+  len_is : end ≡ at + len_by (byte == 40 || byte == 41)
+  len_is = is ∙ ap (λ (n : ℕ). at + n) (at_drop_more token_len text at 0 within)
+
+  run_is : prefix_len is_of_word (byte ∷ drop (at + 1) text) ≡ prefix_len is_of_word (drop at text)
+  run_is = sym (at_drop_more (prefix_len is_of_word) text at 0 within)
+
+  -- no token is there
+  pub tokens_bad : is_between byte ≡ false → end ≡ at → tokens_from false at (drop at text) ≡ record { tokens = []; foreign = Some at }
+  tokens_bad stands none = by (byte == 40) (byte == 41) refl refl
+    where
+      by : (opens closes : Bool) → (byte == 40) ≡ opens → (byte == 41) ≡ closes → tokens_from false at (drop at text) ≡ record { tokens = []; foreign = Some at }
+      by true closes o c = absurd (let len : end ≡ at + 1 = len_is ∙ rw o refl in omega (arith, len, none))
+      by false true o c = absurd (let len : end ≡ at + 1 = len_is ∙ rw (o, c) refl in omega (arith, len, none))
+      by false false o c =
+          let len : end ≡ at + prefix_len is_of_word (drop at text) = len_is ∙ (λ i. at + len_by (o i || c i)) ∙ ap (λ (n : ℕ). at + n) run_is in
+          tokens_foreign text at within stands (omega (arith, len, none)) (no_byte byte 40 o) (no_byte byte 41 c)
+
+  abbrev taken : List ℕ
+  taken = take (end - at) (drop at text)
+
+  -- a parenthesis
+  one_byte : (token : ℕ → Token) (wanted : ℕ) → byte ≡ wanted → end ≡ at + 1 → tokens_from false at (drop at text) ≡ before (token at) (tokens_from false (at + 1) (drop (at + 1) text))
+      → ((place : ℕ) → token_of place (wanted ∷ []) ≡ token place) → tokens_from false at (drop at text) ≡ before (token_of at taken) (tokens_from false end (drop end text))
+  one_byte token wanted same len tokens kind =
+      let one : end - at ≡ 1 = omega (arith, len) in
+      let slice : taken ≡ wanted ∷ [] = ap (λ (n : ℕ). take n (drop at text)) one ∙ at_drop_more (take 1) text at 0 within ∙ ap (λ (b : ℕ). b ∷ []) same in
+      tokens ∙ ap (λ (t : Token). before t (tokens_from false (at + 1) (drop (at + 1) text))) (sym (kind at)) ∙ ap (λ (w : List ℕ). before (token_of at w) (tokens_from false (at + 1) (drop (at + 1) text))) (sym slice)
+      ∙ ap (λ (n : ℕ). before (token_of at taken) (tokens_from false n (drop n text))) (sym len)
+
+  word_of : (first : ℕ) (rest : List ℕ) → (first == 40) ≡ false → (first == 41) ≡ false → token_of at (first ∷ rest) ≡ Word at (str_to_ascii_lowercase (first ∷ rest))
+  word_of first rest no_open no_close = rw (no_open, no_close) refl
+
+  -- a word
+  kind : end ≢ at → end ≡ at + prefix_len is_of_word (drop at text) → (byte == 40) ≡ false → (byte == 41) ≡ false → token_of at taken ≡ Word at (str_to_ascii_lowercase taken)
+  kind some len no_open no_close =
+      let more : ℕ = (end - at) - 1 in
+      let count : end - at ≡ suc more = omega (arith, len, some) in
+      let split : taken ≡ byte ∷ take more (drop (at + 1) text) = ap (λ (n : ℕ). take n (drop at text)) count ∙ at_drop_more (take (suc more)) text at 0 within in
+      ap (token_of at) split ∙ word_of byte (take more (drop (at + 1) text)) no_open no_close ∙ ap (λ (w : List ℕ). Word at (str_to_ascii_lowercase w)) (sym split)
+
+  -- the token that the text begins with there
+  pub tokens_token : end ≢ at → tokens_from false at (drop at text) ≡ before (token_of at taken) (tokens_from false end (drop end text))
+  tokens_token some = by (byte == 40) (byte == 41) refl refl
+    where
+      by : (opens closes : Bool) → (byte == 40) ≡ opens → (byte == 41) ≡ closes → tokens_from false at (drop at text) ≡ before (token_of at taken) (tokens_from false end (drop end text))
+      by true closes o c = one_byte Open 40 (is_byte byte 40 o) (len_is ∙ rw o refl) (tokens_open text at within (is_byte byte 40 o)) (λ place. refl)
+      by false true o c = one_byte Close 41 (is_byte byte 41 c) (len_is ∙ rw (o, c) refl) (tokens_close text at within (is_byte byte 41 c)) (λ place. refl)
+      by false false o c =
+          let len : end ≡ at + prefix_len is_of_word (drop at text) = len_is ∙ (λ i. at + len_by (o i || c i)) ∙ ap (λ (n : ℕ). at + n) run_is in
+          tokens_word text at end within len some ∙ ap (λ (t : Token). before t (tokens_from false end (drop end text))) (sym (kind some len o c))

@@ -1,7 +1,7 @@
 use Rattle.std.proofs.Common.{◌≡◌, ◌+◌, drop}
 use Rattle.std.specs.List.{prefix_len}
 use Rattle.p3_tree.specs.Tokens.{is_of_word}
-use Rattle.p3_syntax.proofs.token.word_end.Given as goal
+use Rattle.p3_lexer.proofs.place.word_end.Given as goal
 
 -- each byte passed is of a word
 abbrev pub invariant-loop-place : goal.invariant-loop-place

@@ -1,0 +1,9 @@
+//! The tokens of a text, as slices of it. Nothing here takes memory.
+#![tactic(auto)]
+
+#[cfg(test)]
+mod cases;
+mod lexer;
+mod place;
+
+pub use lexer::{Lexer, Next};
