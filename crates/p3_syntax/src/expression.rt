@@ -26,37 +26,42 @@ enum Progress {
 }
 
 /// An expression is a part of the innermost group, or is the whole.
-fn with_part(part: Expression, mut open: Vec<OpenGroup>) -> Result<Progress, Fault>
-    ensures { Gives the_reading result (Some (with_part part (the_groups open.items))) }
+fn with_part(part: Expression, mut groups: Vec<OpenGroup>) -> Result<Progress, Fault>
+    ensures { Gives the_reading result (Some (with_part part (the_groups groups.items))) }
 {
-    let Some(OpenGroup { at, mut parts }) = open.pop() else {
+    let Some(OpenGroup { at, mut parts }) = groups.pop() else {
         return Ok(Progress::Whole(part));
     };
     parts.push(part)?;
-    open.push(OpenGroup { at, parts })?;
-    Ok(Progress::Within(open))
+    groups.push(OpenGroup { at, parts })?;
+    Ok(Progress::Within(groups))
 }
 
 /// The innermost group is whole.
-fn closed(mut open: Vec<OpenGroup>) -> Result<Progress, Fault>
-    ensures { Gives the_reading result (going (closed (the_groups open.items))) }
+fn closed(mut groups: Vec<OpenGroup>) -> Result<Progress, Fault>
+    ensures { Gives the_reading result (going (closed (the_groups groups.items))) }
 {
-    let Some(OpenGroup { at, parts }) = open.pop() else {
+    let Some(OpenGroup { at, parts }) = groups.pop() else {
         return Err(Fault::Malformed);
     };
-    with_part(Expression::Group { at, parts }, open)
+    with_part(Expression::Group { at, parts }, groups)
 }
 
 /// One more group, where the limit allows it.
-fn opened(alloc: Global, limit: usize, at: u32, mut open: Vec<OpenGroup>) -> Result<Progress, Fault>
-    ensures { Gives the_reading result (going (opened limit at (the_groups open.items))) }
+fn opened(
+    alloc: Global,
+    limit: usize,
+    at: u32,
+    mut groups: Vec<OpenGroup>,
+) -> Result<Progress, Fault>
+    ensures { Gives the_reading result (going (opened limit at (the_groups groups.items))) }
 {
-    if open.len() >= limit {
+    if groups.len() >= limit {
         return Err(Fault::Malformed);
     }
     let parts = List::new(alloc);
-    open.push(OpenGroup { at, parts })?;
-    Ok(Progress::Within(open))
+    groups.push(OpenGroup { at, parts })?;
+    Ok(Progress::Within(groups))
 }
 
 /// One more token.
@@ -68,15 +73,15 @@ fn add(
 ) -> Result<Progress, Fault>
     ensures { Gives the_reading result (going (read_lexeme limit (the_reading progress) lexeme.entry)) }
 {
-    let Progress::Within(open) = progress else {
+    let Progress::Within(groups) = progress else {
         return Err(Fault::Malformed);
     };
     match lexeme {
-        Lexeme::Open(at) => opened(alloc, limit, at, open),
-        Lexeme::Close(_) => closed(open),
+        Lexeme::Open(at) => opened(alloc, limit, at, groups),
+        Lexeme::Close(_) => closed(groups),
         Lexeme::Word(at, text) => {
             let text = Name::of(alloc, text)?;
-            with_part(Expression::Word { at, text }, open)
+            with_part(Expression::Word { at, text }, groups)
         }
         Lexeme::End | Lexeme::Foreign(_) => Err(Fault::Malformed),
     }
