@@ -1,5 +1,5 @@
 -- Words, lists and sections that are read are those of the grammar.
-use Rattle.std.proofs.Common.{◌≡◌, ◌∙◌, refl, sym, ap, subst, ℕ, Bool, true, false, not, ◌&&◌, ◌||◌, if◌then◌else◌, List, [], ◌∷◌, ◌++◌, map, filter, codes, Option, Some, None, IfSome, true≢false}
+use Rattle.std.proofs.Common.{◌≡◌, ◌∙◌, refl, sym, ap, subst, Bool, true, false, not, ◌&&◌, ◌||◌, if◌then◌else◌, List, [], ◌∷◌, map, filter, Option, Some, None, IfSome, true≢false}
 use Rattle.std.specs.List.{list_all, list_any}
 use Rattle.std.specs.Option.{option_or}
 use Rattle.std.proofs.lemmas.List.Folds.{list_any-append}
@@ -7,7 +7,7 @@ use Rattle.std.proofs.lemmas.Slice.Eq.{bytes_eq-Decides}
 use mathlib.Core.Former.{Count}
 use Rattle.p3_tree.specs.Names.{Name, same_name, has_name, total_cost}
 use Rattle.p3_tree.specs.Grammar.Words as grammar
-use Rattle.p3_tree.specs.Grammar.Words.{Place, Part, descend, descend_parts, expressions, all_trees, each_at, word_place, parts_place, is_name, word_if, name_place, predicate_place, choose}
+use Rattle.p3_tree.specs.Grammar.Words.{Place, Part, descend, descend_parts, expressions, each_at, word_place, parts_place, is_name, word_if, name_place, choose}
 use Rattle.p3_tree.specs.Grammar.Halves as halves
 use Rattle.p3_tree.specs.Grammar.Halves.{Section, section_place, sections_named, sections_among, or_absent}
 use Rattle.p3_tree.specs.declared.expression.Expression.{Expression, Row_of-Expression, end_of-Expression, more_of-Expression, items-the_row-Expression, items_shown-the_row-Expression-0}
@@ -16,7 +16,7 @@ use Rattle.p3_tree.specs.declared.term.Ref.{Ref}
 use Rattle.p3_syntax.specs.Reading.{◌>>=◌}
 use Rattle.p3_syntax.specs.Words.{word_in, parts_in, word_of, parts_of, begins_with_letter, name_of, only_part, Headed, headed_in, headed, is_word, headed_by, headed_among, each_of, is_among, single, at_most_one, exactly_one, reserved_words}
 use Rattle.p3_syntax.specs.Parts.{atom_of}
-use Rattle.p3_syntax.proofs.TinyLemmas.{past, along, both, IfSome-guard, weaker}
+use Rattle.p3_syntax.proofs.TinyLemmas.{along, both, IfSome-guard, weaker}
 
 -- what is read is what the grammar gives
 abbrev pub Agrees : {A : Type 0} → Option A → Option A → Type 0
@@ -52,7 +52,8 @@ passes_among test (word ∷ words) name all among =
     let parts = both (test word) (list_all test words) all in
     by (same_name name word) refl among parts.0 (passes_among test words name parts.1)
   where
-    by : (b : Bool) → same_name name word ≡ b → (b || is_among words name) ≡ true → test word ≡ true → (is_among words name ≡ true → test name ≡ true) → test name ≡ true
+    by : (b : Bool) → same_name name word ≡ b → (b || is_among words name) ≡ true → test word ≡ true → (is_among words name ≡ true → test name ≡ true)
+        → test name ≡ true
     by true is among passes later = ap test ((bytes_eq-Decides name word).0 is) ∙ passes
     by false is among passes later = later among
 
@@ -102,6 +103,11 @@ pub record IsHeaded (e : Expression) (list : Headed) : Type 0 where
   pub parts : parts_place e ≡ Some (first ∷ list.behind)
   pub word : word_place first ≡ Some list.word
 
+-- its parts, where what stands behind the word is known
+pub parts_behind : (e : Expression) (list : Headed) (is : IsHeaded e list) {behind : List Expression} → list.behind ≡ behind
+    → parts_place e ≡ Some (is.first ∷ behind)
+parts_behind e list is same = is.parts ∙ ap (λ behind. Some (is.first ∷ behind)) same
+
 headed_at : (e : Expression) (parts : List Expression) → parts_place e ≡ Some parts → IfSome (headed_in parts) (IsHeaded e)
 headed_at e [] known = tt
 headed_at e (first ∷ behind) known = along (word_of first) _ _ _ (word_agrees first) (λ word is. record { first = first; parts = known; word = is })
@@ -145,15 +151,18 @@ chosen_last test word (form ∷ forms) other passes none =
     let parts = both (not (test form.0)) (list_all (λ form. not (test form.0)) forms) none in
     by (same_name form.0 word) refl parts.0 (chosen_last test word forms other passes parts.1)
   where
-    by : (b : Bool) → same_name form.0 word ≡ b → not (test form.0) ≡ true → choose word forms other ≡ other → (if b then form.1 else choose word forms other) ≡ other
+    by : (b : Bool) → same_name form.0 word ≡ b → not (test form.0) ≡ true → choose word forms other ≡ other
+        → (if b then form.1 else choose word forms other) ≡ other
     by true is fails later = absurd (true≢false (sym fails ∙ ap (λ (b : Bool). not b) (ap test ((bytes_eq-Decides form.0 word).0 is) ∙ passes)))
     by false is fails later = later
 
 -- a word's form is the form of an equal word
-pub chosen_at : {A X : Type 0} (forms : List (Name × (X → A))) (other : X → A) (x : X) {word name : Name} → word ≡ name → choose word forms other x ≡ choose name forms other x
+pub chosen_at : {A X : Type 0} (forms : List (Name × (X → A))) (other : X → A) (x : X) {word name : Name} → word ≡ name
+    → choose word forms other x ≡ choose name forms other x
 chosen_at forms other x same = ap (λ name. choose name forms other x) same
 
-pub chosen_with : {A X Y : Type 0} (forms : List (Name × (X → Y → A))) (other : X → Y → A) (x : X) (y : Y) {word name : Name} → word ≡ name → choose word forms other x y ≡ choose name forms other x y
+pub chosen_with : {A X Y : Type 0} (forms : List (Name × (X → Y → A))) (other : X → Y → A) (x : X) (y : Y) {word name : Name} → word ≡ name
+    → choose word forms other x y ≡ choose name forms other x y
 chosen_with forms other x y same = ap (λ name. choose name forms other x y) same
 
 -- the first of two is there
@@ -217,10 +226,12 @@ the_section list = record { word = list.word; behind = list.behind }
 abbrev pub are_among : List Name → List Headed → Bool
 are_among words lists = list_all (λ list. is_among words list.word.name) lists
 
-section_agrees : (words : List Name) (e : Expression) → IfSome (headed_among words e) (λ list. (section_place e ≡ Some (the_section list)) × (is_among words list.word.name ≡ true))
+section_agrees : (words : List Name) (e : Expression)
+    → IfSome (headed_among words e) (λ list. (section_place e ≡ Some (the_section list)) × (is_among words list.word.name ≡ true))
 unfolding headed_among
 section_agrees words e =
-    along (headed e) _ _ _ (headed_agrees e) (λ list is. IfSome-guard _ (is_among words list.word.name) list (λ among. (then_is _ is.parts (then_is _ (then_is _ is.word refl) refl), among)))
+    along (headed e) _ _ _ (headed_agrees e) (λ list is. IfSome-guard _ (is_among words list.word.name) list
+    (λ among. (then_is _ is.parts (then_is _ (then_is _ is.word refl) refl), among)))
 
 pub sections_agree : (words : List Name) (list : List Expression)
     → IfSome (each_of (headed_among words) list) (λ found. (each_at section_place list ≡ Some (map the_section found)) × (are_among words found ≡ true))
@@ -236,7 +247,8 @@ all_allowed keywords words lists allowed among = ap (λ (b : Bool). if b then So
         let parts = both (is_among words l.word.name) (are_among words ls) among in
         λ i. passes_among (has_name keywords) words l.word.name allowed parts.0 i && all ls parts.1 i
 
-named_are : (keyword : Name) (lists : List Headed) → sections_named keyword (map the_section lists) ≡ map the_section (filter (λ list. is_word keyword list.word) lists)
+named_are : (keyword : Name) (lists : List Headed)
+    → sections_named keyword (map the_section lists) ≡ map the_section (filter (λ list. is_word keyword list.word) lists)
 named_are keyword [] = refl
 named_are keyword (list ∷ lists) = by (same_name list.word.name keyword) (named_are keyword lists)
   where
@@ -247,7 +259,8 @@ named_are keyword (list ∷ lists) = by (same_name list.word.name keyword) (name
     by false later = later
 
 -- no section has a keyword that is not among the given ones
-pub none_named : (keyword : Name) (words : List Name) (lists : List Headed) → list_all (λ word. not (same_name word keyword)) words ≡ true → are_among words lists ≡ true
+pub none_named : (keyword : Name) (words : List Name) (lists : List Headed) → list_all (λ word. not (same_name word keyword)) words ≡ true
+    → are_among words lists ≡ true
     → sections_named keyword (map the_section lists) ≡ []
 none_named keyword words [] others among = refl
 none_named keyword words (list ∷ lists) others among =
@@ -268,7 +281,8 @@ once_in reading sections = grammar.◌>>=◌ (grammar.only sections) reading
 
 module _ {A : Type 0} (keyword : Name) (lists : List Headed) (P : A → List Section → Type 0) where
   -- a fact of the sections of a keyword, from what it says of none and of one
-  pub at_most_one_agrees : (f : Option Headed → Option A) → IfSome (f None) (λ x. P x []) → ((list : Headed) → IfSome (f (Some list)) (λ x. P x (the_section list ∷ [])))
+  pub at_most_one_agrees : (f : Option Headed → Option A) → IfSome (f None) (λ x. P x []) → ((list : Headed)
+      → IfSome (f (Some list)) (λ x. P x (the_section list ∷ [])))
       → IfSome (at_most_one keyword lists >>= f) (λ x. P x (sections_named keyword (map the_section lists)))
   unfolding at_most_one
   at_most_one_agrees f none one =

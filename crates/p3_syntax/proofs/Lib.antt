@@ -5,4 +5,7 @@ pub mod ExpressionLemmas
 pub mod TinyLemmas
 pub mod SpelledLemmas
 pub mod GrammarWords
+pub mod GrammarParts
+pub mod GrammarDomain
+pub mod GrammarProblem
 pub mod GrammarLemmas
