@@ -10,7 +10,6 @@ use Rattle.p3_tree.specs.Grammar.Halves as halves
 use Rattle.p3_tree.specs.Grammar.Halves.{sections_named, optional, body_at, part_at, keyword_parts, action_keywords, action_in, all_actions, header_place, no_constraints, kinds_in, functions_in, domain_keywords, domain_place}
 use Rattle.p3_tree.specs.Grammar.Constraints.{constraint_or_empty_place}
 use Rattle.p3_tree.specs.declared.effect.Effect.{Effect}
-use Rattle.p3_tree.specs.declared.effect.Effect.TheVariants as effect
 use Rattle.p3_tree.specs.declared.expression.Expression.{Expression}
 use Rattle.p3_tree.specs.declared.goal.PreGoal.{PreGoal}
 use Rattle.p3_tree.specs.declared.goal.PreGoal.TheVariants as goal
@@ -28,7 +27,8 @@ effect_of_literal : (e : Expression) (is_negated : Bool) (pred : Ref) → IsLite
     → effect_place e ≡ Some (effect_of (record { is_negated = is_negated; pred = pred }))
 unfolding effect_place
 effect_of_literal e true pred is =
-    ap (λ found. found true) (at_list (λ word free. None) (λ list parts. effect_in parts) e (is.headed.first ∷ is.inner ∷ []) (parts_behind _ _ is.headed is.behind))
+    ap (λ found. found true) (at_list (λ word free. None) (λ list parts. effect_in parts) e (is.headed.first ∷ is.inner ∷ [])
+    (parts_behind _ _ is.headed is.behind))
     ∙ then_is _ (then_is _ is.headed.word refl)
     (chosen_with effect_forms _ _ true is.word ∙ then_is _ is.atom.parts (then_is _ (atom_is is.inner pred is.atom) refl))
 effect_of_literal e false pred is =
@@ -68,6 +68,7 @@ parameters_agree parts =
     (λ part. along (only_part part.behind) _ _ _ (only_agrees part.behind) (λ body only. weaker _ _ (empty_list_in body)
     (λ none empty. ap (λ list. grammar.◌>>=◌ (grammar.only list) variables_place) only ∙ then_is _ empty refl) (empty_list_is body)))
 
+-- `()` or `(and)`
 no_condition_at : (e : Expression) (parts : List Expression) → parts_place e ≡ Some parts
     → IfSome (no_part parts) (λ none. goal_or_empty_place e ≡ Some (goal.Both []))
 unfolding goal_place
@@ -114,10 +115,10 @@ unfolding action_of
 action_agrees [] = tt
 action_agrees (first ∷ later) =
     along (name_of first) _ _ _ (name_agrees first) (λ name named. along (action_parts later) _ _ _ (action_parts_agree later)
-    (λ parts are. along (parameters_among parts) _ _ _ (parameters_agree parts) (λ none params. along (precondition_among name.at parts) _ _ _ (precondition_agrees name.at parts)
-    (λ at pre. along (effect_among parts) _ _ _ (effect_agrees (record { at = name.at; body = effect.All [] }) parts)
-    (λ change is. then_is _ named (then_is _ are.0 (then_is _ (all_allowed action_keywords part_words parts refl are.1)
-    (then_is _ params (then_is _ pre (then_is _ is refl))))))))))
+    (λ parts are. along (parameters_among parts) _ _ _ (parameters_agree parts) (λ none params.
+    along (precondition_among name.at parts) _ _ _ (precondition_agrees name.at parts) (λ at pre.
+    along (effect_among parts) _ _ _ (effect_agrees _ parts) (λ change is.
+    then_is _ named (then_is _ are.0 (then_is _ (all_allowed action_keywords part_words parts refl are.1) (then_is _ params (then_is _ pre (then_is _ is refl))))))))))
 
 -- ---- the domain half
 
@@ -137,11 +138,13 @@ actions_agree lists =
     at_most_one_agrees (codes ":action") lists (λ found sections. all_actions sections ≡ Some found) actions_in refl
     (λ list. along (action_of list.behind) _ _ _ (action_agrees list.behind) (λ action is. then_is _ is refl))
 
+-- the tree that is read is the one of the grammar
 pub domain_agrees : (e : Expression) → Agrees (domain_of e) (domain_place e)
 unfolding domain_of domain_place
 domain_agrees e =
     along (defined (codes "domain") e) _ _ _ (defined_agrees (codes "domain") e) (λ half is.
-    along (each_of (headed_among domain_words) half.sections) _ _ _ (sections_agree domain_words half.sections) (λ lists are. along (requirements_among lists) _ _ _ (requirements_agree lists) (λ none words. along (predicates_among lists) _ _ _ (predicates_agree lists)
+    along (each_of (headed_among domain_words) half.sections) _ _ _ (sections_agree domain_words half.sections) (λ lists are.
+    along (requirements_among lists) _ _ _ (requirements_agree lists) (λ none words. along (predicates_among lists) _ _ _ (predicates_agree lists)
     (λ predicates plain. along (actions_among lists) _ _ _ (actions_agree lists) (λ actions all.
     then_is _ (half_is (codes "domain") domain_keywords domain_words e half lists refl is are) (then_is _ words.1
     (then_is _ (absent_is (codes ":types") domain_words lists [] kinds_in refl are.1)

@@ -1,8 +1,8 @@
 -- The tree of a problem half that is read is that of the grammar.
-use Rattle.std.proofs.Common.{◌≡◌, ◌∙◌, refl, ap, Bool, true, false, not, ◌&&◌, if◌then◌else◌, List, [], ◌∷◌, map, codes, Option, Some, None, IfSome, length}
+use Rattle.std.proofs.Common.{◌≡◌, ◌∙◌, refl, ap, Bool, true, false, if◌then◌else◌, List, [], ◌∷◌, map, codes, Option, Some, None, IfSome, length}
 use Rattle.std.specs.List.{list_all}
 use Rattle.std.proofs.lemmas.Slice.Eq.{bytes_eq-Decides}
-use Rattle.std.specs.Prelude.{◌==◌, nat_le}
+use Rattle.std.specs.Prelude.{not, ◌&&◌, ◌==◌, nat_le}
 use Rattle.std.specs.Char.{is_ascii_digit}
 use Rattle.p3_base.specs.declared.refusal.Direction.TheVariants.{Minimize}
 use Rattle.p3_tree.specs.Names.{Name}
@@ -23,21 +23,22 @@ use Rattle.p3_syntax.specs.Reading.{◌>>=◌}
 use Rattle.p3_syntax.specs.Words.{word_of, name_of, only_part, Headed, headed, headed_by, is_word, headed_among, each_of}
 use Rattle.p3_syntax.specs.Parts.{atom_of, literal_in}
 use Rattle.p3_syntax.specs.Domain.{requirements_among, defined}
-use Rattle.p3_syntax.specs.Problem.{Contents, entry_of, numeral_of, preferred, preference_of, count_of, product_of, summand_in, metric_of, domain_name_among, init_among, goal_among, metric_among, problem_words, contents_of, problem_of}
+use Rattle.p3_syntax.specs.Problem.{Contents, entry_of, is_short_number, numeral_of, preferred, preference_of, count_of, product_of, summand_in, metric_of, domain_name_among, init_among, goal_among, metric_among, problem_words, contents_of, problem_of}
 use Rattle.p3_syntax.proofs.TinyLemmas.{along, both, IfSome-guard, weaker}
 use Rattle.p3_syntax.proofs.GrammarWords.{Agrees, IsHeaded, IsHeadedBy, at_list, at_word, atom_agrees, chosen_last, chosen_with, exactly_one_agrees, headed_agrees, headed_by_agrees, is_predicate, name_agrees, once_in, only_agrees, optional_in, or_first, parts_behind, sections_agree, the_section, then_is, word_agrees, word_passes}
 use Rattle.p3_syntax.proofs.GrammarParts.{absent_is, defined_agrees, formula_of_literal, half_is, literal_agrees, part_is, predicate_is, requirements_agree, same_each, word_is}
 
 -- ---- numbers and the metric
 
-number_is : (name : Name) → (not (length name == 0) && nat_le (length name) 15 && list_all is_ascii_digit name) ≡ true → is_number name ≡ true
+number_is : (name : Name) → is_short_number name ≡ true → is_number name ≡ true
 number_is [] fits = absurd (cc)
-number_is (digit ∷ digits) fits = (both (not (length (digit ∷ digits) == 0) && nat_le (length (digit ∷ digits)) 15) (list_all is_ascii_digit (digit ∷ digits)) fits).1
+number_is (digit ∷ digits) fits =
+    (both (not (length (digit ∷ digits) == 0) && nat_le (length (digit ∷ digits)) 15) (list_all is_ascii_digit (digit ∷ digits)) fits).1
 
 number_agrees : (e : Expression) → IfSome (numeral_of e) (λ numeral. num_place e ≡ Some (num.Number numeral))
 unfolding numeral_of num_place
 number_agrees e =
-    along (word_of e) _ _ _ (word_agrees e) (λ word known. IfSome-guard _ (not (length word.name == 0) && nat_le (length word.name) 15 && list_all is_ascii_digit word.name) _
+    along (word_of e) _ _ _ (word_agrees e) (λ word known. IfSome-guard _ (is_short_number word.name) _
     (λ fits. at_word num_word (λ list parts. num_in parts) e word known
     ∙ or_first _ (then_is _ (then_is _ (word_passes is_number e word known (number_is word.name fits)) refl) refl)))
 
@@ -49,6 +50,7 @@ count_agrees e =
     at_list num_word (λ list parts. num_in parts) e (is.0.first ∷ word ∷ []) (parts_behind _ _ is.0 only)
     ∙ then_is _ (then_is _ is.0.word refl) (chosen_with num_forms _ _ _ is.1 ∙ then_is _ named refl))))
 
+-- `(* n (is-violated g))`
 product_at : (e : Expression) (list : Headed) (behind : List Expression) → IsHeadedBy (codes "*") e list → list.behind ≡ behind
     → Agrees (product_of list.word.at behind) (num_place e)
 unfolding num_place
@@ -91,6 +93,7 @@ entry_agrees e =
     along (atom_of e) _ _ _ (atom_agrees e) (λ pred is. then_is _ is.parts (then_is _ (then_is _ is.word refl)
     (ap (λ form. form []) (chosen_last is_predicate pred.name init_forms _ is.passes refl) ∙ then_is _ (predicate_is e pred is) refl)))
 
+-- `(preference g (p))`
 preferred_at : (e : Expression) (list : Headed) (behind : List Expression) → IsHeadedBy (codes "preference") e list → list.behind ≡ behind
     → IfSome (preferred list.word.at behind) (λ pref. goal_or_empty_place e ≡ Some (goal.Soft pref))
 unfolding goal_place
@@ -152,11 +155,13 @@ contents_agree lists =
     along (metric_among lists) _ _ _ (metric_among_agrees lists)
     (λ metric counts. record { words = words.0; requirements = words.1; domain = named; init = all; goal = is; metric = counts })))))
 
+-- the tree that is read is the one of the grammar
 pub problem_agrees : (e : Expression) → Agrees (problem_of e) (problem_place e)
 unfolding problem_of problem_place
 problem_agrees e =
     along (defined (codes "problem") e) _ _ _ (defined_agrees (codes "problem") e) (λ half is.
-    along (each_of (headed_among problem_words) half.sections) _ _ _ (sections_agree problem_words half.sections) (λ lists are. along (contents_of lists) _ _ _ (contents_agree lists) (λ found stands.
+    along (each_of (headed_among problem_words) half.sections) _ _ _ (sections_agree problem_words half.sections) (λ lists are.
+    along (contents_of lists) _ _ _ (contents_agree lists) (λ found stands.
     then_is _ (half_is (codes "problem") problem_keywords problem_words e half lists refl is are) (then_is _ stands.domain (then_is _ stands.requirements
     (then_is _ (absent_is (codes ":objects") problem_words lists [] (λ section. objects_in section.behind) refl are.1) (then_is _ stands.init (then_is _ stands.goal
     (then_is _ (absent_is (codes ":constraints") problem_words lists no_constraints (part_at constraint_or_empty_place) refl are.1) (then_is _ stands.metric refl))))))))))

@@ -36,10 +36,10 @@ same_name-sym : (a b : Name) → same_name a b ≡ same_name b a
 same_name-sym a b = by (same_name a b) (same_name b a) refl refl
   where
     by : (x y : Bool) → same_name a b ≡ x → same_name b a ≡ y → x ≡ y
-    by true true p q = refl
-    by true false p q = sym ((bytes_eq-Decides b a).1 (sym ((bytes_eq-Decides a b).0 p))) ∙ q
-    by false true p q = sym p ∙ (bytes_eq-Decides a b).1 (sym ((bytes_eq-Decides b a).0 q))
-    by false false p q = refl
+    by true true one other = refl
+    by true false one other = sym ((bytes_eq-Decides b a).1 (sym ((bytes_eq-Decides a b).0 one))) ∙ other
+    by false true one other = sym one ∙ (bytes_eq-Decides a b).1 (sym ((bytes_eq-Decides b a).0 other))
+    by false false one other = refl
 
 among_same : (words : List Name) (name : Name) → is_among words name ≡ has_name words name
 among_same [] name = refl
@@ -86,7 +86,8 @@ IsNamed e word = (word_place e ≡ Some word) × (is_name word.name ≡ true)
 
 named : (e : Expression) → IfSome (name_of e) (IsNamed e)
 unfolding name_of
-named e = along (word_of e) _ _ _ (word_agrees e) (λ word known. IfSome-guard _ (begins_with_letter word.name) word (λ letter. (known, sym (begins_same word.name) ∙ letter)))
+named e = along (word_of e) _ _ _ (word_agrees e) (λ word known. IfSome-guard _ (begins_with_letter word.name) word
+    (λ letter. (known, sym (begins_same word.name) ∙ letter)))
 
 pub name_agrees : (e : Expression) → Agrees (name_of e) (name_place e)
 name_agrees e = weaker _ _ (name_of e) (λ word is. word_passes is_name e word is.0 is.1) (named e)
@@ -241,31 +242,31 @@ pub all_allowed : (keywords words : List Name) (lists : List Headed) → list_al
     → sections_among keywords (map the_section lists) ≡ Some (map the_section lists)
 all_allowed keywords words lists allowed among = ap (λ (b : Bool). if b then Some (map the_section lists) else None) (all lists among)
   where
-    all : (ls : List Headed) → are_among words ls ≡ true → list_all (λ section. has_name keywords section.word.name) (map the_section ls) ≡ true
+    all : (lists : List Headed) → are_among words lists ≡ true → list_all (λ section. has_name keywords section.word.name) (map the_section lists) ≡ true
     all [] among = refl
-    all (l ∷ ls) among =
-        let parts = both (is_among words l.word.name) (are_among words ls) among in
-        λ i. passes_among (has_name keywords) words l.word.name allowed parts.0 i && all ls parts.1 i
+    all (list ∷ lists) among =
+        let parts = both (is_among words list.word.name) (are_among words lists) among in
+        λ i. passes_among (has_name keywords) words list.word.name allowed parts.0 i && all lists parts.1 i
 
 named_are : (keyword : Name) (lists : List Headed)
     → sections_named keyword (map the_section lists) ≡ map the_section (filter (λ list. is_word keyword list.word) lists)
 named_are keyword [] = refl
 named_are keyword (list ∷ lists) = by (same_name list.word.name keyword) (named_are keyword lists)
   where
-    by : (b : Bool) → sections_named keyword (map the_section lists) ≡ map the_section (filter (λ l. is_word keyword l.word) lists)
+    by : (b : Bool) → sections_named keyword (map the_section lists) ≡ map the_section (filter (λ list. is_word keyword list.word) lists)
         → (if b then the_section list ∷ sections_named keyword (map the_section lists) else sections_named keyword (map the_section lists))
-        ≡ map the_section (if b then list ∷ filter (λ l. is_word keyword l.word) lists else filter (λ l. is_word keyword l.word) lists)
+        ≡ map the_section (if b then list ∷ filter (λ list. is_word keyword list.word) lists else filter (λ list. is_word keyword list.word) lists)
     by true later = ap (λ more. the_section list ∷ more) later
     by false later = later
 
 -- no section has a keyword that is not among the given ones
 pub none_named : (keyword : Name) (words : List Name) (lists : List Headed) → list_all (λ word. not (same_name word keyword)) words ≡ true
-    → are_among words lists ≡ true
-    → sections_named keyword (map the_section lists) ≡ []
+    → are_among words lists ≡ true → sections_named keyword (map the_section lists) ≡ []
 none_named keyword words [] others among = refl
 none_named keyword words (list ∷ lists) others among =
     let parts = both (is_among words list.word.name) (are_among words lists) among in
-    by (same_name list.word.name keyword) (passes_among (λ word. not (same_name word keyword)) words list.word.name others parts.0) (none_named keyword words lists others parts.1)
+    by (same_name list.word.name keyword) (passes_among (λ word. not (same_name word keyword)) words list.word.name others parts.0)
+    (none_named keyword words lists others parts.1)
   where
     by : (b : Bool) → not b ≡ true → sections_named keyword (map the_section lists) ≡ []
         → (if b then the_section list ∷ sections_named keyword (map the_section lists) else sections_named keyword (map the_section lists)) ≡ []
@@ -281,8 +282,8 @@ once_in reading sections = grammar.◌>>=◌ (grammar.only sections) reading
 
 module _ {A : Type 0} (keyword : Name) (lists : List Headed) (P : A → List Section → Type 0) where
   -- a fact of the sections of a keyword, from what it says of none and of one
-  pub at_most_one_agrees : (f : Option Headed → Option A) → IfSome (f None) (λ x. P x []) → ((list : Headed)
-      → IfSome (f (Some list)) (λ x. P x (the_section list ∷ [])))
+  pub at_most_one_agrees : (f : Option Headed → Option A) → IfSome (f None) (λ x. P x [])
+      → ((list : Headed) → IfSome (f (Some list)) (λ x. P x (the_section list ∷ [])))
       → IfSome (at_most_one keyword lists >>= f) (λ x. P x (sections_named keyword (map the_section lists)))
   unfolding at_most_one
   at_most_one_agrees f none one =

@@ -24,7 +24,7 @@ use Rattle.p3_syntax.specs.Reading.{◌>>=◌}
 use Rattle.p3_syntax.specs.Words.{Headed, word_of, name_of, only_part, headed, headed_by, is_word, headed_among, at_most_one, exactly_one, each_of}
 use Rattle.p3_syntax.specs.Parts.{atom_of, literal_in, effect_of, formula_of}
 use Rattle.p3_syntax.specs.Domain.{header_of, action_parts, parameters_among, precondition_among, effect_among, action_of, predicates_in, predicates_among, requirements_among, actions_in, actions_among, domain_words, defined, domain_of}
-use Rattle.p3_syntax.specs.Problem.{Contents, entry_of, numeral_of, preferred, preference_of, count_of, product_of, summand_in, metric_of, domain_name_among, init_among, goal_among, metric_among, problem_words, contents_of, problem_of}
+use Rattle.p3_syntax.specs.Problem.{Contents, entry_of, is_short_number, numeral_of, preferred, preference_of, count_of, product_of, summand_in, metric_of, domain_name_among, init_among, goal_among, metric_among, problem_words, contents_of, problem_of}
 
 module _ {A B : Type 0} (o : Option A) (f : A → Option B) (P : B → Type 0) where
   -- a fact of what a step gives, from facts of the next step
@@ -179,7 +179,7 @@ IsShort number = (number.places ≡ 0) × (number.digits < 1000000000000000)
 numeral_is_short : (e : Expression) → IfSome (numeral_of e) IsShort
 unfolding numeral_of
 numeral_is_short e =
-    past (word_of e) _ _ (λ word. IfSome-guard _ (not (length word.name == 0) && nat_le (length word.name) 15 && list_all is_ascii_digit word.name) _ (λ fits.
+    past (word_of e) _ _ (λ word. IfSome-guard _ (is_short_number word.name) _ (λ fits.
     let parts = both (not (length word.name == 0) && nat_le (length word.name) 15) (list_all is_ascii_digit word.name) fits in
     let few : length word.name ≤ 15 = leb-true _ _ (both (not (length word.name == 0)) (nat_le (length word.name) 15) parts.0).1 in
     let power : 10 ^ length word.name ≤ 10 ^ 15 = pow-le-pow_right {n = 10} (omega arith) {i = length word.name} {j = 15} few in

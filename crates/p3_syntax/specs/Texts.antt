@@ -39,7 +39,8 @@ problem_of_text text = do
   problem ← problem_of e
   kept is_tiny_problem problem
 
--- the text is one of the tree at a place of the grammar
+-- The text spells an expression that has this tree at the place. A text spells one expression at most,
+-- and a place gives an expression one tree at most.
 pub record IsHalfText {A : Type 0} (place : Place A) (text : List ℕ) (tree : A) : Type 0 where
   pub expression : Expression
   pub balanced : IsBalanced text expression
