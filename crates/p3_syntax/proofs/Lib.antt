@@ -2,3 +2,9 @@ pub mod Loops
 pub mod PartLemmas
 pub mod ExpressionLemmas
 pub mod TinyLemmas
+pub mod SpelledLemmas
+pub mod GrammarWords
+pub mod GrammarParts
+pub mod GrammarDomain
+pub mod GrammarProblem
+pub mod GrammarLemmas

@@ -3,7 +3,7 @@ use Rattle.std.proofs.Common.{◌≡◌, ℕ, ◌+◌, ◌-◌, ◌*◌, ◌^◌
 use Rattle.std.proofs.Math.Nat.{mul-le-mul_right, pow-suc, pow-le-pow_right}
 use Rattle.std.proofs.lemmas.Bool.Decides.{nat_tests}
 use Rattle.std.proofs.lemmas.Bool.{leb-true}
-use Rattle.std.specs.Prelude.{◌==◌, is_some, nat_le, nat_lt}
+use Rattle.std.specs.Prelude.{◌==◌, not, is_some, nat_le, nat_lt}
 use Rattle.std.specs.Char.{is_ascii_digit}
 use Rattle.std.specs.List.{list_all}
 use Rattle.p3_tree.specs.declared.effect.Effect.TheVariants as effect
@@ -24,18 +24,18 @@ use Rattle.p3_syntax.specs.Reading.{◌>>=◌}
 use Rattle.p3_syntax.specs.Words.{Headed, word_of, name_of, only_part, headed, headed_by, is_word, headed_among, at_most_one, exactly_one, each_of}
 use Rattle.p3_syntax.specs.Parts.{atom_of, literal_in, effect_of, formula_of}
 use Rattle.p3_syntax.specs.Domain.{header_of, action_parts, parameters_among, precondition_among, effect_among, action_of, predicates_in, predicates_among, requirements_among, actions_in, actions_among, domain_words, defined, domain_of}
-use Rattle.p3_syntax.specs.Problem.{Contents, entry_of, numeral_of, preferred, preference_of, count_of, product_of, summand_in, metric_of, domain_name_among, init_among, goal_among, metric_among, problem_words, contents_of, problem_of}
+use Rattle.p3_syntax.specs.Problem.{Contents, entry_of, is_short_number, numeral_of, preferred, preference_of, count_of, product_of, summand_in, metric_of, domain_name_among, init_among, goal_among, metric_among, problem_words, contents_of, problem_of}
 
 module _ {A B : Type 0} (o : Option A) (f : A → Option B) (P : B → Type 0) where
   -- a fact of what a step gives, from facts of the next step
-  past : ((x : A) → IfSome (f x) P) → IfSome (o >>= f) P
+  pub past : ((x : A) → IfSome (f x) P) → IfSome (o >>= f) P
   past next = by_cases o next
     where
       by_cases : (o : Option A) → ((x : A) → IfSome (f x) P) → IfSome (o >>= f) P
       by_cases (Some x) next = next x
       by_cases None next = tt
 
-  along : (Q : A → Type 0) → IfSome o Q → ((x : A) → Q x → IfSome (f x) P) → IfSome (o >>= f) P
+  pub along : (Q : A → Type 0) → IfSome o Q → ((x : A) → Q x → IfSome (f x) P) → IfSome (o >>= f) P
   along Q fact next = by_cases o fact next
     where
       by_cases : (o : Option A) → IfSome o Q → ((x : A) → Q x → IfSome (f x) P) → IfSome (o >>= f) P
@@ -151,7 +151,7 @@ unfolding goal_among
 goal_is_wish sections =
     past (exactly_one (codes ":goal") sections) _ _ (λ list. past (only_part list.behind) _ _ (λ only. along (preference_of only) _ _ _ (preference_is_wish only) (λ pref is. is)))
 
-both : (a b : Bool) → (a && b) ≡ true → (a ≡ true) × (b ≡ true)
+pub both : (a b : Bool) → (a && b) ≡ true → (a ≡ true) × (b ≡ true)
 both true b h = (refl, h)
 both false b h = absurd cc
 
@@ -169,7 +169,7 @@ decimal_below (digit ∷ digits) front all =
     let later = decimal_below digits (front * 10 + (digit - 48)) parts.1 in
     rw (pow-suc 10 (length digits)) (omega (arith, later, one_digit front (digit - 48) (10 ^ length digits) (digit_below digit parts.0)))
 
-IfSome-guard : {A : Type 0} (P : A → Type 0) (b : Bool) (x : A) → (b ≡ true → P x) → IfSome (if b then Some x else None) P
+pub IfSome-guard : {A : Type 0} (P : A → Type 0) (b : Bool) (x : A) → (b ≡ true → P x) → IfSome (if b then Some x else None) P
 IfSome-guard P true x h = h refl
 IfSome-guard P false x h = tt
 
@@ -179,11 +179,11 @@ IsShort number = (number.places ≡ 0) × (number.digits < 1000000000000000)
 numeral_is_short : (e : Expression) → IfSome (numeral_of e) IsShort
 unfolding numeral_of
 numeral_is_short e =
-    past (word_of e) _ _ (λ word. IfSome-guard _ (list_all is_ascii_digit word.name && nat_le (length word.name) 15) _ (λ fits.
-    let parts = both (list_all is_ascii_digit word.name) (nat_le (length word.name) 15) fits in
-    let few : length word.name ≤ 15 = leb-true _ _ parts.1 in
+    past (word_of e) _ _ (λ word. IfSome-guard _ (is_short_number word.name) _ (λ fits.
+    let parts = both (not (length word.name == 0) && nat_le (length word.name) 15) (list_all is_ascii_digit word.name) fits in
+    let few : length word.name ≤ 15 = leb-true _ _ (both (not (length word.name == 0)) (nat_le (length word.name) 15) parts.0).1 in
     let power : 10 ^ length word.name ≤ 10 ^ 15 = pow-le-pow_right {n = 10} (omega arith) {i = length word.name} {j = 15} few in
-    (refl, omega (arith, power, decimal_below word.name 0 parts.0))))
+    (refl, omega (arith, power, decimal_below word.name 0 parts.1))))
 
 IsCount : Num → Type 0
 IsCount body = (name : Ref) × (body ≡ num.Violated name)
@@ -215,7 +215,7 @@ product_is_summand at (first ∷ second ∷ []) =
     along (numeral_of first) _ _ _ (numeral_is_short first) (λ number short. along (count_of second) _ _ _ (count_is_count second) (λ count is. weighted_count at number count short is))
 product_is_summand at (first ∷ second ∷ third ∷ more) = tt
 
-weaker : {A : Type 0} (Q P : A → Type 0) (o : Option A) → ((x : A) → Q x → P x) → IfSome o Q → IfSome o P
+pub weaker : {A : Type 0} (Q P : A → Type 0) (o : Option A) → ((x : A) → Q x → P x) → IfSome o Q → IfSome o P
 weaker Q P (Some x) f fact = f x fact
 weaker Q P None f fact = tt
 

@@ -1,6 +1,6 @@
 -- The tree of a tiny problem half, one equation for each production. Each section stands at most
 -- once, in any order.
-use Rattle.std.specs.Prelude.{ℕ, ◌+◌, ◌-◌, ◌*◌, ◌&&◌, nat_le, if◌then◌else◌, fold, List, [], ◌∷◌, length, Option, Some, None, codes}
+use Rattle.std.specs.Prelude.{ℕ, Bool, ◌+◌, ◌-◌, ◌*◌, ◌==◌, not, ◌&&◌, nat_le, if◌then◌else◌, fold, List, [], ◌∷◌, length, Option, Some, None, codes}
 use Rattle.std.specs.List.{list_all}
 use Rattle.std.specs.Char.{is_ascii_digit}
 use Rattle.p3_base.specs.declared.refusal.Direction.TheVariants.{Minimize}
@@ -31,11 +31,14 @@ entry_of e = atom_of e >>= λ pred. Some (init.True pred [])
 abbrev pub decimal : List ℕ → ℕ
 decimal = fold (λ value digit. value * 10 + (digit - 48)) 0
 
+-- 1 to 15 digits
+abbrev pub is_short_number : List ℕ → Bool
+is_short_number name = not (length name == 0) && nat_le (length name) 15 && list_all is_ascii_digit name
+
 abbrev pub numeral_in : Ref → Option Numeral
 numeral_in word =
-    if list_all is_ascii_digit word.name && nat_le (length word.name) 15 then Some (record { at = word.at; len = length word.name; digits = decimal word.name; places = 0 }) else None
+    if is_short_number word.name then Some (record { at = word.at; len = length word.name; digits = decimal word.name; places = 0 }) else None
 
--- a number of at most 15 digits
 unfoldable pub numeral_of : Expression → Option Numeral
 numeral_of e = word_of e >>= numeral_in
 

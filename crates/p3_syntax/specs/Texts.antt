@@ -3,9 +3,12 @@ use Rattle.std.specs.Prelude.{◌≡◌, ℕ, Bool, if◌then◌else◌, List, O
 use Rattle.p3_base.specs.declared.refusal.Code.TheVariants.{Malformed}
 use Rattle.p3_base.specs.declared.refusal.Refusal.{Refusal}
 use Rattle.p3_base.specs.declared.refusal.Role.{Role}
+use Rattle.p3_tree.specs.declared.expression.Expression.{Expression}
 use Rattle.p3_tree.specs.declared.task.Domain.{Domain}
 use Rattle.p3_tree.specs.declared.task.Problem.{Problem}
 use Rattle.p3_tree.specs.Expressions.{expression_of_text}
+use Rattle.p3_tree.specs.Grammar.Words.{Place, IsText}
+use Rattle.p3_tree.specs.Grammar.Texts.{IsBalanced}
 use Rattle.p3_tree.specs.Tiny.{is_tiny_domain, is_tiny_problem}
 use Rattle.p3_syntax.specs.declared.error.Fault.{Fault}
 use Rattle.p3_syntax.specs.declared.error.Fault.TheVariants as fault
@@ -35,6 +38,13 @@ problem_of_text text = do
   e ← expression_of_text source_depth text
   problem ← problem_of e
   kept is_tiny_problem problem
+
+-- The text spells an expression that has this tree at the place. A text spells one expression at most,
+-- and a place gives an expression one tree at most.
+pub record IsHalfText {A : Type 0} (place : Place A) (text : List ℕ) (tree : A) : Type 0 where
+  pub expression : Expression
+  pub balanced : IsBalanced text expression
+  pub reads : IsText place expression tree
 
 -- of a refusal, and nothing where memory is wanting
 abbrev pub IfRefused : ReadFail → (Refusal → Type 0) → Type 0

@@ -57,14 +57,14 @@ fn decimal(digits: &[u8]) -> u64
     value
 }
 
-/// A number of at most 15 digits.
+/// A number of 1 to 15 digits.
 #[tactic(auto, unfolding(crate::specs::Problem::numeral_of))]
 fn numeral(expression: &Expression) -> Result<Numeral, Fault>
     ensures { Gives (λ numeral. numeral) result (numeral_of expression.now) }
 {
     let (text, at) = word(expression)?;
     let digits = text.bytes();
-    if digits.len() > 15 || !are_digits(digits) {
+    if digits.is_empty() || digits.len() > 15 || !are_digits(digits) {
         return Err(Fault::Malformed);
     }
     Ok(Numeral {

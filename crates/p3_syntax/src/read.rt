@@ -4,7 +4,8 @@ ghost use Rattle.std.specs.Prelude.{◌≡◌, ◌≤◌, length, IfOk, IfErr, S
 ghost use Rattle.p3_base.specs.declared.refusal.Side.TheVariants.{Source};
 ghost use Rattle.p3_base.specs.declared.refusal.Role.TheVariants as role;
 ghost use Rattle.p3_syntax.specs.Reading.{Gives};
-ghost use Rattle.p3_syntax.specs.Texts.{domain_of_text, problem_of_text, IfRefused, FailsAs, malformed};
+ghost use Rattle.p3_tree.specs.Grammar.Halves.{domain_place, problem_place};
+ghost use Rattle.p3_syntax.specs.Texts.{domain_of_text, problem_of_text, IsHalfText, IfRefused, FailsAs, malformed};
 
 use crate::domain::domain;
 use crate::error::{Fault, ReadFail};
@@ -61,11 +62,14 @@ fn fail(fault: Fault, role: Role) -> ReadFail
 }
 
 /// The domain half that a text spells: tiny, and well-formed by itself.
+#[tactic(auto, using(crate::proofs::GrammarLemmas::domain_text))]
 pub fn read_domain(alloc: Global, side: Side, text: &[u8]) -> Result<Domain, ReadFail>
     requires source { side ≡ Source }
     requires short { length text.now ≤ 16777216 }
     // What is read is the tree of the text.
     ensures read { IfOk result (λ domain. domain_of_text text.now ≡ Some domain) }
+    // It is the one tree that the text has in the grammar.
+    ensures text { IfOk result (λ domain. IsHalfText domain_place text.now domain) }
     // A text is refused only where it has no tree.
     ensures refused { IfErr result (λ fail. IfRefused fail (λ _. domain_of_text text.now ≡ None)) }
     ensures place { IfErr result (λ fail. IfRefused fail (λ refusal. refusal ≡ malformed role.Domain)) }
@@ -77,11 +81,14 @@ pub fn read_domain(alloc: Global, side: Side, text: &[u8]) -> Result<Domain, Rea
 }
 
 /// The problem half that a text spells: tiny, and well-formed by itself.
+#[tactic(auto, using(crate::proofs::GrammarLemmas::problem_text))]
 pub fn read_problem(alloc: Global, side: Side, text: &[u8]) -> Result<Problem, ReadFail>
     requires source { side ≡ Source }
     requires short { length text.now ≤ 16777216 }
     // What is read is the tree of the text.
     ensures read { IfOk result (λ problem. problem_of_text text.now ≡ Some problem) }
+    // It is the one tree that the text has in the grammar.
+    ensures text { IfOk result (λ problem. IsHalfText problem_place text.now problem) }
     // A text is refused only where it has no tree.
     ensures refused { IfErr result (λ fail. IfRefused fail (λ _. problem_of_text text.now ≡ None)) }
     ensures place { IfErr result (λ fail. IfRefused fail (λ refusal. refusal ≡ malformed role.Problem)) }
