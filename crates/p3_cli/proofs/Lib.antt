@@ -1,3 +1,4 @@
+pub mod DocumentLemmas
 pub mod PutLemmas
 pub mod RunLemmas
 pub mod SpelledLemmas
