@@ -75,7 +75,7 @@ from_here (byte ∷ bytes) true at = lower_from at _ (from_here bytes (is_commen
 from_here (byte ∷ bytes) false at =
     with_byte_from at at byte (tokens_from (is_comment_after false byte) (at + 1) bytes) (λ goes_on. grind (arith, nat_tests)) (lower_from at _ (from_here bytes (is_comment_after false byte) (at + 1)))
 
-not_true : (test : Bool) → not test ≡ true → test ≡ false
+pub not_true : (test : Bool) → not test ≡ true → test ≡ false
 not_true true e = absurd (cc)
 not_true false e = refl
 
@@ -100,7 +100,7 @@ record Lowered (byte : ℕ) : Type 0 where
   goes_on : is_of_word byte ≡ true
   same : to_ascii_lowercase byte ≡ byte
 
-both_true : (first second : Bool) → (first && second) ≡ true → (first ≡ true) × (second ≡ true)
+pub both_true : (first second : Bool) → (first && second) ≡ true → (first ≡ true) × (second ≡ true)
 both_true true second e = (refl, e)
 both_true false second e = absurd (cc)
 

@@ -1,5 +1,9 @@
 pub mod DocumentLemmas
+pub mod HalfLemmas
+pub mod PartLemmas
+pub mod PlaceLemmas
 pub mod PutLemmas
 pub mod RunLemmas
 pub mod SpelledLemmas
 pub mod StoreLemmas
+pub mod SymbolLemmas
