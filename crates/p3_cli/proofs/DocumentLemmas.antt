@@ -1,15 +1,15 @@
 -- Documents: what is written, as blanks, words and lists. Their bytes have the tokens that their expressions spell.
-use Rattle.std.proofs.Common.{◌≡◌, ◌∙◌, ℕ, ◌+◌, Bool, true, false, ◌&&◌, ◌||◌, not, List, [], ◌∷◌, ◌++◌, map, append_assoc, append-nil, Option, Some, None, refl, sym, ap, arith}
-use Rattle.std.specs.Prelude.{IsTrue, ◌==◌, nat_le, if◌then◌else◌}
+use Rattle.std.proofs.Common.{◌≡◌, ◌∙◌, ℕ, ◌+◌, Bool, true, false, ◌&&◌, ◌||◌, not, List, [], ◌∷◌, ◌++◌, map, append_assoc, append-nil, Some, refl, sym, ap, arith}
+use Rattle.std.specs.Prelude.{◌==◌, nat_le, if◌then◌else◌}
 use Rattle.std.specs.List.{list_all, flat_map}
 use Rattle.std.specs.Char.{to_ascii_lowercase}
 use Rattle.std.proofs.lemmas.Bool.Decides.{nat_tests}
 use Rattle.p3_tree.specs.Names.{Name}
-use Rattle.p3_tree.specs.Tokens.{Token, Open, Close, Word, Tokens, is_blank, is_printable, is_of_word, is_comment_after, before, joined, with_byte, tokens_from, tokens_of}
+use Rattle.p3_tree.specs.Tokens.{Token, Open, Close, Word, Tokens, is_blank, is_printable, is_of_word, is_comment_after, before, joined, with_byte, tokens_from}
 use Rattle.p3_tree.specs.Expressions.{kept, spelling, spellings}
 use Rattle.p3_tree.specs.Grammar.Texts.{IsBalanced}
 use Rattle.p3_tree.proofs.Computes.{trees_compute}
-use Rattle.p3_tree.specs.declared.expression.Expression.{Expression, Row_of-Expression}
+use Rattle.p3_tree.specs.declared.expression.Expression.{Expression}
 use Rattle.p3_tree.specs.declared.expression.Expression.TheBlock.{hidden-the_row-Expression-0, shape-the_row-Expression-0}
 use Rattle.p3_tree.specs.declared.expression.Expression.TheVariants as expression
 

@@ -1,13 +1,12 @@
 -- Documents of the two halves of a written task, and what the grammar makes of them.
-use Rattle.std.proofs.Common.{◌≡◌, ◌∙◌, ℕ, ◌+◌, List, [], ◌∷◌, map, Option, Some, None, refl, sym, ap, subst}
+use Rattle.std.proofs.Common.{◌≡◌, ℕ, List, [], ◌∷◌, map, Option, Some, None, refl, sym, ap, subst}
 use Rattle.std.specs.Prelude.{codes}
 use Rattle.p3_base.specs.declared.refusal.Direction.TheVariants.{Minimize}
-use Rattle.p3_tree.specs.Names.{Name, total_cost}
+use Rattle.p3_tree.specs.Names.{total_cost}
 use Rattle.p3_tree.specs.Erased.{erased_header, erased_action, erased_init, erased_domain, erased_problem}
 use Rattle.p3_tree.specs.Grammar.Words.{◌>>=◌, Place, all_trees, each_at, expressions, predicate_place}
 use Rattle.p3_tree.specs.Grammar.Halves.{action_in, header_place, init_place, no_constraints, domain_place, problem_place}
 use Rattle.p3_tree.proofs.Computes.{texts_compute}
-use Rattle.p3_tree.specs.declared.constraint.Constraint.TheVariants as constraint
 use Rattle.p3_tree.specs.declared.expression.Expression.{Expression}
 use Rattle.p3_tree.specs.declared.expression.Expression.TheBlock.{hidden-the_row-Expression-0}
 use Rattle.p3_tree.specs.declared.expression.Expression.TheVariants.{Word, Group}
@@ -20,7 +19,6 @@ use Rattle.p3_tree.specs.declared.task.Header.{Header}
 use Rattle.p3_tree.specs.declared.task.Init.{Init}
 use Rattle.p3_tree.specs.declared.task.Init.TheVariants as init
 use Rattle.p3_tree.specs.declared.task.Problem.{Problem}
-use Rattle.p3_tree.specs.declared.term.Ref.{Ref}
 use Rattle.p3_compile.specs.Written as w
 use Rattle.p3_cli.proofs.DocumentLemmas.{Document, end, space, line, word, list, placed}
 use Rattle.p3_cli.proofs.SymbolLemmas.{Symbol}
@@ -85,7 +83,7 @@ entries_given symbols at = atoms_given erased_init init_place (λ s. w.true_entr
 unfoldable pub IsDomain : Expression → Domain → Type 0
 IsDomain e tree = Given erased_domain (domain_place e) tree
 
-abbrev domain_tree : List Header → List Action → Domain
+abbrev pub domain_tree : List Header → List Action → Domain
 domain_tree headers actions = w.domain_of (w.ref (codes "compiled")) headers w.functions actions
 
 abbrev domain_with : ℕ → ℕ → List Header → List Action → Domain
@@ -146,7 +144,7 @@ module _ (functions word inner function dash number : ℕ) (ps : List Expression
 
 -- the domain with one step at most
 module _ (symbols : List Symbol) (finish collect forgo : Act) where
-  abbrev acts_of : Option Act → List Act
+  abbrev pub acts_of : Option Act → List Act
   acts_of None = finish ∷ collect ∷ forgo ∷ []
   acts_of (Some step) = step ∷ finish ∷ collect ∷ forgo ∷ []
 
@@ -162,7 +160,7 @@ module _ (symbols : List Symbol) (finish collect forgo : Act) where
 unfoldable pub IsProblem : Expression → Problem → Type 0
 IsProblem e tree = Given erased_problem (problem_place e) tree
 
-abbrev problem_tree : List Init → Problem
+abbrev pub problem_tree : List Init → Problem
 problem_tree entries = w.problem_of (w.ref (codes "compiled")) (w.ref (codes "compiled")) (w.no_cost ∷ entries) (w.atom (codes "e1"))
 
 -- the offsets up to those of the entries are known

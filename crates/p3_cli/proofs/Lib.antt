@@ -1,5 +1,6 @@
 pub mod DocumentLemmas
 pub mod HalfLemmas
+pub mod LayoutLemmas
 pub mod PartLemmas
 pub mod PlaceLemmas
 pub mod PutLemmas
@@ -7,3 +8,4 @@ pub mod RunLemmas
 pub mod SpelledLemmas
 pub mod StoreLemmas
 pub mod SymbolLemmas
+pub mod WrittenTextLemmas

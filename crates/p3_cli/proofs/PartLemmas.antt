@@ -1,11 +1,11 @@
 -- Documents of the conditions, changes and actions of a written task, and what the grammar makes of them.
-use Rattle.std.proofs.Common.{◌≡◌, ◌∙◌, ℕ, ◌+◌, Bool, true, false, List, [], ◌∷◌, map, Option, Some, None, refl, sym, ap}
-use Rattle.std.specs.Prelude.{if◌then◌else◌, codes}
+use Rattle.std.proofs.Common.{◌≡◌, ◌∙◌, ℕ, Bool, true, false, List, [], ◌∷◌, map, Some, None, refl, sym, ap}
+use Rattle.std.specs.Prelude.{codes}
 use Rattle.std.specs.Fmt.{decimal}
 use mathlib.Core.Former.{Count}
 use Rattle.p3_tree.specs.Names.{Name}
 use Rattle.p3_tree.specs.Erased.{erased_effect, erased_effects, erased_goal, erased_action}
-use Rattle.p3_tree.specs.Grammar.Words.{◌>>=◌, Place, Part, all_trees, each_at, expressions, is_name, descend_parts}
+use Rattle.p3_tree.specs.Grammar.Words.{◌>>=◌, Part, all_trees, each_at, is_name, descend_parts}
 use Rattle.p3_tree.specs.Grammar.Effects.{Found, effect_in, effect_place, effect_or_empty_place}
 use Rattle.p3_tree.specs.Grammar.Goals.{goal_place, goal_or_empty_place}
 use Rattle.p3_tree.specs.Grammar.Halves.{action_in}
@@ -87,12 +87,14 @@ pub record Act : Type 0 where
 abbrev pub act_tree : Act → Action
 act_tree act = w.action act.name (condition_tree act.condition) (map change_tree act.changes)
 
+abbrev pub effect_document : List Change → Document
+effect_document changes = line (word (codes ":effect") refl (space (list (codes "and") refl (changes_document changes) end)))
+
 -- what stands behind `:action`
 abbrev pub act_inside : Act → Document
 act_inside act =
     word act.name act.fits (word (codes ":parameters") refl (space (none (line (word (codes ":precondition") refl
-    (space (list (head act.condition) (head_fits act.condition) (behind_head act.condition)
-    (line (word (codes ":effect") refl (space (list (codes "and") refl (changes_document act.changes) end)))))))))))
+    (space (list (head act.condition) (head_fits act.condition) (behind_head act.condition) (effect_document act.changes))))))))
 
 -- ---- conditions
 

@@ -1,31 +1,25 @@
 -- What the places of the grammar make of the expressions of written parts.
-use Rattle.std.proofs.Common.{◌≡◌, ◌∙◌, ℕ, ◌+◌, Bool, true, false, not, List, [], ◌∷◌, ◌++◌, map, length, Option, Some, None, refl, sym, ap}
+use Rattle.std.proofs.Common.{◌≡◌, ◌∙◌, ℕ, Bool, true, not, List, [], ◌∷◌, map, length, Option, Some, None, refl, ap}
 use Rattle.std.specs.Prelude.{if◌then◌else◌, codes}
-use Rattle.std.specs.List.{list_all}
 use Rattle.std.specs.Option.{option_or}
 use Rattle.std.specs.Fmt.{decimal}
 use Rattle.p3_tree.specs.Names.{Name, same_name}
-use Rattle.p3_tree.specs.Erased.{erased_ref, erased_formula, erased_effect, erased_goal, erased_header, erased_init}
-use Rattle.p3_tree.specs.Grammar.Words.{◌>>=◌, Place, all_trees, each_at, predicate_place, choose, digits_value, numeral_place}
+use Rattle.p3_tree.specs.Erased.{erased_effect, erased_goal, erased_header, erased_init}
+use Rattle.p3_tree.specs.Grammar.Words.{◌>>=◌, all_trees, predicate_place, choose, digits_value, numeral_place}
 use Rattle.p3_tree.specs.Grammar.Formulas.{formula_forms, formula_place}
 use Rattle.p3_tree.specs.Grammar.Formulas as formulas
 use Rattle.p3_tree.specs.Grammar.Effects.{effect_forms, effect_place, effect_or_empty_place}
 use Rattle.p3_tree.specs.Grammar.Effects as effects
-use Rattle.p3_tree.specs.Grammar.Goals.{goal_forms, plain_form, goal_place, goal_or_empty_place}
+use Rattle.p3_tree.specs.Grammar.Goals.{goal_forms, plain_form, goal_place}
 use Rattle.p3_tree.specs.Grammar.Halves.{init_forms, initial_in, true_entry, header_place, init_place}
 use Rattle.p3_tree.proofs.Computes.{texts_compute}
 use Rattle.p3_tree.specs.declared.effect.Amount.TheVariants as amount
-use Rattle.p3_tree.specs.declared.effect.Effect.{Effect}
 use Rattle.p3_tree.specs.declared.effect.Effect.TheVariants as effect
 use Rattle.p3_tree.specs.declared.effect.Numeral.{Numeral}
 use Rattle.p3_tree.specs.declared.expression.Expression.{Expression}
 use Rattle.p3_tree.specs.declared.expression.Expression.TheVariants.{Word, Group}
-use Rattle.p3_tree.specs.declared.formula.Formula.{Formula}
 use Rattle.p3_tree.specs.declared.formula.Formula.TheVariants as formula
-use Rattle.p3_tree.specs.declared.goal.PreGoal.{PreGoal}
 use Rattle.p3_tree.specs.declared.goal.PreGoal.TheVariants as goal
-use Rattle.p3_tree.specs.declared.task.Header.{Header}
-use Rattle.p3_tree.specs.declared.task.Init.{Init}
 use Rattle.p3_tree.specs.declared.task.Init.TheVariants as init
 use Rattle.p3_tree.specs.declared.term.Ref.{Ref}
 use Rattle.p3_compile.specs.Written as w

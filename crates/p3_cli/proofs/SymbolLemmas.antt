@@ -1,9 +1,9 @@
 -- The names and numbers of a written task are words, and no name is a reserved one.
-use Rattle.std.proofs.Common.{◌≡◌, ◌∙◌, ℕ, zero, suc, ◌+◌, ◌*◌, ◌-◌, ◌/◌, ◌%◌, ◌<◌, ◌^◌, Bool, true, false, ◌&&◌, ◌||◌, not, List, [], ◌∷◌, fold, length, refl, sym, ap, arith}
-use Rattle.std.specs.Prelude.{◌==◌, nat_le, if◌then◌else◌, codes, bytes_eq}
+use Rattle.std.proofs.Common.{◌≡◌, ◌∙◌, ℕ, zero, suc, ◌+◌, ◌*◌, ◌-◌, ◌/◌, ◌%◌, ◌<◌, ◌^◌, Bool, true, false, ◌&&◌, ◌||◌, not, List, [], ◌∷◌, fold, length, refl, ap, arith}
+use Rattle.std.specs.Prelude.{◌==◌, if◌then◌else◌, codes, bytes_eq}
 use Rattle.std.specs.List.{list_all}
 use Rattle.std.specs.Fmt.{decimal, digits, digits_onto, digit_glyph}
-use Rattle.std.specs.Char.{to_ascii_lowercase, digit_value}
+use Rattle.std.specs.Char.{digit_value}
 use Rattle.std.specs.Str.Parse.{AllDigits, digits_value_after}
 use Rattle.std.proofs.lemmas.Fmt.{decimal_is_IsNumeral}
 use Rattle.std.proofs.lemmas.Str.Parse.{digit_from_value}
@@ -16,7 +16,7 @@ use Rattle.p3_tree.specs.Grammar.Effects.{effect_forms}
 use Rattle.p3_tree.specs.Grammar.Goals.{goal_forms}
 use Rattle.p3_tree.specs.Grammar.Halves.{init_forms}
 use Rattle.p3_compile.specs.Written.{source_atom}
-use Rattle.p3_cli.proofs.DocumentLemmas.{is_lowered, is_word, IsWord, both_true}
+use Rattle.p3_cli.proofs.DocumentLemmas.{is_lowered, IsWord, both_true}
 
 -- no form begins with the name
 abbrev pub heads_none : {F : Type 0} → Name → List (Name × F) → Bool
@@ -32,13 +32,13 @@ pub record Symbol : Type 0 where
   pub no_goal : heads_none name goal_forms ≡ true
   pub no_entry : heads_none name init_forms ≡ true
 
-pub go : Symbol
+abbrev pub go : Symbol
 go = record { name = codes "go"; fits = refl; is_predicate = refl; no_formula = refl; no_effect = refl; no_goal = refl; no_entry = refl }
 
-pub first_link : Symbol
+abbrev pub first_link : Symbol
 first_link = record { name = codes "e0"; fits = refl; is_predicate = refl; no_formula = refl; no_effect = refl; no_goal = refl; no_entry = refl }
 
-pub last_link : Symbol
+abbrev pub last_link : Symbol
 last_link = record { name = codes "e1"; fits = refl; is_predicate = refl; no_formula = refl; no_effect = refl; no_goal = refl; no_entry = refl }
 
 -- ---- digits
@@ -56,27 +56,27 @@ digits_onto_all (suc count) n behind e =
     by true text others first second = first
     by false text others first second = second
 
-decimal_digits : (n : ℕ) → list_all is_digit (decimal n) ≡ true
+pub decimal_digits : (n : ℕ) → list_all is_digit (decimal n) ≡ true
 unfolding digits
 decimal_digits n = digits_onto_all 64 n [] refl
 
 digit_lowered : (digit : ℕ) → is_digit digit ≡ true → is_lowered digit ≡ true
 digit_lowered digit e = grind (arith, nat_tests, e)
 
-digits_lowered : (text : Name) → list_all is_digit text ≡ true → list_all is_lowered text ≡ true
+pub digits_lowered : (text : Name) → list_all is_digit text ≡ true → list_all is_lowered text ≡ true
 digits_lowered [] e = refl
 digits_lowered (digit ∷ text) e = let both = both_true (is_digit digit) (list_all is_digit text) e in λ i. digit_lowered digit both.0 i && digits_lowered text both.1 i
 
 -- ---- source atoms
 
 -- a digit is no `o`, so that no source atom is `forall`
-no_forall : (text : Name) → list_all is_digit text ≡ true → bytes_eq (codes "orall") text ≡ false
+pub no_forall : (text : Name) → list_all is_digit text ≡ true → bytes_eq (codes "orall") text ≡ false
 no_forall [] e = refl
 no_forall (digit ∷ text) e =
     let differ : (111 == digit) ≡ false = grind (arith, nat_tests, (both_true (is_digit digit) (list_all is_digit text) e).0) in
     ap (λ same. same && bytes_eq (codes "rall") text) differ
 
-pub source : ℕ → Symbol
+abbrev pub source : ℕ → Symbol
 source n =
     let differ : bytes_eq (codes "orall") (decimal n) ≡ false = no_forall (decimal n) (decimal_digits n) in
     record {
@@ -98,17 +98,17 @@ pub record Number : Type 0 where
   pub is_numeral : is_number (decimal value) ≡ true
   pub reads : digits_value (decimal value) ≡ value
 
-value_by_digits : (text : Name) (front : ℕ) → AllDigits 10 text → fold (λ value digit. value * 10 + (digit - 48)) front text ≡ digits_value_after 10 front text
+pub value_by_digits : (text : Name) (front : ℕ) → AllDigits 10 text → fold (λ value digit. value * 10 + (digit - 48)) front text ≡ digits_value_after 10 front text
 value_by_digits [] front all = refl
 value_by_digits (digit ∷ text) front all =
     let same : digit - 48 ≡ digit_value digit = omega (arith, digit_value_digit digit (digit_from_value digit all.0)) in
     ap (λ d. fold (λ value digit. value * 10 + (digit - 48)) (front * 10 + d) text) same ∙ value_by_digits text (front * 10 + digit_value digit) all.1
 
-word_of_digits : (text : Name) → 0 < length text → list_all is_digit text ≡ true → IsWord text × (is_number text ≡ true)
+pub word_of_digits : (text : Name) → 0 < length text → list_all is_digit text ≡ true → IsWord text × (is_number text ≡ true)
 word_of_digits [] some e = absurd (omega arith)
 word_of_digits (digit ∷ text) some e = (digits_lowered (digit ∷ text) e, e)
 
-pub number : (n : ℕ) → n < 2 ^ 64 → Number
+abbrev pub number : (n : ℕ) → n < 2 ^ 64 → Number
 number n small =
     let known = decimal_is_IsNumeral n small in
     let both : IsWord (decimal n) × (is_number (decimal n) ≡ true) = word_of_digits (decimal n) known.0.0 (decimal_digits n) in
