@@ -1,11 +1,5 @@
-pub mod DocumentLemmas
-pub mod HalfLemmas
-pub mod LayoutLemmas
-pub mod PartLemmas
-pub mod PlaceLemmas
 pub mod PutLemmas
 pub mod RunLemmas
 pub mod SpelledLemmas
 pub mod StoreLemmas
-pub mod SymbolLemmas
-pub mod WrittenTextLemmas
+pub mod Texts

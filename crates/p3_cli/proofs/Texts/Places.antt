@@ -23,8 +23,8 @@ use Rattle.p3_tree.specs.declared.goal.PreGoal.TheVariants as goal
 use Rattle.p3_tree.specs.declared.task.Init.TheVariants as init
 use Rattle.p3_tree.specs.declared.term.Ref.{Ref}
 use Rattle.p3_compile.specs.Written as w
-use Rattle.p3_cli.proofs.DocumentLemmas.{both_true, not_true}
-use Rattle.p3_cli.proofs.SymbolLemmas.{heads_none, Symbol, Number}
+use Rattle.p3_cli.proofs.Texts.Words.{both_true, not_true}
+use Rattle.p3_cli.proofs.Texts.Symbols.{heads_none, Symbol, Number}
 
 -- what was found is the tree, but for offsets
 pub record Given {A : Type 0} (erase : A → A) (option : Option A) (tree : A) : Type 0 where
@@ -36,7 +36,9 @@ pub record Given {A : Type 0} (erase : A → A) (option : Option A) (tree : A) :
 pub given_none : {X A : Type 0} (erase : A → A) (reads : X → Option A) → Given (map erase) (all_trees (map reads [])) []
 given_none erase reads = record { made = []; found = refl; same = refl }
 
-pub given_more : {X A : Type 0} (erase : A → A) (reads : X → Option A) (x : X) (xs : List X) (tree : A) (trees : List A) → Given erase (reads x) tree → Given (map erase) (all_trees (map reads xs)) trees → Given (map erase) (all_trees (map reads (x ∷ xs))) (tree ∷ trees)
+pub given_more : {X A : Type 0} (erase : A → A) (reads : X → Option A) (x : X) (xs : List X) (tree : A) (trees : List A)
+    → Given erase (reads x) tree → Given (map erase) (all_trees (map reads xs)) trees
+    → Given (map erase) (all_trees (map reads (x ∷ xs))) (tree ∷ trees)
 given_more erase reads x xs tree trees first others = record {
   made = first.made ∷ others.made;
   found = λ i. first.found i >>= λ one. others.found i >>= λ more. Some (one ∷ more);
@@ -61,11 +63,17 @@ module _ (at within : ℕ) (s : Symbol) where
   abbrev pub atom_at : Expression
   atom_at = Group at (Word within s.name ∷ [])
 
-  atom_text : formulas.atom_in (Word within s.name ∷ []) ≡ Some (record { pred = at_offset s.name within; args = [] })
-  unfolding texts_compute
-  atom_text = ap (λ passes. checked passes (at_offset s.name within) >>= λ pred. Some (record { pred = pred; args = [] })) s.is_predicate
+  abbrev pred : Ref
+  pred = at_offset s.name within
 
-  atom_formula : formula_place atom_at ≡ Some (formula.Atom (at_offset s.name within) [])
+  pred_found : predicate_place (Word within s.name) ≡ Some pred
+  pred_found = ap (λ passes. checked passes pred) s.is_predicate
+
+  atom_text : formulas.atom_in (Word within s.name ∷ []) ≡ Some (record { pred = pred; args = [] })
+  unfolding texts_compute
+  atom_text = ap (λ found. found >>= λ name. Some (record { pred = name; args = [] })) pred_found
+
+  atom_formula : formula_place atom_at ≡ Some (formula.Atom pred [])
   unfolding texts_compute
   atom_formula =
       ap (λ form. form []) (choose_other s.name formula_forms (λ behind. formulas.atom_form (record { raw = Word within s.name; tree = None } ∷ [])) s.no_formula)
@@ -74,15 +82,16 @@ module _ (at within : ℕ) (s : Symbol) where
   pub atom_goal : Given erased_goal (goal_place atom_at) (w.atom s.name)
   unfolding texts_compute
   atom_goal = record {
-    made = goal.Plain (formula.Atom (at_offset s.name within) []);
-    found = ap (λ form. form (at_offset s.name within) []) (choose_other s.name goal_forms (λ head behind. plain_form atom_at) s.no_goal) ∙ ap (λ found. found >>= λ tree. Some (goal.Plain tree)) atom_formula;
+    made = goal.Plain (formula.Atom pred []);
+    found = ap (λ form. form pred []) (choose_other s.name goal_forms (λ head behind. plain_form atom_at) s.no_goal)
+        ∙ ap (λ found. found >>= λ tree. Some (goal.Plain tree)) atom_formula;
     same = refl;
   }
 
   pub atom_added : Given erased_effect (effect_place atom_at) (w.added s.name)
   unfolding texts_compute
   atom_added = record {
-    made = effect.Add (at_offset s.name within) [];
+    made = effect.Add pred [];
     found = ap (λ form. form [] true) (choose_other s.name effect_forms (λ behind. effects.add_form (record { raw = Word within s.name; tree = λ free. None } ∷ [])) s.no_effect)
         ∙ ap (λ found. found >>= λ atom. Some (effect.Add atom.pred atom.args)) atom_text;
     same = refl;
@@ -91,17 +100,17 @@ module _ (at within : ℕ) (s : Symbol) where
   pub atom_header : Given erased_header (header_place predicate_place atom_at) (w.header s.name)
   unfolding texts_compute
   atom_header = record {
-    made = record { name = at_offset s.name within; params = [] };
-    found = ap (λ passes. checked passes (at_offset s.name within) >>= λ name. Some (record { name = name; params = [] })) s.is_predicate;
+    made = record { name = pred; params = [] };
+    found = ap (λ found. found >>= λ name. Some (record { name = name; params = [] })) pred_found;
     same = refl;
   }
 
   pub atom_entry : Given erased_init (init_place atom_at) (w.true_entry s.name)
   unfolding texts_compute
   atom_entry = record {
-    made = init.True (at_offset s.name within) [];
+    made = init.True pred [];
     found = ap (λ form. form []) (choose_other s.name init_forms (λ behind. initial_in true_entry predicate_place (Word within s.name ∷ [])) s.no_entry)
-        ∙ ap (λ passes. checked passes (at_offset s.name within) >>= λ pred. Some (init.True pred [])) s.is_predicate;
+        ∙ ap (λ found. found >>= λ name. Some (init.True name [])) pred_found;
     same = refl;
   }
 
@@ -113,7 +122,7 @@ module _ (at within : ℕ) (s : Symbol) where
     pub negated_goal : Given erased_goal (goal_place negated_at) (w.negation s.name)
     unfolding texts_compute
     negated_goal = record {
-      made = goal.Plain (formula.Not (formula.Atom (at_offset s.name within) []));
+      made = goal.Plain (formula.Not (formula.Atom pred []));
       found = ap (λ found. (found >>= λ part. Some (formula.Not part)) >>= λ tree. Some (goal.Plain tree)) atom_formula;
       same = refl;
     }
@@ -121,23 +130,29 @@ module _ (at within : ℕ) (s : Symbol) where
     pub negated_deleted : Given erased_effect (effect_place negated_at) (w.deleted s.name)
     unfolding texts_compute
     negated_deleted = record {
-      made = effect.Del (at_offset s.name within) [];
+      made = effect.Del pred [];
       found = ap (λ found. found >>= λ atom. Some (effect.Del atom.pred atom.args)) atom_text;
       same = refl;
     }
 
 module _ (at : ℕ) (n : Number) where
-  abbrev number_at : Numeral
-  number_at = record { at = at; len = length (decimal n.value); digits = digits_value (decimal n.value); places = 0 }
+  abbrev numeral_of : Ref → Numeral
+  numeral_of word = record { at = word.at; len = length word.name; digits = digits_value word.name; places = 0 }
 
-  number_found : numeral_place (Word at (decimal n.value)) ≡ Some number_at
-  number_found = ap (λ passes. checked passes (at_offset (decimal n.value) at) >>= λ word. Some (record { at = word.at; len = length word.name; digits = digits_value word.name; places = 0 })) n.is_numeral
+  abbrev digits : Ref
+  digits = at_offset (decimal n.value) at
+
+  number_found : numeral_place (Word at (decimal n.value)) ≡ Some (numeral_of digits)
+  number_found = ap (λ passes. checked passes digits >>= λ word. Some (numeral_of word)) n.is_numeral
 
   -- `(increase (total-cost) n)`
-  pub increase_at : (outer word inner total : ℕ) → Given erased_effect (effect_place (Group outer (Word word (codes "increase") ∷ Group inner (Word total (codes "total-cost") ∷ []) ∷ Word at (decimal n.value) ∷ []))) (w.increase n.value)
+  abbrev pub increase_at : (outer word inner total : ℕ) → Expression
+  increase_at outer word inner total = Group outer (Word word (codes "increase") ∷ Group inner (Word total (codes "total-cost") ∷ []) ∷ Word at (decimal n.value) ∷ [])
+
+  pub increase_given : (outer word inner total : ℕ) → Given erased_effect (effect_place (increase_at outer word inner total)) (w.increase n.value)
   unfolding texts_compute
-  increase_at outer word inner total = record {
-    made = effect.Cost total (amount.Number number_at);
+  increase_given outer word inner total = record {
+    made = effect.Cost total (amount.Number (numeral_of digits));
     found = ap (λ found. option_or (found >>= λ numeral. Some (amount.Number numeral)) None >>= λ increase. Some (effect.Cost total increase)) number_found;
     same = ap (λ value. effect.Cost 0 (amount.Number (record { at = 0; len = 0; digits = value; places = 0 }))) n.reads;
   }

@@ -16,7 +16,7 @@ use Rattle.p3_tree.specs.Grammar.Effects.{effect_forms}
 use Rattle.p3_tree.specs.Grammar.Goals.{goal_forms}
 use Rattle.p3_tree.specs.Grammar.Halves.{init_forms}
 use Rattle.p3_compile.specs.Written.{source_atom}
-use Rattle.p3_cli.proofs.DocumentLemmas.{is_lowered, IsWord, both_true}
+use Rattle.p3_cli.proofs.Texts.Words.{is_lowered, IsWord, both_true}
 
 -- no form begins with the name
 abbrev pub heads_none : {F : Type 0} → Name → List (Name × F) → Bool
@@ -52,7 +52,8 @@ digits_onto_all (suc count) n behind e =
     let more : list_all is_digit (digit_glyph false (n % 10) ∷ behind) ≡ true = λ i. glyph_is_digit n i && e i in
     by (n / 10 == 0) _ _ more (digits_onto_all count (n / 10) (digit_glyph false (n % 10) ∷ behind) more)
   where
-    by : (last : Bool) (text others : List ℕ) → list_all is_digit text ≡ true → list_all is_digit others ≡ true → list_all is_digit (if last then text else others) ≡ true
+    by : (last : Bool) (text others : List ℕ) → list_all is_digit text ≡ true → list_all is_digit others ≡ true
+        → list_all is_digit (if last then text else others) ≡ true
     by true text others first second = first
     by false text others first second = second
 
@@ -65,7 +66,9 @@ digit_lowered digit e = grind (arith, nat_tests, e)
 
 pub digits_lowered : (text : Name) → list_all is_digit text ≡ true → list_all is_lowered text ≡ true
 digits_lowered [] e = refl
-digits_lowered (digit ∷ text) e = let both = both_true (is_digit digit) (list_all is_digit text) e in λ i. digit_lowered digit both.0 i && digits_lowered text both.1 i
+digits_lowered (digit ∷ text) e =
+    let both = both_true (is_digit digit) (list_all is_digit text) e in
+    λ i. digit_lowered digit both.0 i && digits_lowered text both.1 i
 
 -- ---- source atoms
 
@@ -98,11 +101,14 @@ pub record Number : Type 0 where
   pub is_numeral : is_number (decimal value) ≡ true
   pub reads : digits_value (decimal value) ≡ value
 
-pub value_by_digits : (text : Name) (front : ℕ) → AllDigits 10 text → fold (λ value digit. value * 10 + (digit - 48)) front text ≡ digits_value_after 10 front text
+abbrev with_digit : ℕ → ℕ → ℕ
+with_digit value digit = value * 10 + (digit - 48)
+
+pub value_by_digits : (text : Name) (front : ℕ) → AllDigits 10 text → fold with_digit front text ≡ digits_value_after 10 front text
 value_by_digits [] front all = refl
 value_by_digits (digit ∷ text) front all =
     let same : digit - 48 ≡ digit_value digit = omega (arith, digit_value_digit digit (digit_from_value digit all.0)) in
-    ap (λ d. fold (λ value digit. value * 10 + (digit - 48)) (front * 10 + d) text) same ∙ value_by_digits text (front * 10 + digit_value digit) all.1
+    ap (λ d. fold with_digit (front * 10 + d) text) same ∙ value_by_digits text (front * 10 + digit_value digit) all.1
 
 pub word_of_digits : (text : Name) → 0 < length text → list_all is_digit text ≡ true → IsWord text × (is_number text ≡ true)
 word_of_digits [] some e = absurd (omega arith)

@@ -5,7 +5,8 @@ use Rattle.std.specs.Fmt.{decimal}
 use mathlib.Core.Former.{Count}
 use Rattle.p3_tree.specs.Names.{Name}
 use Rattle.p3_tree.specs.Erased.{erased_effect, erased_effects, erased_goal, erased_action}
-use Rattle.p3_tree.specs.Grammar.Words.{◌>>=◌, Part, all_trees, each_at, is_name, descend_parts}
+use Rattle.p3_tree.specs.Grammar.Words.{◌>>=◌, all_trees, each_at, is_name, descend_parts}
+use Rattle.p3_tree.specs.Grammar.Words as words
 use Rattle.p3_tree.specs.Grammar.Effects.{Found, effect_in, effect_place, effect_or_empty_place}
 use Rattle.p3_tree.specs.Grammar.Goals.{goal_place, goal_or_empty_place}
 use Rattle.p3_tree.specs.Grammar.Halves.{action_in}
@@ -19,10 +20,13 @@ use Rattle.p3_tree.specs.declared.expression.Expression.TheVariants.{Word, Group
 use Rattle.p3_tree.specs.declared.goal.PreGoal.{PreGoal}
 use Rattle.p3_tree.specs.declared.goal.PreGoal.TheVariants as goal
 use Rattle.p3_tree.specs.declared.task.Action.{Action}
+use Rattle.p3_tree.specs.declared.task.Part.{Part}
+use Rattle.p3_tree.specs.declared.term.Ref.{Ref}
 use Rattle.p3_compile.specs.Written as w
-use Rattle.p3_cli.proofs.DocumentLemmas.{Document, end, space, line, none, word, list, IsWord, placed}
-use Rattle.p3_cli.proofs.SymbolLemmas.{Symbol, Number}
-use Rattle.p3_cli.proofs.PlaceLemmas.{Given, given_none, given_more, at_offset, checked, atom_goal, atom_added, negated_goal, negated_deleted, increase_at}
+use Rattle.p3_cli.proofs.Texts.Words.{IsWord}
+use Rattle.p3_cli.proofs.Texts.Documents.{Document, end, space, line, none, word, list, placed}
+use Rattle.p3_cli.proofs.Texts.Symbols.{Symbol, Number}
+use Rattle.p3_cli.proofs.Texts.Places.{Given, given_none, given_more, at_offset, checked, atom_goal, atom_added, negated_goal, negated_deleted, increase_given}
 
 -- ---- documents
 
@@ -108,7 +112,8 @@ IsEffect e tree = Given erased_effect (effect_or_empty_place e) tree
 unfoldable pub IsAct : List Expression → Action → Type 0
 IsAct parts tree = Given erased_action (action_in parts) tree
 
-both_goals : (at within : ℕ) (e f : Expression) (first second : PreGoal) → Given erased_goal (goal_place e) first → Given erased_goal (goal_place f) second
+both_goals : (at within : ℕ) (e f : Expression) (first second : PreGoal)
+    → Given erased_goal (goal_place e) first → Given erased_goal (goal_place f) second
     → IsCondition (Group at (Word within (codes "and") ∷ e ∷ f ∷ [])) (goal.Both (first ∷ second ∷ []))
 unfolding texts_compute IsCondition
 both_goals at within e f first second one other = record {
@@ -121,7 +126,8 @@ one_goal : (at within : ℕ) (s : Symbol) → IsCondition (Group at (Word within
 unfolding texts_compute IsCondition
 one_goal at within s = atom_goal at within s
 
-condition_given : (condition : Condition) (at within next : ℕ) → IsCondition (Group at (Word within (head condition) ∷ placed next (behind_head condition))) (condition_tree condition)
+condition_given : (condition : Condition) (at within next : ℕ)
+    → IsCondition (Group at (Word within (head condition) ∷ placed next (behind_head condition))) (condition_tree condition)
 condition_given (One s) at within next = one_goal at within s
 condition_given (Both first true second) at within next = both_goals at within _ _ _ _ (atom_goal _ _ first) (negated_goal _ _ second _ _)
 condition_given (Both first false second) at within next = both_goals at within _ _ _ _ (atom_goal _ _ first) (atom_goal _ _ second)
@@ -132,43 +138,62 @@ changes_given : (changes : List Change) (at : ℕ) → Given (map erased_effect)
 changes_given [] at = given_none erased_effect effect_place
 changes_given (Signed true s ∷ changes) at = given_more erased_effect effect_place _ _ _ _ (negated_deleted _ _ s _ _) (changes_given changes _)
 changes_given (Signed false s ∷ changes) at = given_more erased_effect effect_place _ _ _ _ (atom_added _ _ s) (changes_given changes _)
-changes_given (Costs n ∷ changes) at = given_more erased_effect effect_place _ _ _ _ (increase_at _ n _ _ _ _) (changes_given changes _)
+changes_given (Costs n ∷ changes) at = given_more erased_effect effect_place _ _ _ _ (increase_given _ n _ _ _ _) (changes_given changes _)
 
 -- changes under `and` are known by the list of them
 all_is : (shape : _) (parts : Row_of-Effect _) → effect.All' shape parts ≡ effect.All (items-the_row-Effect _ parts)
-all_is shape parts = sym (roll-out-Effect (effect.All' shape parts)) ∙ ap roll-Effect (effect.outs-All' shape parts) ∙ effect.rolls-All _ ∙ ap effect.All (items_shown-the_row-Effect-0 shape parts)
+all_is shape parts =
+    sym (roll-out-Effect (effect.All' shape parts)) ∙ ap roll-Effect (effect.outs-All' shape parts)
+    ∙ effect.rolls-All _ ∙ ap effect.All (items_shown-the_row-Effect-0 shape parts)
 
 erased_items : {n : Count} (parts : Row_of-Effect n) → items-the_row-Effect n (erased_effects parts) ≡ map erased_effect (items-the_row-Effect n parts)
 erased_items end_of-Effect = refl
 erased_items (more_of-Effect part rest) = ap (λ others. erased_effect part ∷ others) (erased_items rest)
 
 erased_all : (trees : List Effect) → erased_effect (effect.All trees) ≡ effect.All (map erased_effect trees)
-erased_all trees = all_is _ _ ∙ ap effect.All (erased_items (hidden-the_row-Effect-0 trees) ∙ ap (map erased_effect) (items_hidden-the_row-Effect-0 trees))
+erased_all trees =
+    all_is _ _
+    ∙ ap effect.All (erased_items (hidden-the_row-Effect-0 trees) ∙ ap (map erased_effect) (items_hidden-the_row-Effect-0 trees))
 
-parts_of : (es : List Expression) → map (λ (part : Part Found). part.tree true) (descend_parts (λ word free. None) (λ list parts. effect_in parts) (hidden-the_row-Expression-0 es)) ≡ map effect_place es
+parts_of : (es : List Expression)
+    → map (λ (part : words.Part Found). part.tree true) (descend_parts (λ word free. None) (λ list parts. effect_in parts) (hidden-the_row-Expression-0 es)) ≡ map effect_place es
 unfolding texts_compute
 parts_of [] = refl
 parts_of (e ∷ es) = ap (λ others. effect_place e ∷ others) (parts_of es)
 
-all_given : (at within : ℕ) (es : List Expression) (trees : List Effect) → Given (map erased_effect) (each_at effect_place es) trees → IsEffect (Group at (Word within (codes "and") ∷ es)) (effect.All trees)
+all_given : (at within : ℕ) (es : List Expression) (trees : List Effect)
+    → Given (map erased_effect) (each_at effect_place es) trees
+    → IsEffect (Group at (Word within (codes "and") ∷ es)) (effect.All trees)
 unfolding texts_compute IsEffect
 all_given at within es trees parts = record {
   made = effect.All parts.made;
-  found = ap (λ options. all_trees options >>= λ found. Some (effect.All found)) (parts_of es) ∙ ap (λ option. option >>= λ found. Some (effect.All found)) parts.found;
+  found = ap (λ options. all_trees options >>= λ found. Some (effect.All found)) (parts_of es)
+      ∙ ap (λ option. option >>= λ found. Some (effect.All found)) parts.found;
   same = erased_all parts.made ∙ ap effect.All parts.same ∙ sym (erased_all trees);
 }
 
 -- ---- actions
 
-module _ (act : Act) where
-  named : (at first second third fourth : ℕ) (pre change : Expression) → IsCondition pre (condition_tree act.condition) → IsEffect change (effect.All (map change_tree act.changes))
-      → IsAct (Word at act.name ∷ Word first (codes ":parameters") ∷ Group second [] ∷ Word third (codes ":precondition") ∷ pre ∷ Word fourth (codes ":effect") ∷ change ∷ []) (act_tree act)
+abbrev placed_part : {A : Type 0} → ℕ → A → Part A
+placed_part at body = record { at = at; body = body }
+
+module _ (act : Act) (at first second third fourth : ℕ) where
+  abbrev act_at : Expression → Expression → List Expression
+  act_at pre change = Word at act.name ∷ Word first (codes ":parameters") ∷ Group second [] ∷ Word third (codes ":precondition") ∷ pre ∷ Word fourth (codes ":effect") ∷ change ∷ []
+
+  abbrev act_with : Ref → Part PreGoal → Part Effect → Action
+  act_with name pre change = record { name = name; params = []; pre = pre; effect = change }
+
+  act_read : (pre change : Expression) → IsCondition pre (condition_tree act.condition) → IsEffect change (effect.All (map change_tree act.changes)) → IsAct (act_at pre change) (act_tree act)
   unfolding texts_compute IsCondition IsEffect IsAct
-  named at first second third fourth pre change condition changes = record {
-    made = record { name = at_offset act.name at; params = []; pre = record { at = third; body = condition.made }; effect = record { at = fourth; body = changes.made } };
-    found = λ i. checked (act.is_named i) (at_offset act.name at) >>= λ name. (condition.found i >>= λ body. Some (record { at = third; body = body })) >>= λ pre. (changes.found i >>= λ body. Some (record { at = fourth; body = body })) >>= λ change. Some (record { name = name; params = []; pre = pre; effect = change });
-    same = λ i. record { name = w.ref act.name; params = []; pre = w.part (condition.same i); effect = w.part (changes.same i) };
+  act_read pre change condition changes = record {
+    made = act_with (at_offset act.name at) (placed_part third condition.made) (placed_part fourth changes.made);
+    found = λ i. checked (act.is_named i) (at_offset act.name at) >>= λ name.
+        (condition.found i >>= λ body. Some (placed_part third body)) >>= λ pre.
+        (changes.found i >>= λ body. Some (placed_part fourth body)) >>= λ change.
+        Some (act_with name pre change);
+    same = λ i. act_with (w.ref act.name) (w.part (condition.same i)) (w.part (changes.same i));
   }
 
-  pub act_given : (at : ℕ) → IsAct (placed at (act_inside act)) (act_tree act)
-  act_given at = named _ _ _ _ _ _ _ (condition_given act.condition _ _ _) (all_given _ _ _ _ (changes_given act.changes _))
+pub act_given : (act : Act) (at : ℕ) → IsAct (placed at (act_inside act)) (act_tree act)
+act_given act at = act_read act _ _ _ _ _ _ _ (condition_given act.condition _ _ _) (all_given _ _ _ _ (changes_given act.changes _))
