@@ -1,11 +1,14 @@
 -- Documents of the two halves of a written task, and what the grammar makes of them.
-use Rattle.std.proofs.Common.{◌≡◌, ℕ, List, [], ◌∷◌, map, Option, Some, None, refl, sym, ap, subst}
-use Rattle.std.specs.Prelude.{codes}
+use Rattle.std.proofs.Common.{◌≡◌, ◌∙◌, ℕ, Bool, true, false, List, [], ◌∷◌, map, Option, Some, None, refl, sym, ap, subst}
+use Rattle.std.specs.Prelude.{codes, if◌then◌else◌}
+use Rattle.std.specs.List.{list_all}
 use Rattle.p3_base.specs.declared.refusal.Direction.TheVariants.{Minimize}
-use Rattle.p3_tree.specs.Names.{total_cost}
+use Rattle.p3_tree.specs.Names.{Name, same_name, has_name, total_cost}
 use Rattle.p3_tree.specs.Erased.{erased_header, erased_action, erased_init, erased_domain, erased_problem}
-use Rattle.p3_tree.specs.Grammar.Words.{◌>>=◌, Place, all_trees, each_at, expressions, predicate_place}
-use Rattle.p3_tree.specs.Grammar.Halves.{action_in, header_place, init_place, no_constraints, domain_place, problem_place}
+use Rattle.p3_tree.specs.Grammar.Words.{◌>>=◌, Place, each_at, expressions, predicate_place}
+use Rattle.p3_tree.specs.Grammar.Halves.{Section, section_place, sections_named, at_most_one, or_absent, sections_among, part_at, requirements, no_constraints, Half, action_in, all_actions, kinds_in, header_place, predicates_in, functions_in, domain_keywords, domain_place, init_place, problem_place}
+use Rattle.p3_tree.specs.Grammar.Lists.{objects_in}
+use Rattle.p3_tree.specs.Grammar.Constraints.{constraint_or_empty_place}
 use Rattle.p3_tree.proofs.Computes.{texts_compute}
 use Rattle.p3_tree.specs.declared.expression.Expression.{Expression}
 use Rattle.p3_tree.specs.declared.expression.Expression.TheBlock.{hidden-the_row-Expression-0}
@@ -19,6 +22,7 @@ use Rattle.p3_tree.specs.declared.task.Header.{Header}
 use Rattle.p3_tree.specs.declared.task.Init.{Init}
 use Rattle.p3_tree.specs.declared.task.Init.TheVariants as init
 use Rattle.p3_tree.specs.declared.task.Problem.{Problem}
+use Rattle.p3_tree.specs.declared.term.Ref.{Ref}
 use Rattle.p3_compile.specs.Written as w
 use Rattle.p3_cli.proofs.Texts.Documents.{Document, end, space, line, word, list, placed}
 use Rattle.p3_cli.proofs.Texts.Symbols.{Symbol}
@@ -59,13 +63,15 @@ unfolding texts_compute
 shown_is [] = refl
 shown_is (e ∷ es) = ap (λ others. e ∷ others) (shown_is es)
 
-module _ {A : Type 0} (erase : A → A) (place : Place A) (tree_of : Symbol → A) (each : (at within : ℕ) (s : Symbol) → Given erase (place (atom_at at within s)) (tree_of s)) where
+module _ {A : Type 0} (erase : A → A) (place : Place A) (tree_of : Symbol → A)
+    (each : (at within : ℕ) (s : Symbol) → Given erase (place (atom_at at within s)) (tree_of s)) where
   atoms_given : (symbols : List Symbol) (at : ℕ) → Given (map erase) (each_at place (placed at (atoms symbols end))) (map tree_of symbols)
   atoms_given [] at = given_none erase place
   atoms_given (s ∷ symbols) at = given_more erase place _ _ _ _ (each _ _ s) (atoms_given symbols _)
 
   shown_given : (symbols : List Symbol) (at : ℕ) → Given (map erase) (each_at place (shown (placed at (atoms symbols end)))) (map tree_of symbols)
-  shown_given symbols at = subst (λ es. Given (map erase) (each_at place es) (map tree_of symbols)) (sym (shown_is (placed at (atoms symbols end)))) (atoms_given symbols at)
+  shown_given symbols at =
+      subst (λ es. Given (map erase) (each_at place es) (map tree_of symbols)) (sym (shown_is (placed at (atoms symbols end)))) (atoms_given symbols at)
 
 abbrev pub header_trees : List Symbol → List Header
 header_trees symbols = map (λ s. w.header s.name) symbols
@@ -87,24 +93,55 @@ entries_given : (symbols : List Symbol) (at : ℕ) → IsEntries (placed at (ato
 unfolding IsEntries
 entries_given symbols at = shown_given erased_init init_place (λ s. w.true_entry s.name) atom_entry symbols at
 
--- what stands behind the words `:action`
-IsActs : List (List Expression) → List Action → Type 0
-IsActs lists actions = Given (map erased_action) (all_trees (map (λ es. action_in (shown es)) lists)) actions
-
-no_acts : IsActs [] []
-unfolding IsActs
-no_acts = given_none erased_action (λ es. action_in (shown es))
-
-one_more_act : (es : List Expression) (lists : List (List Expression)) (tree : Action) (trees : List Action) → IsAct es tree → IsActs lists trees → IsActs (es ∷ lists) (tree ∷ trees)
-unfolding IsAct IsActs
-one_more_act es lists tree trees act acts = given_more erased_action (λ list. action_in (shown list)) es lists tree trees (subst (λ list. IsAct list tree) (sym (shown_is es)) act) acts
-
 -- the document and its one expression
 abbrev pub half_document : Document → Document
 half_document inside = list (codes "define") refl inside (line end)
 
 abbrev pub half_at : Document → Expression
 half_at inside = Group 0 (Word 1 (codes "define") ∷ placed 7 inside)
+
+-- ---- sections of acts
+
+-- the sections of acts, which are found by the word `:action` alone
+record IsActs (es : List Expression) (trees : List Action) : Type 0 where
+  sections : List Section
+  read : each_at section_place es ≡ Some sections
+  known : list_all (λ section. has_name domain_keywords section.word.name) sections ≡ true
+  others : (keyword : Name) → same_name (codes ":action") keyword ≡ false → sections_named keyword sections ≡ []
+  own : sections_named (codes ":action") sections ≡ sections
+  given : Given (map erased_action) (all_actions sections) trees
+
+one_more_act : (at within : ℕ) (es others : List Expression) (tree : Action) (trees : List Action)
+    → IsAct es tree → IsActs others trees → IsActs (Group at (Word within (codes ":action") ∷ es) ∷ others) (tree ∷ trees)
+unfolding texts_compute IsAct
+one_more_act at within es others tree trees act acts =
+    let section : Section = record { word = at_offset (codes ":action") within; behind = shown es } in
+    let own : Given erased_action (action_in (shown es)) tree = subst (λ list. IsAct list tree) (sym (shown_is es)) act in
+    record {
+      sections = section ∷ acts.sections;
+      read = ap (λ found. found >>= λ list. Some (section ∷ list)) acts.read;
+      known = acts.known;
+      others = λ keyword differ.
+          ap (λ same. if same then section ∷ sections_named keyword acts.sections else sections_named keyword acts.sections) differ
+          ∙ acts.others keyword differ;
+      own = ap (λ list. section ∷ list) acts.own;
+      given = record {
+        made = own.made ∷ acts.given.made;
+        found = λ i. own.found i >>= λ first. acts.given.found i >>= λ list. Some (first ∷ list);
+        same = λ i. own.same i ∷ acts.given.same i;
+      };
+    }
+
+acts_given : (acts : List Act) (at : ℕ) → IsActs (placed at (acts_document acts)) (map act_tree acts)
+acts_given [] at = record {
+  sections = [];
+  read = refl;
+  known = refl;
+  others = λ keyword differ. refl;
+  own = refl;
+  given = record { made = []; found = refl; same = refl };
+}
+acts_given (act ∷ acts) at = one_more_act _ _ _ _ _ _ (act_given act _) (acts_given acts _)
 
 -- ---- the domain half
 
@@ -114,63 +151,94 @@ IsDomain e tree = Given erased_domain (domain_place e) tree
 abbrev pub domain_tree : List Header → List Action → Domain
 domain_tree headers actions = w.domain_of (w.ref (codes "compiled")) headers w.functions actions
 
-abbrev domain_with : ℕ → ℕ → List Header → List Action → Domain
-domain_with title function headers actions = record {
-  name = at_offset (codes "compiled") title;
-  kinds = [];
-  constants = [];
-  predicates = headers;
-  functions = record { name = at_offset total_cost function; params = [] } ∷ [];
-  constraints = no_constraints;
-  actions = actions;
-}
+-- the domain, by the sections that each keyword has
+abbrev domain_by : Ref → (listed types objects predicates functions limits acts : List Section) → Option Domain
+domain_by name listed types objects predicates functions limits acts = do
+  words ← at_most_one listed >>= or_absent [] requirements
+  kinds ← at_most_one types >>= or_absent [] kinds_in
+  constants ← at_most_one objects >>= or_absent [] (λ section. objects_in section.behind)
+  headers ← at_most_one predicates >>= or_absent [] predicates_in
+  costs ← at_most_one functions >>= or_absent [] functions_in
+  constraints ← at_most_one limits >>= or_absent no_constraints (part_at constraint_or_empty_place)
+  actions ← all_actions acts
+  Some (record { name = name; kinds = kinds; constants = constants; predicates = headers; functions = costs; constraints = constraints; actions = actions })
 
-domain_given : (title function : ℕ) (headers : Option (List Header)) (actions : Option (List Action)) (predicates : List Header) (acts : List Action)
-    → Given (map erased_header) headers predicates → Given (map erased_action) actions acts
-    → Given erased_domain (headers >>= λ hs. actions >>= λ made. Some (domain_with title function hs made)) (domain_tree predicates acts)
-domain_given title function headers actions predicates acts first second = record {
-  made = domain_with title function first.made second.made;
-  found = λ i. first.found i >>= λ hs. second.found i >>= λ made. Some (domain_with title function hs made);
-  same = λ i. record (erased_domain (domain_tree predicates acts)) { predicates = first.same i; actions = second.same i };
-}
-
-abbrev act_at : ℕ → ℕ → List Expression → Expression
-act_at at within es = Group at (Word within (codes ":action") ∷ es)
+abbrev domain_in : Half → Option Domain
+domain_in half =
+    let named : Name → List Section = λ keyword. sections_named keyword half.sections in
+    domain_by half.name (named (codes ":requirements")) (named (codes ":types")) (named (codes ":constants")) (named (codes ":predicates"))
+    (named (codes ":functions")) (named (codes ":constraints")) (named (codes ":action"))
 
 -- the offsets up to those of the predicates are known
-module _ (functions word inner function dash number : ℕ) (ps : List Expression) (headers : List Header) (known : IsHeaders ps headers) (actions : List Action) where
-  abbrev domain_at : List Expression → Expression
-  domain_at acts = Group 0 (Word 1 (codes "define") ∷ Group 8 (Word 9 (codes "domain") ∷ Word 16 (codes "compiled") ∷ [])
-      ∷ Group 26 (Word 27 (codes ":requirements") ∷ Word 41 (codes ":adl") ∷ Word 46 (codes ":action-costs") ∷ [])
+module _ (functions word inner function dash number : ℕ) (ps : List Expression) (headers : List Header) (known : IsHeaders ps headers)
+    (es : List Expression) (trees : List Action) (behind : IsActs es trees) where
+  abbrev words_at : List Expression
+  words_at = Word 41 (codes ":adl") ∷ Word 46 (codes ":action-costs") ∷ []
+
+  abbrev costs_at : List Expression
+  costs_at = Group inner (Word function (codes "total-cost") ∷ []) ∷ Word dash (codes "-") ∷ Word number (codes "number") ∷ []
+
+  abbrev domain_at : Expression
+  domain_at = Group 0 (Word 1 (codes "define") ∷ Group 8 (Word 9 (codes "domain") ∷ Word 16 (codes "compiled") ∷ [])
+      ∷ Group 26 (Word 27 (codes ":requirements") ∷ words_at)
       ∷ Group 61 (Word 62 (codes ":predicates") ∷ ps)
-      ∷ Group functions (Word word (codes ":functions") ∷ Group inner (Word function (codes "total-cost") ∷ [])
-      ∷ Word dash (codes "-") ∷ Word number (codes "number") ∷ [])
-      ∷ acts)
+      ∷ Group functions (Word word (codes ":functions") ∷ costs_at)
+      ∷ es)
 
-  three_acts : (a b c d e f : ℕ) (es fs gs : List Expression) → IsActs (es ∷ fs ∷ gs ∷ []) actions
-      → IsDomain (domain_at (act_at a b es ∷ act_at c d fs ∷ act_at e f gs ∷ [])) (domain_tree headers actions)
-  unfolding texts_compute IsDomain IsHeaders IsActs
-  three_acts a b c d e f es fs gs acts = domain_given 16 function _ _ headers actions known acts
+  abbrev title : Ref
+  title = at_offset (codes "compiled") 16
 
-  four_acts : (a b c d e f g h : ℕ) (es fs gs hs : List Expression) → IsActs (es ∷ fs ∷ gs ∷ hs ∷ []) actions
-      → IsDomain (domain_at (act_at a b es ∷ act_at c d fs ∷ act_at e f gs ∷ act_at g h hs ∷ [])) (domain_tree headers actions)
-  unfolding texts_compute IsDomain IsHeaders IsActs
-  four_acts a b c d e f g h es fs gs hs acts = domain_given 16 function _ _ headers actions known acts
+  abbrev listed : Section
+  listed = record { word = at_offset (codes ":requirements") 27; behind = words_at }
 
--- the domain with one step at most
-module _ (symbols : List Symbol) (finish collect forgo : Act) where
-  abbrev pub acts_of : Option Act → List Act
-  acts_of None = finish ∷ collect ∷ forgo ∷ []
-  acts_of (Some step) = step ∷ finish ∷ collect ∷ forgo ∷ []
+  abbrev declared : Section
+  declared = record { word = at_offset (codes ":predicates") 62; behind = shown ps }
 
-  last_given : (at next last : ℕ) → IsActs (placed at (act_inside finish) ∷ placed next (act_inside collect) ∷ placed last (act_inside forgo) ∷ []) (map act_tree (acts_of None))
-  last_given at next last =
-      one_more_act _ _ _ _ (act_given finish at) (one_more_act _ _ _ _ (act_given collect next) (one_more_act _ _ _ _ (act_given forgo last) no_acts))
+  abbrev costs : Section
+  costs = record { word = at_offset (codes ":functions") word; behind = costs_at }
 
-  pub is_domain : (step : Option Act) → IsDomain (half_at (domain_inside symbols (acts_of step))) (domain_tree (header_trees symbols) (map act_tree (acts_of step)))
-  is_domain None = three_acts _ _ _ _ _ _ _ _ (headers_given symbols _) _ _ _ _ _ _ _ _ _ _ (last_given _ _ _)
-  is_domain (Some step) =
-      four_acts _ _ _ _ _ _ _ _ (headers_given symbols _) _ _ _ _ _ _ _ _ _ _ _ _ _ (one_more_act _ _ _ _ (act_given step _) (last_given _ _ _))
+  abbrev half : List Section → Half
+  half sections = record { name = title; sections = sections }
+
+  -- the domain, where the other sections are found
+  abbrev with_sections : Option (List Section) → Option Domain
+  with_sections found = (((found >>= λ list. Some (costs ∷ list)) >>= λ list. Some (declared ∷ list)) >>= λ list. Some (listed ∷ list))
+      >>= (λ list. sections_among domain_keywords list >>= λ sections. Some (half sections)) >>= domain_in
+
+  -- the domain, where the keywords of these sections are known ones or not
+  abbrev with_known : List Section → Bool → Option Domain
+  with_known sections passes = ((if passes then Some sections else None) >>= λ list. Some (half list)) >>= domain_in
+
+  abbrev domain_with : List Header → List Action → Domain
+  domain_with predicates actions = record {
+    name = title;
+    kinds = [];
+    constants = [];
+    predicates = predicates;
+    functions = record { name = at_offset total_cost function; params = [] } ∷ [];
+    constraints = no_constraints;
+    actions = actions;
+  }
+
+  domain_read : IsDomain domain_at (domain_tree headers trees)
+  unfolding texts_compute IsDomain IsHeaders
+  domain_read =
+      let acts : IsActs (shown es) trees = subst (λ list. IsActs list trees) (sym (shown_is es)) behind in
+      record {
+        made = domain_with known.made acts.given.made;
+        found =
+            ap with_sections acts.read
+            ∙ ap (with_known (listed ∷ declared ∷ costs ∷ acts.sections)) acts.known
+            ∙ (λ i. domain_by title (listed ∷ acts.others (codes ":requirements") refl i) (acts.others (codes ":types") refl i)
+            (acts.others (codes ":constants") refl i) (declared ∷ acts.others (codes ":predicates") refl i)
+            (costs ∷ acts.others (codes ":functions") refl i) (acts.others (codes ":constraints") refl i) (acts.own i))
+            ∙ (λ i. known.found i >>= λ predicates. acts.given.found i >>= λ actions. Some (domain_with predicates actions));
+        same = λ i. record (erased_domain (domain_tree headers trees)) { predicates = known.same i; actions = acts.given.same i };
+      }
+
+pub is_domain : (symbols : List Symbol) (acts : List Act)
+    → IsDomain (half_at (domain_inside symbols acts)) (domain_tree (header_trees symbols) (map act_tree acts))
+is_domain symbols acts = domain_read _ _ _ _ _ _ _ _ (headers_given symbols _) _ _ (acts_given acts _)
 
 -- ---- the problem half
 
@@ -185,7 +253,9 @@ module _ (goals word reached link metric second minimize costs spent : ℕ) (es 
   abbrev problem_at : Expression
   problem_at = Group 0 (Word 1 (codes "define") ∷ Group 8 (Word 9 (codes "problem") ∷ Word 17 (codes "compiled") ∷ [])
       ∷ Group 27 (Word 28 (codes ":domain") ∷ Word 36 (codes "compiled") ∷ [])
-      ∷ Group 46 (Word 47 (codes ":init") ∷ Group 53 (Word 54 (codes "=") ∷ Group 56 (Word 57 (codes "total-cost") ∷ []) ∷ Word 69 (codes "0") ∷ []) ∷ es)
+      ∷ Group 46 (Word 47 (codes ":init")
+      ∷ Group 53 (Word 54 (codes "=") ∷ Group 56 (Word 57 (codes "total-cost") ∷ []) ∷ Word 69 (codes "0") ∷ [])
+      ∷ es)
       ∷ Group goals (Word word (codes ":goal") ∷ Group reached (Word link (codes "e1") ∷ []) ∷ [])
       ∷ Group metric (Word second (codes ":metric") ∷ Word minimize (codes "minimize") ∷ Group costs (Word spent (codes "total-cost") ∷ []) ∷ [])
       ∷ [])

@@ -47,7 +47,8 @@ condition_bytes (Both first is_negated second) rest others =
     ∙ ap (λ later. part_text (w.accepting false first.name) ++ 32 ∷ later) (part_bytes is_negated second end (41 ∷ bytes rest others))
     ∙ sym (two_parts (part_text (w.atom first.name)) (part_text (w.accepting is_negated second.name)) (codes ")") (bytes rest others))))
 
-change_bytes : (change : Change) (rest : Document) (others : List ℕ) → bytes (change_document change rest) others ≡ change_text (change_tree change) ++ bytes rest others
+change_bytes : (change : Change) (rest : Document) (others : List ℕ)
+    → bytes (change_document change rest) others ≡ change_text (change_tree change) ++ bytes rest others
 change_bytes (Signed true s) rest others = rw effect.outs-Del (negated_bytes s rest others)
 change_bytes (Signed false s) rest others = rw effect.outs-Add (atom_bytes s rest others)
 change_bytes (Costs n) rest others =
@@ -75,7 +76,8 @@ act_bytes act rest others =
     rw effect.outs-All (ap (λ later. codes "(:action " ++ (act.name ++ (codes " :parameters ()\n :precondition " ++ later)))
     (condition_bytes act.condition (effect_document act.changes) (codes ")\n" ++ bytes rest others)
     ∙ ap (λ later. condition ++ (codes "\n :effect (and" ++ later)) (changes_bytes act.changes (codes "))\n" ++ bytes rest others)))
-    ∙ sym (regroup_act (codes "(:action ") act.name (codes " :parameters ()\n :precondition ") condition (codes "\n :effect ") (codes "(and") changes (codes ")") (codes ")\n") (bytes rest others)))
+    ∙ sym (regroup_act (codes "(:action ") act.name (codes " :parameters ()\n :precondition ") condition
+    (codes "\n :effect ") (codes "(and") changes (codes ")") (codes ")\n") (bytes rest others)))
 
 acts_bytes : (acts : List Act) (others : List ℕ) → bytes (acts_document acts) others ≡ flat_map action_text (map act_tree acts) ++ others
 acts_bytes [] others = refl

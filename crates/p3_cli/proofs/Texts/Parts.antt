@@ -44,6 +44,7 @@ abbrev pub literal : Bool → Symbol → Document → Document
 literal true s rest = list (codes "not") refl (space (atom s end)) rest
 literal false s rest = atom s rest
 
+-- an atom, or an atom and a literal under `and`
 pub data Condition : Type 0 where
   One : (s : Symbol) → Condition
   Both : (first : Symbol) (is_negated : Bool) (second : Symbol) → Condition
@@ -65,6 +66,7 @@ abbrev pub behind_head : Condition → Document
 behind_head (One s) = end
 behind_head (Both first is_negated second) = space (atom first (space (literal is_negated second end)))
 
+-- a literal that becomes true, or an increase of the cost
 pub data Change : Type 0 where
   Signed : (is_negated : Bool) (s : Symbol) → Change
   Costs : (n : Number) → Change
@@ -81,6 +83,7 @@ abbrev pub changes_document : List Change → Document
 changes_document [] = end
 changes_document (change ∷ changes) = space (change_document change (changes_document changes))
 
+-- an action, by what is written of it
 pub record Act : Type 0 where
   pub name : Name
   pub fits : IsWord name
@@ -91,6 +94,7 @@ pub record Act : Type 0 where
 abbrev pub act_tree : Act → Action
 act_tree act = w.action act.name (condition_tree act.condition) (map change_tree act.changes)
 
+-- from the line of the effect on
 abbrev pub effect_document : List Change → Document
 effect_document changes = line (word (codes ":effect") refl (space (list (codes "and") refl (changes_document changes) end)))
 
@@ -134,7 +138,8 @@ condition_given (Both first false second) at within next = both_goals at within 
 
 -- ---- changes
 
-changes_given : (changes : List Change) (at : ℕ) → Given (map erased_effect) (each_at effect_place (placed at (changes_document changes))) (map change_tree changes)
+changes_given : (changes : List Change) (at : ℕ)
+    → Given (map erased_effect) (each_at effect_place (placed at (changes_document changes))) (map change_tree changes)
 changes_given [] at = given_none erased_effect effect_place
 changes_given (Signed true s ∷ changes) at = given_more erased_effect effect_place _ _ _ _ (negated_deleted _ _ s _ _) (changes_given changes _)
 changes_given (Signed false s ∷ changes) at = given_more erased_effect effect_place _ _ _ _ (atom_added _ _ s) (changes_given changes _)
@@ -155,8 +160,10 @@ erased_all trees =
     all_is _ _
     ∙ ap effect.All (erased_items (hidden-the_row-Effect-0 trees) ∙ ap (map erased_effect) (items_hidden-the_row-Effect-0 trees))
 
+-- what a list gives of its parts is what the place gives of each
 parts_of : (es : List Expression)
-    → map (λ (part : words.Part Found). part.tree true) (descend_parts (λ word free. None) (λ list parts. effect_in parts) (hidden-the_row-Expression-0 es)) ≡ map effect_place es
+    → map (λ (part : words.Part Found). part.tree true) (descend_parts (λ word free. None) (λ list parts. effect_in parts) (hidden-the_row-Expression-0 es))
+    ≡ map effect_place es
 unfolding texts_compute
 parts_of [] = refl
 parts_of (e ∷ es) = ap (λ others. effect_place e ∷ others) (parts_of es)
@@ -174,17 +181,21 @@ all_given at within es trees parts = record {
 
 -- ---- actions
 
+-- a part of an action, with the offset of its keyword
 abbrev placed_part : {A : Type 0} → ℕ → A → Part A
 placed_part at body = record { at = at; body = body }
 
 module _ (act : Act) (at first second third fourth : ℕ) where
   abbrev act_at : Expression → Expression → List Expression
-  act_at pre change = Word at act.name ∷ Word first (codes ":parameters") ∷ Group second [] ∷ Word third (codes ":precondition") ∷ pre ∷ Word fourth (codes ":effect") ∷ change ∷ []
+  act_at pre change =
+      Word at act.name ∷ Word first (codes ":parameters") ∷ Group second [] ∷ Word third (codes ":precondition") ∷ pre
+      ∷ Word fourth (codes ":effect") ∷ change ∷ []
 
   abbrev act_with : Ref → Part PreGoal → Part Effect → Action
   act_with name pre change = record { name = name; params = []; pre = pre; effect = change }
 
-  act_read : (pre change : Expression) → IsCondition pre (condition_tree act.condition) → IsEffect change (effect.All (map change_tree act.changes)) → IsAct (act_at pre change) (act_tree act)
+  act_read : (pre change : Expression) → IsCondition pre (condition_tree act.condition) → IsEffect change (effect.All (map change_tree act.changes))
+      → IsAct (act_at pre change) (act_tree act)
   unfolding texts_compute IsCondition IsEffect IsAct
   act_read pre change condition changes = record {
     made = act_with (at_offset act.name at) (placed_part third condition.made) (placed_part fourth changes.made);

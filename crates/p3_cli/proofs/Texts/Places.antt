@@ -76,7 +76,8 @@ module _ (at within : ℕ) (s : Symbol) where
   atom_formula : formula_place atom_at ≡ Some (formula.Atom pred [])
   unfolding texts_compute
   atom_formula =
-      ap (λ form. form []) (choose_other s.name formula_forms (λ behind. formulas.atom_form (record { raw = Word within s.name; tree = None } ∷ [])) s.no_formula)
+      ap (λ form. form [])
+      (choose_other s.name formula_forms (λ behind. formulas.atom_form (record { raw = Word within s.name; tree = None } ∷ [])) s.no_formula)
       ∙ ap (λ found. found >>= λ atom. Some (formula.Atom atom.pred atom.args)) atom_text
 
   pub atom_goal : Given erased_goal (goal_place atom_at) (w.atom s.name)
@@ -92,7 +93,8 @@ module _ (at within : ℕ) (s : Symbol) where
   unfolding texts_compute
   atom_added = record {
     made = effect.Add pred [];
-    found = ap (λ form. form [] true) (choose_other s.name effect_forms (λ behind. effects.add_form (record { raw = Word within s.name; tree = λ free. None } ∷ [])) s.no_effect)
+    found = ap (λ form. form [] true)
+        (choose_other s.name effect_forms (λ behind. effects.add_form (record { raw = Word within s.name; tree = λ free. None } ∷ [])) s.no_effect)
         ∙ ap (λ found. found >>= λ atom. Some (effect.Add atom.pred atom.args)) atom_text;
     same = refl;
   }
@@ -147,7 +149,8 @@ module _ (at : ℕ) (n : Number) where
 
   -- `(increase (total-cost) n)`
   abbrev pub increase_at : (outer word inner total : ℕ) → Expression
-  increase_at outer word inner total = Group outer (Word word (codes "increase") ∷ Group inner (Word total (codes "total-cost") ∷ []) ∷ Word at (decimal n.value) ∷ [])
+  increase_at outer word inner total =
+      Group outer (Word word (codes "increase") ∷ Group inner (Word total (codes "total-cost") ∷ []) ∷ Word at (decimal n.value) ∷ [])
 
   pub increase_given : (outer word inner total : ℕ) → Given erased_effect (effect_place (increase_at outer word inner total)) (w.increase n.value)
   unfolding texts_compute

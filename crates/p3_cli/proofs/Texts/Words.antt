@@ -81,7 +81,8 @@ with_byte_from : (low at byte : ℕ) (later : Tokens) → (is_of_word byte ≡ t
     → is_from low (with_byte at byte later).tokens ≡ true
 with_byte_from low at byte later own behind = by (byte == 40) (byte == 41) (is_of_word byte) (is_blank byte || byte == 59) own
   where
-    by : (opens closes goes_on is_silent : Bool) → (goes_on ≡ true → nat_le low at ≡ true) → is_from low (read_by opens closes goes_on is_silent at byte later).tokens ≡ true
+    by : (opens closes goes_on is_silent : Bool) → (goes_on ≡ true → nat_le low at ≡ true)
+        → is_from low (read_by opens closes goes_on is_silent at byte later).tokens ≡ true
     by true closes goes_on is_silent own = refl
     by false true goes_on is_silent own = refl
     by false false true is_silent own = joined_from low at byte later.tokens (own refl)
@@ -107,7 +108,8 @@ from_next at (byte ∷ bytes) apart =
 -- ---- words
 
 -- a byte is a word of its own where no word follows at once
-alone : (at byte : ℕ) (tokens : List Token) → is_from (at + 1 + 1) tokens ≡ true → joined at byte tokens ≡ Word at (to_ascii_lowercase byte ∷ []) ∷ tokens
+alone : (at byte : ℕ) (tokens : List Token) → is_from (at + 1 + 1) tokens ≡ true
+    → joined at byte tokens ≡ Word at (to_ascii_lowercase byte ∷ []) ∷ tokens
 alone at byte [] e = refl
 alone at byte (Open next ∷ later) e = refl
 alone at byte (Close next ∷ later) e = refl
@@ -131,7 +133,8 @@ lowered byte e = record {
   same = grind (arith, nat_tests, e);
 }
 
-byte_read : (at byte : ℕ) (bytes : List ℕ) → Lowered byte → tokens_from false at (byte ∷ bytes) ≡ with_word_byte at byte (tokens_from false (at + 1) bytes)
+byte_read : (at byte : ℕ) (bytes : List ℕ) → Lowered byte
+    → tokens_from false at (byte ∷ bytes) ≡ with_word_byte at byte (tokens_from false (at + 1) bytes)
 unfolding tokens_from
 byte_read at byte bytes own =
     (λ i. with_byte at byte (tokens_from (own.comments i) (at + 1) bytes))

@@ -1,5 +1,5 @@
 -- What is written for a tiny task is, but for offsets, a text of the written task.
-use Rattle.std.proofs.Common.{◌≡◌, ◌∙◌, ℕ, ◌<◌, ◌^◌, Bool, true, false, not, ◌&&◌, List, [], ◌∷◌, ◌++◌, map, length, Option, Some, None, refl, sym, ap, subst, ⊎_elim, arith}
+use Rattle.std.proofs.Common.{◌≡◌, ◌∙◌, ℕ, ◌<◌, ◌^◌, Bool, true, false, not, ◌&&◌, List, [], ◌∷◌, ◌++◌, map, length, Option, Some, None, refl, sym, ap, subst, arith}
 use Rattle.std.specs.Prelude.{◌==◌, nat_lt, if◌then◌else◌, codes, filter_map, option_map}
 use Rattle.std.specs.List.{cons_option, enumerate_from, range_with_len}
 use Rattle.std.specs.Option.{option_map_or, option_and_then}
@@ -10,11 +10,10 @@ use Rattle.p3_tree.specs.Grammar.Texts.{IsBalanced}
 use Rattle.p3_tree.specs.Grammar.Words.{is_name}
 use Rattle.p3_tree.specs.Lifting.{Faithful}
 use Rattle.p3_tree.specs.Names.{Name}
-use Rattle.p3_tree.specs.Tiny.{IsTinyTask, Literal, Wish, Summand, summand_of, summand_in, weighted}
+use Rattle.p3_tree.specs.Tiny.{IsTinyTask, Literal, Wish, literal_of_effect, Summand, summand_of, summand_in, weighted}
 use Rattle.p3_tree.proofs.OffsetLemmas.{faithful_offset_free}
-use Rattle.p3_tree.proofs.TinyReading.{OneAction, OnePreference}
-use Rattle.p3_tree.proofs.TinyParts.{the_action, the_preference}
-use Rattle.p3_tree.specs.declared.effect.Effect.{Effect}
+use Rattle.p3_tree.proofs.TinyReading.{OnePreference}
+use Rattle.p3_tree.proofs.TinyParts.{the_preference}
 use Rattle.p3_tree.specs.declared.effect.Effect.TheVariants as effect
 use Rattle.p3_tree.specs.declared.metric.Metric.{Metric}
 use Rattle.p3_tree.specs.declared.metric.Num.{Num, out-Num}
@@ -31,25 +30,23 @@ use Rattle.p3_cli.proofs.Texts.Documents.{Document, bytes, document_balanced}
 use Rattle.p3_cli.proofs.Texts.Words.{IsWord}
 use Rattle.p3_cli.proofs.Texts.Symbols.{Symbol, Number, go, first_link, last_link, source, number}
 use Rattle.p3_cli.proofs.Texts.Parts.{One, Both, Change, Signed, Costs, change_tree, Act, act_tree}
-use Rattle.p3_cli.proofs.Texts.Halves.{domain_inside, problem_inside, half_document, half_at, header_trees, entry_trees, domain_tree, problem_tree, acts_of, IsDomain, is_domain, IsProblem, is_problem}
+use Rattle.p3_cli.proofs.Texts.Halves.{domain_inside, problem_inside, half_document, half_at, header_trees, entry_trees, domain_tree, problem_tree, IsDomain, is_domain, IsProblem, is_problem}
 use Rattle.p3_cli.proofs.Texts.Layouts.{domain_bytes, problem_bytes}
 
 -- ---- any written task
 
 text_of_half : (inside : Document) (text : List ℕ) → text ≡ bytes (half_document inside) [] → IsBalanced text (half_at inside)
-text_of_half inside text same = subst (λ bytes. IsBalanced bytes (half_at inside)) (sym same) (document_balanced (half_document inside) (half_at inside) refl)
+text_of_half inside text same =
+    subst (λ bytes. IsBalanced bytes (half_at inside)) (sym same) (document_balanced (half_document inside) (half_at inside) refl)
 
-module _ (symbols trues : List Symbol) (finish collect forgo : Act) (step : Option Act) where
-  abbrev acts : List Act
-  acts = acts_of symbols finish collect forgo step
-
+module _ (symbols trues : List Symbol) (acts : List Act) where
   abbrev made_task : Task
   made_task = record { domain = domain_tree (header_trees symbols) (map act_tree acts); problem = problem_tree (entry_trees trues) }
 
   made_text : HasText (domain_layout made_task.domain) (problem_layout made_task.problem) made_task
   unfolding IsDomain IsProblem
   made_text =
-      let d = is_domain symbols finish collect forgo step in
+      let d = is_domain symbols acts in
       let p = is_problem trues in (
         record { domain = d.made; problem = p.made },
         record {
@@ -62,7 +59,7 @@ module _ (symbols trues : List Symbol) (finish collect forgo : Act) (step : Opti
         (λ i. record { domain = d.same i; problem = p.same i }),
       )
 
--- ---- the weight
+-- ---- the weight of a tiny task, whose decimal digits are known to write it
 
 weighted_small : (first second : Num-F Num) (summand : Summand) → weighted first second ≡ Some summand → summand.weight < 2 ^ 64
 weighted_small (Num-F.Number number) (Num-F.Violated name) summand e =
@@ -107,7 +104,8 @@ true_symbol initial place = if w.is_true initial place.1 then Some (source place
 abbrev trues_of : List Header → List Init → List Symbol
 trues_of headers initial = filter_map (true_symbol initial) (enumerate_from 0 headers) ++ go ∷ []
 
-true_atoms_same : (initial : List Init) (places : List (ℕ × Header)) → entry_trees (filter_map (true_symbol initial) places) ≡ filter_map (w.true_atom initial) places
+true_atoms_same : (initial : List Init) (places : List (ℕ × Header))
+    → entry_trees (filter_map (true_symbol initial) places) ≡ filter_map (w.true_atom initial) places
 true_atoms_same initial [] = refl
 true_atoms_same initial (place ∷ places) = by (w.is_true initial place.1) _ _ (true_atoms_same initial places)
   where
@@ -117,19 +115,35 @@ true_atoms_same initial (place ∷ places) = by (w.is_true initial place.1) _ _ 
     by true symbols entries same = ap (λ others. w.true_entry (w.source_atom place.0) ∷ others) same
     by false symbols entries same = same
 
-entries_same : (headers : List Header) (initial : List Init) → entry_trees (trues_of headers initial) ≡ w.true_atoms headers initial ++ w.true_entry (codes "go") ∷ []
+entries_same : (headers : List Header) (initial : List Init)
+    → entry_trees (trues_of headers initial) ≡ w.true_atoms headers initial ++ w.true_entry (codes "go") ∷ []
 entries_same headers initial =
     map-append (λ (s : Symbol). w.true_entry s.name) (filter_map (true_symbol initial) (enumerate_from 0 headers)) (go ∷ [])
     ∙ ap (λ front. front ++ w.true_entry (codes "go") ∷ []) (true_atoms_same initial (enumerate_from 0 headers))
 
-abbrev step_act : List Header → Literal → Act
-step_act headers literal = record {
+abbrev step_changes : List Header → Option Literal → List Change
+step_changes headers None = []
+step_changes headers (Some literal) = Signed literal.is_negated (source (w.place_of headers literal.pred.name)) ∷ []
+
+changes_same : (headers : List Header) (found : Option Literal)
+    → map change_tree (step_changes headers found)
+    ≡ option_map_or (λ (literal : Literal). w.changing literal.is_negated (w.atom_name headers literal.pred) ∷ []) found []
+changes_same headers None = refl
+changes_same headers (Some literal) = refl
+
+abbrev step_act : List Header → Action → Act
+step_act headers step = record {
   name = codes "s0v";
   fits = refl;
   is_named = refl;
   condition = One go;
-  changes = Signed literal.is_negated (source (w.place_of headers literal.pred.name)) ∷ [];
+  changes = step_changes headers (literal_of_effect step.effect.body);
 }
+
+steps_same : (headers : List Header) (steps : List Action) → map act_tree (map (step_act headers) steps) ≡ map (w.step_action headers) steps
+steps_same headers [] = refl
+steps_same headers (step ∷ steps) = λ i.
+    w.action (codes "s0v") (w.atom (codes "go")) (changes_same headers (literal_of_effect step.effect.body) i) ∷ steps_same headers steps i
 
 abbrev finish_act : Act
 finish_act = record { name = codes "finish"; fits = refl; is_named = refl; condition = One go; changes = Signed true go ∷ Signed false first_link ∷ [] }
@@ -175,11 +189,21 @@ module _ (T : Task) (one : OnePreference T) where
   abbrev tail : List Action
   tail = w.finish_action ∷ w.collect_action T.domain.predicates wished ∷ w.forgo_action T.domain.predicates wished one.summand.weight ∷ []
 
-  tail_same : act_tree finish_act ∷ act_tree collect_act ∷ act_tree (forgo_act (costs_of weight)) ∷ [] ≡ tail
-  tail_same = ap (λ costs. act_tree finish_act ∷ act_tree collect_act ∷ record (act_tree (forgo_act [])) { effect = w.part (effect.All (w.settled ++ costs)) } ∷ []) (costs_same weight)
+  abbrev last_acts : List Act
+  last_acts = finish_act ∷ collect_act ∷ forgo_act (costs_of weight) ∷ []
 
-  abbrev of_written : Task → Type 0
-  of_written task = HasText (domain_layout task.domain) (problem_layout task.problem) task
+  tail_same : map act_tree last_acts ≡ tail
+  tail_same =
+      ap (λ costs. act_tree finish_act ∷ act_tree collect_act ∷ record (act_tree (forgo_act [])) { effect = w.part (effect.All (w.settled ++ costs)) } ∷ [])
+      (costs_same weight)
+
+  abbrev all_acts : List Act
+  all_acts = map (step_act T.domain.predicates) T.domain.actions ++ last_acts
+
+  acts_same : map act_tree all_acts ≡ w.actions T.domain wished one.summand.weight
+  acts_same =
+      map-append act_tree (map (step_act T.domain.predicates) T.domain.actions) last_acts
+      ∙ (λ i. steps_same T.domain.predicates T.domain.actions i ++ tail_same i)
 
   weight_found : weight_of T ≡ Some one.summand.weight
   weight_found =
@@ -193,29 +217,19 @@ module _ (T : Task) (one : OnePreference T) where
   unfolding written_of
   is_written = λ i. w.written_by (sym wish_found i) (sym weight_found i) T
 
-  with_steps : (step : Option Act) → map act_tree (acts_of (symbols_of T.domain.predicates) finish_act collect_act (forgo_act (costs_of weight)) step) ≡ w.actions T.domain wished one.summand.weight
-      → of_written (written_of T)
-  with_steps step same =
-      let headers = T.domain.predicates in
-      subst of_written
-      ((λ i. record { domain = domain_tree (headers_same headers i) (same i); problem = problem_tree (entries_same headers T.problem.init i) }) ∙ is_written)
-      (made_text (symbols_of headers) (trues_of headers T.problem.init) finish_act collect_act (forgo_act (costs_of weight)) step)
-
-  abbrev step_changes : Option Literal → List Effect
-  step_changes literal = option_map_or (λ (made : Literal). w.changing made.is_negated (w.atom_name T.domain.predicates made.pred) ∷ []) literal []
-
-  with_action : OneAction T → of_written (written_of T)
-  with_action act = with_steps (Some (step_act T.domain.predicates act.literal))
-      ((λ i. w.action (codes "s0v") (w.atom (codes "go")) (step_changes (sym act.changes i)) ∷ tail_same i)
-      ∙ (λ i. map (w.step_action T.domain.predicates) (sym act.only i) ++ tail))
-
-  without_action : T.domain.actions ≡ [] → of_written (written_of T)
-  without_action none = with_steps None (tail_same ∙ (λ i. map (w.step_action T.domain.predicates) (sym none i) ++ tail))
+  made_is_written : made_task (symbols_of T.domain.predicates) (trues_of T.domain.predicates T.problem.init) all_acts ≡ written_of T
+  made_is_written =
+      (λ i. record {
+        domain = domain_tree (headers_same T.domain.predicates i) (acts_same i);
+        problem = problem_tree (entries_same T.domain.predicates T.problem.init i);
+      })
+      ∙ is_written
 
 pub written_text : (T : Task) → IsTinyTask T → HasText (domain_layout (written_of T).domain) (problem_layout (written_of T).problem) (written_of T)
 written_text T tiny =
     let one : OnePreference T = the_preference T tiny in
-    ⊎_elim (with_action T one) (without_action T one) (the_action T tiny)
+    subst (λ task. HasText (domain_layout task.domain) (problem_layout task.problem) task) (made_is_written T one)
+    (made_text (symbols_of T.domain.predicates) (trues_of T.domain.predicates T.problem.init) (all_acts T one))
 
 -- ---- what the texts mean
 
