@@ -2,3 +2,4 @@ pub mod PutLemmas
 pub mod RunLemmas
 pub mod SpelledLemmas
 pub mod StoreLemmas
+pub mod Texts

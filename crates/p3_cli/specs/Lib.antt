@@ -9,3 +9,4 @@ pub mod Role
 pub mod Run
 pub mod Store
 pub mod Translation
+pub mod WrittenText

@@ -1,0 +1,8 @@
+pub mod Documents
+pub mod Halves
+pub mod Layouts
+pub mod Parts
+pub mod Places
+pub mod Symbols
+pub mod Words
+pub mod Written
