@@ -1,3 +1,5 @@
+pub mod AcceptedLemmas
+pub mod MeaningLemmas
 pub mod PutLemmas
 pub mod RunLemmas
 pub mod SpelledLemmas

@@ -28,7 +28,7 @@ abbrev state : Option Store → ℕ → ℕ → FilesState
 state told reads writes = record { held = told; read_faults = reads; write_faults = writes }
 
 -- the status, but where the report was not put
-kept_status : (before after : SinkState) (status : ℕ) (how : Ending) → Tells before after status how → status_of how ≢ 0 → status ≡ status_of how
+pub kept_status : (before after : SinkState) (status : ℕ) (how : Ending) → Tells before after status how → status_of how ≢ 0 → status ≡ status_of how
 kept_status before after status (ending.Done report) tells other = absurd (other refl)
 kept_status before after status (ending.Refused line) tells other = elim tells [ inl t ↦ t.0 | inr t ↦ t.0 ]
 kept_status before after status (ending.TooLong role) tells other = elim tells [ inl t ↦ t.0 | inr t ↦ t.0 ]

@@ -1,6 +1,7 @@
 pub mod Asked
 pub mod Ending
 pub mod Layout
+pub mod Meaning
 pub mod Outcome
 pub mod Product
 pub mod Refusal

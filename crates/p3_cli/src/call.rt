@@ -1,8 +1,9 @@
 //! The top call.
 
-ghost use Rattle.std.specs.Prelude.{◌≡◌, ◌⊎◌, ◌↔◌, ◌≤◌, IfSome, IsTrue, None};
+ghost use Rattle.std.specs.Prelude.{◌≡◌, ◌⊎◌, ◌↔◌, ◌≤◌, IfSome, IsSomeAnd, IsTrue, None};
 ghost use Rattle.p3_base.specs.Outside.{Rose};
 ghost use Rattle.p3_cli.specs.Asked.{asked_request};
+ghost use Rattle.p3_cli.specs.Meaning.{IsDone};
 ghost use Rattle.p3_cli.specs.Request.{inputs, request_of};
 ghost use Rattle.p3_cli.specs.Run.{Answers, AreHeld, Comes, Ends, IsAcceptedIn, IsRefusedIn, Leaves, OthersStay, Tells};
 ghost use Rattle.p3_cli.specs.Store.{AreNamed};
@@ -42,6 +43,10 @@ pub fn run<F: Files, S: Sink>(alloc: Global, words: &[Word], files: &mut F, out:
     ensures completes { IfSome (F.held files.old) (λ store. IsAcceptedIn (request_of words.now) store →
         Rose (F.read_faults files.old) (F.read_faults files.new) ⊎ (Rose (F.write_faults files.old) (F.write_faults files.new)
         ⊎ (Rose (S.faults out.old) (S.faults out.new) ⊎ ((result ≡ 0) ⊎ (result ≡ 5))))) }
+
+    // A done run leaves a faithful translation of the task that it read, and puts that task's report.
+    ensures faithful { (result ≡ 0) ⊎ (result ≡ 6) → IfSome (F.held files.old) (λ before. IsSomeAnd (F.held files.new) (λ after.
+        IsDone (request_of words.now) before after (S.written out.old) (S.written out.new) result)) }
 
     // A name that is no output holds what it held.
     ensures others { OthersStay (request_of words.now) (F.held files.old) (F.held files.new) }
