@@ -1,11 +1,11 @@
--- What it is that two texts are those of a task, but for the offsets in its trees.
+-- What it is that two texts are those of a task, but for where its parts stand in them.
 use Rattle.std.specs.Prelude.{◌≡◌, ℕ, List}
 use Rattle.p3_tree.specs.Erased.{erased}
 use Rattle.p3_tree.specs.Grammar.Texts.{Reads}
 use Rattle.p3_tree.specs.Lifting.{Faithful}
 use Rattle.p3_tree.specs.declared.task.Task.{Task}
 
--- the grammar reads the texts as a task that differs from this one in offsets alone
+-- the grammar reads the texts as a task that differs from this one in offsets and in the lengths of numerals alone
 abbrev pub HasText : List ℕ → List ℕ → Task → Type 0
 HasText d p task = (read : Task) × Reads d p read × (erased read ≡ erased task)
 

@@ -225,11 +225,13 @@ module _ (T : Task) (one : OnePreference T) where
       })
       ∙ is_written
 
+abbrev HasOwnText : Task → Type 0
+HasOwnText task = HasText (domain_layout task.domain) (problem_layout task.problem) task
+
 pub written_text : (T : Task) → IsTinyTask T → HasText (domain_layout (written_of T).domain) (problem_layout (written_of T).problem) (written_of T)
 written_text T tiny =
     let one : OnePreference T = the_preference T tiny in
-    subst (λ task. HasText (domain_layout task.domain) (problem_layout task.problem) task) (made_is_written T one)
-    (made_text (symbols_of T.domain.predicates) (trues_of T.domain.predicates T.problem.init) (all_acts T one))
+    subst HasOwnText (made_is_written T one) (made_text (symbols_of T.domain.predicates) (trues_of T.domain.predicates T.problem.init) (all_acts T one))
 
 -- ---- what the texts mean
 
@@ -238,6 +240,10 @@ faithful_text : (d p : List ℕ) (T U : Task) → HasText d p U → Faithful T U
 faithful_text d p T U (read, reads, same) faithful =
     (read, reads, (faithful_offset_free T read).0 (subst (Faithful (erased T)) (sym same) ((faithful_offset_free T U).1 faithful)))
 
-pub written_faithful_text : (T : Task) → IsTinyTask T → Faithful T (written_of T)
-    → HasFaithfulText (domain_layout (written_of T).domain) (problem_layout (written_of T).problem) T
-written_faithful_text T tiny faithful = faithful_text _ _ T (written_of T) (written_text T tiny) faithful
+-- of a task that is made, and of what is laid out of it
+pub written_faithful_text : (T made : Task) (d p : List ℕ) → IsTinyTask T → made ≡ written_of T → Faithful T made
+    → d ≡ domain_layout made.domain → p ≡ problem_layout made.problem → HasFaithfulText d p T
+written_faithful_text T made d p tiny is_written faithful domain problem =
+    let own : HasOwnText made = subst HasOwnText (sym is_written) (written_text T tiny) in
+    let beside : HasText (domain_layout made.domain) p made = subst (λ text. HasText (domain_layout made.domain) text made) (sym problem) own in
+    faithful_text d p T made (subst (λ text. HasText text p made) (sym domain) beside) faithful
