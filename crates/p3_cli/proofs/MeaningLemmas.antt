@@ -149,7 +149,7 @@ compiled : (domain problem od op d p odt opt report : List ℕ) (store : Store) 
     → IsTranslation d p odt opt report → (status ≡ 0 → after ≡ with_put report before) → IsCompiled domain problem od op store (insert (insert store od odt) op opt) before after status
 compiled domain problem od op d p odt opt report store before after status apart first second (task, spelled, made) put =
     let tiny : IsTinyTask task = spelled_task d p task spelled in
-    let text : HasFaithfulText (domain_layout (written_of task).domain) (problem_layout (written_of task).problem) task = written_faithful_text task tiny made.faithful in
+    let text : HasFaithfulText odt opt task = written_faithful_text task (written_of task) odt opt tiny refl made.faithful made.domain made.problem in
     let both : (bytes_under (insert (insert store od odt) op opt) od ≡ Some odt) × (bytes_under (insert (insert store od odt) op opt) op ≡ Some opt) = both_written store od op odt opt apart in
     record {
       task = task;
@@ -157,7 +157,7 @@ compiled domain problem od op d p odt opt report store before after status apart
       read = holds_task store domain problem d p task first second (task_text d p task spelled.domain spelled.problem);
       tiny = tiny;
       well_formed = tiny_well_formed task tiny;
-      holds = holds_task (insert (insert store od odt) op opt) od op (domain_layout (written_of task).domain) (problem_layout (written_of task).problem) text.0 (both.0 ∙ ap Some made.domain) (both.1 ∙ ap Some made.problem) text.1;
+      holds = holds_task (insert (insert store od odt) op opt) od op odt opt text.0 both.0 both.1 text.1;
       faithful = text.2;
       reported = λ done. put done ∙ ap (λ lines. with_put lines before) (made.told ∙ report_is task tiny);
     }

@@ -16,6 +16,7 @@ pub mod Metrics
 pub mod Names
 pub mod Offences
 pub mod Offsets
+pub mod PlanTexts
 pub mod Plans
 pub mod States
 pub mod Tiny
