@@ -15,7 +15,6 @@ use Rattle.p3_tree.specs.declared.goal.PreGoal.{PreGoal}
 use Rattle.p3_tree.specs.declared.goal.PreGoal.TheVariants as goal
 use Rattle.p3_tree.specs.declared.task.Part.{Part}
 use Rattle.p3_tree.specs.declared.term.Ref.{Ref}
-use Rattle.p3_syntax.specs.Reading.{◌>>=◌}
 use Rattle.p3_syntax.specs.Words.{word_of, parts_of, name_of, only_part, Headed, is_word, headed_among, each_of, is_among}
 use Rattle.p3_syntax.specs.Parts.{atom_of, literal_in, effect_of, unless_some, empty_list_in, no_part, no_condition_in}
 use Rattle.p3_syntax.specs.Domain.{header_of, requirements_among, part_words, part_of, action_parts, parameters_in, parameters_among, precondition_in, precondition_among, effect_among, action_of, predicates_in, predicates_among, actions_in, actions_among, domain_words, defined, domain_of}
