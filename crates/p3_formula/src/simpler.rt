@@ -1,6 +1,6 @@
 //! Negated and simplified forms.
 
-ghost use Rattle.std.specs.Prelude.{◌≡◌, ◌≤◌, IfOk, IsTrue, true, [], map};
+ghost use Rattle.std.specs.Prelude.{◌≡◌, ◌≤◌, ◌+◌, IfOk, IsTrue, true, [], map};
 ghost use Rattle.p3_formula.specs.Forms.{HasAtomsOf, HasSameTruth, IsOpposite, nodes};
 ghost use Rattle.p3_formula.specs.Tidy.{is_tidy};
 ghost use Rattle.p3_formula.specs.Simplified as made;
@@ -10,10 +10,12 @@ use crate::copy::copied;
 use p3_base::{Boxed, List, NoMemory};
 use std::alloc::Global;
 
-/// The opposite of a form: it holds in a state exactly where the form does not.
-#[tactic(auto, using(crate::proofs::TruthLaws::negated_truth, crate::proofs::AtomLaws::negated_atoms))]
+/// The opposite of a form: it holds in a state exactly where the form does not. It has at most one
+/// node more.
+#[tactic(auto, using(crate::proofs::TruthLaws::negated_truth, crate::proofs::AtomLaws::negated_atoms, crate::proofs::AtomLaws::negated_nodes))]
 pub fn negate(alloc: Global, form: &Form) -> Result<Form, NoMemory>
     ensures truth { IfOk result (λ opposite. IsOpposite opposite form.now) }
+    ensures size { IfOk result (λ opposite. nodes opposite ≤ 1 + nodes form.now) }
     ensures atoms { IfOk result (λ opposite. HasAtomsOf opposite form.now) }
 {
     negated(alloc, copied(alloc, form)?)
