@@ -1,0 +1,116 @@
+-- The plans of a target, how they lift to ground plans, and what it is that a target is a compiled ground task (Keyder and Geffner's end phase; names of steps are this project's profile).
+use Rattle.std.specs.Prelude.{◌≡◌, ℕ, ◌+◌, ◌-◌, ◌==◌, nat_lt, Bool, true, false, not, ◌&&◌, ◌||◌, List, [], ◌∷◌, ◌++◌, length, find, filter_map, sum_by, slice_index_or, codes, Option, Some, None, is_none, IsTrue, Contains, bytes_eq}
+use Rattle.std.specs.List.{list_all, range_with_len, starts_with}
+use Rattle.std.specs.Fmt.{decimal}
+use Rattle.p3_formula.specs.Forms.{State, truth, has_atoms}
+use Rattle.p3_formula.specs.Next.{after}
+use Rattle.p3_formula.specs.GroundPlans.{GroundPlan, GroundValid, ground_loss, last_of}
+use Rattle.p3_formula.specs.declared.form.Change.{Change}
+use Rattle.p3_formula.specs.declared.form.Form.{Form}
+use Rattle.p3_formula.specs.declared.target.Target.{Target}
+use Rattle.p3_formula.specs.declared.target.TargetAction.{TargetAction}
+use Rattle.p3_formula.specs.declared.target.Weights.{Weights}
+use Rattle.p3_formula.specs.declared.task.GroundTask.{GroundTask}
+
+abbrev pub Name : Type 0
+Name = List ℕ
+
+-- the names of its actions
+abbrev pub TargetPlan : Type 0
+TargetPlan = List Name
+
+abbrev pub action_of : Target → Name → Option TargetAction
+action_of X name = find (λ action. bytes_eq action.name name) X.actions
+
+-- ---- valid plans and their costs
+
+abbrev pub fits_by : State → Option TargetAction → Bool
+fits_by state None = false
+fits_by state (Some action) = truth state action.pre
+
+abbrev pub state_by : State → Option TargetAction → State
+state_by state None = state
+state_by state (Some action) = after state action.effects
+
+abbrev pub cost_by : Option TargetAction → ℕ
+cost_by None = 0
+cost_by (Some action) = action.cost
+
+-- each action fits in turn, and the goal holds at the end
+unfoldable pub reaches_goal : Target → State → TargetPlan → Bool
+reaches_goal X state [] = truth state X.goal
+reaches_goal X state (name ∷ plan) = fits_by state (action_of X name) && reaches_goal X (state_by state (action_of X name)) plan
+
+abbrev pub TargetValid : Target → TargetPlan → Type 0
+TargetValid X plan = IsTrue (reaches_goal X X.initial plan)
+
+unfoldable pub target_cost : Target → TargetPlan → ℕ
+target_cost X plan = sum_by (λ name. cost_by (action_of X name)) plan
+
+-- ---- lifting
+
+-- `s`, the number and `v`: what the names of the copies of a step begin with
+abbrev pub counts_as : Name → ℕ → Bool
+counts_as name number = starts_with ◌==◌ name (codes "s" ++ decimal number ++ codes "v")
+
+-- the step as which an action counts, if it does
+abbrev pub lifted_number : GroundTask → Name → Option ℕ
+lifted_number G name = find (counts_as name) (range_with_len 0 G.step_count)
+
+unfoldable pub ground_lift : GroundTask → TargetPlan → GroundPlan
+ground_lift G plan = filter_map (lifted_number G) plan
+
+-- ---- what is asked of a target
+
+abbrev pub is_sized_change : ℕ → Change → Bool
+is_sized_change count change = nat_lt change.atom count && has_atoms (λ atom. nat_lt atom count) change.cond
+
+abbrev pub is_sized_action : ℕ → TargetAction → Bool
+is_sized_action count action = has_atoms (λ atom. nat_lt atom count) action.pre && list_all (is_sized_change count) action.effects
+
+-- all atoms are below the number of predicates, and there is one initial bit for each predicate
+pub record IsSized (X : Target) : Type 0 where
+  pub bits : length X.initial ≡ length X.predicates
+  pub goal : IsTrue (has_atoms (λ atom. nat_lt atom (length X.predicates)) X.goal)
+  pub actions : IsTrue (list_all (is_sized_action (length X.predicates)) X.actions)
+
+-- the states that actions lead to from one on
+pub data Leads (X : Target) (from : State) : State → Type 0 where
+  Here : Leads X from from
+  Further : (state : State) → Leads X from state → (action : TargetAction) → Contains X.actions action → IsTrue (truth state action.pre) → Leads X from (after state action.effects)
+
+-- an action of the target that fits in a state
+pub record Fits (X : Target) (state : State) (action : TargetAction) : Type 0 where
+  pub own : Contains X.actions action
+  pub holds : IsTrue (truth state action.pre)
+
+-- In each state that is visited, one action at most fits of those that count as the same step, and one of those that
+-- count as none; and behind that one no action that counts as a step fits where one of each kind did.
+pub record IsLed (G : GroundTask) (X : Target) : Type 0 where
+  pub one_copy : (state : State) → Leads X X.initial state → (number : ℕ) → (first second : TargetAction) → Fits X state first → Fits X state second
+      → lifted_number G first.name ≡ Some number → lifted_number G second.name ≡ Some number → first ≡ second
+  pub one_other : (state : State) → Leads X X.initial state → (first second : TargetAction) → Fits X state first → Fits X state second
+      → lifted_number G first.name ≡ None → lifted_number G second.name ≡ None → first ≡ second
+  pub apart : (state later : State) → Leads X X.initial state → (number again : ℕ) → (step other action : TargetAction) → Fits X state step → Fits X state other
+      → lifted_number G step.name ≡ Some number → lifted_number G other.name ≡ None → Leads X (after state other.effects) later
+      → lifted_number G action.name ≡ Some again → Fits X later action → ⊥
+
+-- ---- compiled ground tasks
+
+pub record IsSoundFor (G : GroundTask) (weights : Weights) (X : Target) (q : TargetPlan) : Type 0 where
+  pub valid : GroundValid G (ground_lift G q)
+  pub cost : target_cost X q ≡ ground_loss G weights (ground_lift G q)
+
+-- exactly one valid plan of the target lifts to the ground plan
+pub record HasOneOrigin (G : GroundTask) (X : Target) (p : GroundPlan) : Type 0 where
+  pub origin : TargetPlan
+  pub valid : TargetValid X origin
+  pub lifts : ground_lift G origin ≡ p
+  pub only : (q : TargetPlan) → TargetValid X q → ground_lift G q ≡ p → q ≡ origin
+
+pub record Compiled (G : GroundTask) (weights : Weights) (X : Target) : Type 0 where
+  pub sound : (q : TargetPlan) → TargetValid X q → IsSoundFor G weights X q
+  pub one_to_one : (p : GroundPlan) → GroundValid G p → HasOneOrigin G X p
+  pub length : (q : TargetPlan) → TargetValid X q → length q ≡ length (ground_lift G q) + 1 + length G.soft
+  pub sized : IsSized X
+  pub led : IsLed G X
