@@ -1,4 +1,5 @@
 pub mod FormLemmas
+pub mod NextLemmas
 pub mod SimplifiedLemmas
 pub mod TruthLaws
 pub mod AtomLaws

@@ -1,0 +1,89 @@
+-- Actions that move the set atom on, as they are made.
+use Rattle.std.proofs.Common.{◌≡◌, ◌∙◌, ℕ, ◌+◌, ◌%◌, ◌<◌, ◌^◌, Bool, true, false, ◌&&◌, List, [], ◌∷◌, ◌++◌, length, take, get_or, refl, sym, ap, subst, arith}
+use Rattle.std.specs.Prelude.{IfOk, Result, Ok, Err}
+use Rattle.std.specs.Char.{to_ascii_lowercase}
+use Rattle.std.specs.Str.{str_to_ascii_lowercase}
+use Rattle.std.specs.Fmt.{decimal}
+use Rattle.std.proofs.lemmas.Fmt.{decimal_by_steps}
+use Rattle.std.proofs.lemmas.Bool.Decides.{nat_tests}
+use Rattle.std.proofs.lemmas.List.{map-append, take_more, length-take-le}
+use Rattle.p3_formula.specs.Forms.{State, is_set, truth}
+use Rattle.p3_formula.specs.declared.form.Change.{Change}
+use Rattle.p3_formula.specs.declared.form.Form.{Form}
+use Rattle.p3_formula.specs.declared.form.Form.TheVariants as form
+use Rattle.p3_formula.specs.declared.target.TargetAction.{TargetAction}
+use Rattle.p3_formula.proofs.FormLemmas.{truth-And, truth-Atom}
+use Rattle.p3_endphase.specs.declared.phase.SoftEnd.{SoftEnd}
+use Rattle.p3_endphase.specs.Ends.{collect_name, forgo_name, moving, IsMove, IsSettled, Settles, AreActions}
+
+and_true : (a b : Bool) → (a && (b && true)) ≡ (a && b)
+and_true a true = refl
+and_true a false = refl
+
+-- the atom and the condition, one after the other
+pub made : (atom : ℕ) (condition pre : Form) (name : List ℕ) (cost : ℕ) (effects : List Change) → pre ≡ form.And (form.Atom atom ∷ condition ∷ []) → effects ≡ moving atom
+    → IsMove atom (λ state. truth state condition) name cost (record { name = name; pre = pre; effects = effects; cost = cost })
+made atom condition pre name cost effects is changes = record {
+  is_named = refl;
+  fits = λ state. ap (truth state) is ∙ truth-And state (form.Atom atom ∷ condition ∷ []) ∙ (λ i. truth-Atom state atom i && (truth state condition && true)) ∙ and_true (is_set state atom) (truth state condition);
+  moves = changes;
+  costs = refl;
+}
+
+-- the same move by another name of the same bytes, where another condition holds in the same states
+pub with_condition : (atom cost : ℕ) (name other : List ℕ) (condition new : State → Bool) (action : TargetAction) → name ≡ other → ((state : State) → condition state ≡ new state) → IsMove atom condition name cost action → IsMove atom new other cost action
+with_condition atom cost name other condition new action same holds move = record {
+  is_named = move.is_named ∙ same;
+  fits = λ state. move.fits state ∙ ap (λ test. is_set state atom && test) (holds state);
+  moves = move.moves;
+  costs = move.costs;
+}
+
+-- ---- names with numbers have no upper case letters
+
+lowered_digit : (n : ℕ) → n < 10 → to_ascii_lowercase (48 + n) ≡ 48 + n
+lowered_digit n small = grind (arith, nat_tests)
+
+lowered_decimal : (n : ℕ) → n < 2 ^ 64 → str_to_ascii_lowercase (decimal n) ≡ decimal n
+lowered_decimal n fits =
+    decimal_by_steps (λ n digits. str_to_ascii_lowercase digits ≡ digits)
+    (λ n small. ap (λ b. b ∷ []) (lowered_digit n small))
+    (λ n digits large same. map-append to_ascii_lowercase digits ((48 + n % 10) ∷ [])
+    ∙ ap (λ front. front ++ to_ascii_lowercase (48 + n % 10) ∷ []) same
+    ∙ ap (λ b. digits ++ b ∷ []) (lowered_digit (n % 10) (omega arith)))
+    n fits
+
+pub lowered_collect : (n : ℕ) → n < 2 ^ 64 → str_to_ascii_lowercase (collect_name n) ≡ collect_name n
+lowered_collect n fits = ap (λ digits. 99 ∷ 111 ∷ 108 ∷ 108 ∷ 101 ∷ 99 ∷ 116 ∷ digits) (lowered_decimal n fits)
+
+pub lowered_forgo : (n : ℕ) → n < 2 ^ 64 → str_to_ascii_lowercase (forgo_name n) ≡ forgo_name n
+lowered_forgo n fits = ap (λ digits. 102 ∷ 111 ∷ 114 ∷ 103 ∷ 111 ∷ digits) (lowered_decimal n fits)
+
+pub if_ok_then : {A E : Type 0} {P Q : A → Type 0} (r : Result A E) → ((x : A) → P x → Q x) → IfOk r P → IfOk r Q
+if_ok_then (Ok x) f p = f x p
+if_ok_then (Err e) f p = p
+
+-- ---- two more actions
+
+settles_more : (first number : ℕ) (front : List SoftEnd) (instance : SoftEnd) (collect forgo : TargetAction) (actions : List TargetAction) → Settles first number front actions → IsSettled first (number + length front) instance collect forgo
+    → Settles first number (front ++ instance ∷ []) (actions ++ collect ∷ forgo ∷ [])
+settles_more first number [] instance collect forgo [] settles more = (subst (λ n. IsSettled first n instance collect forgo) (omega arith) more, tt)
+settles_more first number [] instance collect forgo (action ∷ actions) settles more = absurd settles
+settles_more first number (other ∷ front) instance collect forgo [] settles more = absurd settles
+settles_more first number (other ∷ front) instance collect forgo (action ∷ []) settles more = absurd settles
+settles_more first number (other ∷ front) instance collect forgo (one ∷ two ∷ actions) settles more =
+    (settles.0, settles_more first (number + 1) front instance collect forgo actions settles.1 (subst (λ n. IsSettled first n instance collect forgo) (omega arith) more))
+
+pub actions_more : (first : ℕ) (finish : Form) (front : List SoftEnd) (instance : SoftEnd) (collect forgo : TargetAction) (actions : List TargetAction) → AreActions first finish front actions → IsSettled first (length front) instance collect forgo
+    → AreActions first finish (front ++ instance ∷ []) (actions ++ collect ∷ forgo ∷ [])
+actions_more first finish front instance collect forgo [] are more = absurd are
+actions_more first finish front instance collect forgo (action ∷ actions) are more = (are.0, settles_more first 0 front instance collect forgo actions are.1 (subst (λ n. IsSettled first n instance collect forgo) (omega arith) more))
+
+-- the actions of the next instance stand behind those of the earlier ones
+pub actions_next : (first number : ℕ) (finish : Form) (instances : List SoftEnd) (instance : SoftEnd) (collect forgo : TargetAction) (actions : List TargetAction) → number < length instances → get_or instances number instance ≡ instance
+    → AreActions first finish (take number instances) actions → IsSettled first number instance collect forgo → AreActions first finish (take (number + 1) instances) (actions ++ collect ∷ forgo ∷ [])
+actions_next first number finish instances instance collect forgo actions within is are more =
+    let front : take (number + 1) instances ≡ take number instances ++ instance ∷ [] = take_more instances number instance within ∙ ap (λ one. take number instances ++ one ∷ []) is in
+    let count : length (take number instances) ≡ number = length-take-le number instances (omega (arith, within)) in
+    subst (λ list. AreActions first finish list (actions ++ collect ∷ forgo ∷ [])) (sym front)
+    (actions_more first finish (take number instances) instance collect forgo actions are (subst (λ n. IsSettled first n instance collect forgo) (sym count) more))

@@ -1,0 +1,87 @@
+-- The end phase (Keyder and Geffner): just one of its own atoms is set, and each of its actions moves it on by one place. The first of them is the running atom, and the others are the chain.
+use Rattle.std.specs.Prelude.{◌≡◌, ◌≢◌, ℕ, ◌+◌, ◌≤◌, ◌<◌, Bool, true, false, not, ◌&&◌, List, [], ◌∷◌, ◌++◌, length, sum_by, codes, if◌then◌else◌, Contains}
+use Rattle.std.specs.Fmt.{decimal}
+use Rattle.p3_formula.specs.Forms.{State, is_set, truth, IsBelow}
+use Rattle.p3_formula.specs.Next.{after}
+use Rattle.p3_formula.specs.declared.form.Change.{Change}
+use Rattle.p3_formula.specs.declared.form.Form.{Form}
+use Rattle.p3_formula.specs.declared.form.Form.TheVariants as form
+use Rattle.p3_formula.specs.declared.target.TargetAction.{TargetAction}
+use Rattle.p3_endphase.specs.declared.phase.EndPhase.{EndPhase}
+use Rattle.p3_endphase.specs.declared.phase.SoftEnd.{SoftEnd}
+
+-- the atoms of all that is to be accepted are below the count
+abbrev pub AreBelow : ℕ → List SoftEnd → Type 0
+AreBelow count [] = Unit {0}
+AreBelow count (instance ∷ instances) = IsBelow count instance.accept × AreBelow count instances
+
+-- ---- the actions
+
+-- the atom that is set goes to the next place
+abbrev pub moving : ℕ → List Change
+moving atom = record { cond = form.True; atom = atom; add = false } ∷ record { cond = form.True; atom = atom + 1; add = true } ∷ []
+
+-- an action of that name and cost that fits where the atom is set and a condition holds
+pub record IsMove (atom : ℕ) (condition : State → Bool) (name : List ℕ) (cost : ℕ) (action : TargetAction) : Type 0 where
+  pub is_named : action.name ≡ name
+  pub fits : (state : State) → truth state action.pre ≡ (is_set state atom && condition state)
+  pub moves : action.effects ≡ moving atom
+  pub costs : action.cost ≡ cost
+
+abbrev pub collect_name : ℕ → List ℕ
+collect_name number = codes "collect" ++ decimal number
+
+abbrev pub forgo_name : ℕ → List ℕ
+forgo_name number = codes "forgo" ++ decimal number
+
+-- satisfied, an instance costs nothing; else its weight
+pub record IsSettled (first number : ℕ) (instance : SoftEnd) (collect forgo : TargetAction) : Type 0 where
+  pub collects : IsMove (first + (number + 1)) (λ state. truth state instance.accept) (collect_name number) 0 collect
+  pub forgoes : IsMove (first + (number + 1)) (λ state. not (truth state instance.accept)) (forgo_name number) instance.weight forgo
+
+-- two actions for each instance, in order, the instances counted from a number on
+abbrev pub Settles : ℕ → ℕ → List SoftEnd → List TargetAction → Type 0
+Settles first number [] [] = Unit {0}
+Settles first number (instance ∷ instances) (collect ∷ forgo ∷ actions) = IsSettled first number instance collect forgo × Settles first (number + 1) instances actions
+Settles first number [] (action ∷ actions) = ⊥
+Settles first number (instance ∷ instances) [] = ⊥
+Settles first number (instance ∷ instances) (action ∷ []) = ⊥
+
+-- `finish` comes first
+abbrev pub AreActions : ℕ → Form → List SoftEnd → List TargetAction → Type 0
+AreActions first finish instances [] = ⊥
+AreActions first finish instances (action ∷ actions) = IsMove (first + 0) (λ state. truth state finish) (codes "finish") 0 action × Settles first 0 instances actions
+
+pub record IsEndPhase (finish : Form) (instances : List SoftEnd) (first : ℕ) (phase : EndPhase) : Type 0 where
+  pub count : phase.atoms ≡ length instances + 2
+  pub settles : AreActions first finish instances phase.actions
+  pub reached : phase.goal ≡ form.Atom (first + (1 + length instances))
+
+-- ---- what they do
+
+-- just the atom at that place is set, of as many from the first one on
+pub record IsSingleAt (first count place : ℕ) (state : State) : Type 0 where
+  pub room : first + count ≤ length state
+  pub within : place < count
+  pub here : is_set state (first + place) ≡ true
+  pub others : (other : ℕ) → other < count → other ≢ place → is_set state (first + other) ≡ false
+
+-- a list of the actions that fit one after another and lead to the goal
+abbrev pub Ends : EndPhase → State → List TargetAction → Type 0
+Ends phase state [] = truth state phase.goal ≡ true
+Ends phase state (action ∷ plan) = Contains phase.actions action × (truth state action.pre ≡ true) × Ends phase (after state action.effects) plan
+
+abbrev pub weight_in : State → SoftEnd → ℕ
+weight_in state instance = if truth state instance.accept then 0 else instance.weight
+
+-- the weights of the instances that are not satisfied
+abbrev pub violation : State → List SoftEnd → ℕ
+violation state instances = sum_by (weight_in state) instances
+
+-- exactly one list ends, with one action and one more for each instance
+pub record HasOneEnd (phase : EndPhase) (instances : List SoftEnd) (state : State) : Type 0 where
+  pub plan : List TargetAction
+  pub ends : Ends phase state plan
+  pub steps : length plan ≡ 1 + length instances
+  pub cost : sum_by (λ (action : TargetAction). action.cost) plan ≡ violation state instances
+  pub only : (other : List TargetAction) → Ends phase state other → other ≡ plan

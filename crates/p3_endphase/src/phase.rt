@@ -1,0 +1,212 @@
+//! The actions of the end phase (Keyder and Geffner).
+
+ghost use Rattle.std.specs.Prelude.{◌≡◌, ◌≤◌, ◌+◌, ◌^◌, ◌-◌, codes, length, not, true, false, [], ◌∷◌, IfOk, OnOk, ◌++◌, Contains, ℕ, List, string_bytes};
+ghost use Rattle.std.specs.Str.{str_to_ascii_lowercase};
+ghost use Rattle.p3_formula.specs.Forms.{State, IsBelow, truth};
+ghost use Rattle.p3_formula.specs.Next.{after};
+ghost use Rattle.p3_formula.specs.declared.target.TargetAction.{TargetAction};
+ghost use Rattle.p3_endphase.specs.Ends.{AreBelow, collect_name, forgo_name, IsMove, moving, IsSingleAt, IsEndPhase, Ends, HasOneEnd};
+
+use p3_base::{Boxed, List, Name, NoMemory};
+use p3_formula::{Change, Effects, Form, TargetAction, negate, simplify};
+use std::alloc::Global;
+
+/// A preference instance at the end of a plan.
+#[derive(Debug, Drop)]
+pub struct SoftEnd {
+    /// It is satisfied where this holds.
+    pub accept: Form,
+    /// What its violation costs.
+    pub weight: u64,
+}
+
+/// The end phase: its own atoms, its actions and its goal.
+#[derive(Debug, Drop)]
+pub struct EndPhase {
+    /// How many atoms are its own: the running atom, and the chain.
+    pub atoms: usize,
+    /// `finish`, and `collect<k>` and `forgo<k>` for each instance k.
+    pub actions: List<TargetAction>,
+    /// The last chain atom.
+    pub goal: Form,
+}
+
+/// The end phase of some instances. Its own atoms begin with the first one: the running atom, and
+/// behind it the chain.
+pub fn end_phase(
+    alloc: Global,
+    finish: &Form,
+    instances: &List<SoftEnd>,
+    first_atom: usize,
+) -> Result<EndPhase, NoMemory>
+    requires finish { IsBelow first_atom finish.now }
+    requires accept { AreBelow first_atom instances.now }
+    requires room { first_atom + length instances.now + 2 ≤ 2 ^ 64 - 1 }
+    requires few { length instances.now ≤ 100000 }
+    // What its actions are.
+    ensures actions { IfOk result (IsEndPhase finish.now instances.now first_atom) }
+    // From a running state where the plan may end, one list of actions leads to the goal, at the weights of what is violated.
+    ensures one_end { IfOk result (λ phase. (state : State) → IsSingleAt first_atom phase.atoms 0 state → truth state finish.now ≡ true → HasOneEnd phase instances.now state) }
+    // From another none does.
+    ensures no_end { IfOk result (λ phase. (state : State) → IsSingleAt first_atom phase.atoms 0 state → truth state finish.now ≡ false → (plan : List TargetAction) → Ends phase state plan → ⊥) }
+    // The atom that is set moves on, and one action at most fits.
+    ensures one_fits { IfOk result (λ phase. (state : State) (place : ℕ) → IsSingleAt first_atom phase.atoms place state → (one other : TargetAction) → Contains phase.actions one → Contains phase.actions other
+        → truth state one.pre ≡ true → truth state other.pre ≡ true → one ≡ other) }
+    ensures moves_on { IfOk result (λ phase. (state : State) (place : ℕ) → IsSingleAt first_atom phase.atoms place state → (action : TargetAction) → Contains phase.actions action → truth state action.pre ≡ true
+        → IsSingleAt first_atom phase.atoms (place + 1) (after state action.effects)) }
+{
+    made(alloc, finish, instances, first_atom)
+}
+
+/// The end phase.
+fn made(
+    alloc: Global,
+    finish: &Form,
+    instances: &List<SoftEnd>,
+    first_atom: usize,
+) -> Result<EndPhase, NoMemory>
+    requires room { first_atom + length instances.now + 2 ≤ 2 ^ 64 - 1 }
+    ensures { IfOk result (IsEndPhase finish.now instances.now first_atom) }
+{
+    let mut actions = List::new(alloc);
+    actions.push(finish_action(alloc, finish, first_atom)?)?;
+    for number in 0..instances.len() {
+        let instance = &instances.items()[number];
+        let collect = collect_action(alloc, instance, number, first_atom)?;
+        let forgo = forgo_action(alloc, instance, number, first_atom)?;
+        push_both(&mut actions, collect, forgo)?;
+    }
+    Ok(EndPhase {
+        atoms: instances.len() + 2,
+        actions,
+        goal: Form::Atom(first_atom + 1 + instances.len()),
+    })
+}
+
+/// Both actions stand behind the others.
+fn push_both(
+    actions: &mut List<TargetAction>,
+    collect: TargetAction,
+    forgo: TargetAction,
+) -> Result<(), NoMemory>
+    ensures { OnOk result (actions.new ≡ actions.old ++ collect ∷ forgo ∷ []) }
+{
+    actions.push(collect)?;
+    actions.push(forgo)?;
+    Ok(())
+}
+
+/// The plan ends: the running atom gives way to the first of the chain.
+fn finish_action(alloc: Global, finish: &Form, first_atom: usize) -> Result<TargetAction, NoMemory>
+    requires { first_atom + 1 ≤ 2 ^ 64 - 1 }
+    ensures { IfOk result (IsMove first_atom (λ state. truth state finish.now) (codes "finish") 0) }
+{
+    let condition = simplify(alloc, finish)?;
+    let name = Name::of(alloc, b"finish".as_slice())?;
+    moving(alloc, name, first_atom, condition, 0)
+}
+
+#[tactic(auto, using(crate::proofs::ActionLemmas::lowered_collect))]
+fn collect_name(alloc: Global, number: usize) -> Result<String, NoMemory>
+    ensures name { IfOk result (λ name. string_bytes name ≡ collect_name number) }
+    ensures lowered { str_to_ascii_lowercase (collect_name number) ≡ collect_name number }
+{
+    Ok(format!(in alloc; "collect{number}")?)
+}
+
+#[tactic(auto, using(crate::proofs::ActionLemmas::lowered_forgo))]
+fn forgo_name(alloc: Global, number: usize) -> Result<String, NoMemory>
+    ensures name { IfOk result (λ name. string_bytes name ≡ forgo_name number) }
+    ensures lowered { str_to_ascii_lowercase (forgo_name number) ≡ forgo_name number }
+{
+    Ok(format!(in alloc; "forgo{number}")?)
+}
+
+/// The instance is satisfied.
+fn collect_action(
+    alloc: Global,
+    instance: &SoftEnd,
+    number: usize,
+    first_atom: usize,
+) -> Result<TargetAction, NoMemory>
+    requires { first_atom + number + 2 ≤ 2 ^ 64 - 1 }
+    ensures { IfOk result (IsMove (first_atom + (number + 1)) (λ state. truth state instance.now.accept) (collect_name number) 0) }
+{
+    let condition = simplify(alloc, &instance.accept)?;
+    let name = Name::of(alloc, collect_name(alloc, number)?.as_bytes())?;
+    moving(alloc, name, first_atom + (number + 1), condition, 0)
+}
+
+/// The instance is not satisfied, which costs its weight.
+fn forgo_action(
+    alloc: Global,
+    instance: &SoftEnd,
+    number: usize,
+    first_atom: usize,
+) -> Result<TargetAction, NoMemory>
+    requires { first_atom + number + 2 ≤ 2 ^ 64 - 1 }
+    ensures { IfOk result (IsMove (first_atom + (number + 1)) (λ state. not (truth state instance.now.accept)) (forgo_name number) instance.now.weight) }
+{
+    let condition = negate(alloc, &instance.accept)?;
+    let name = Name::of(alloc, forgo_name(alloc, number)?.as_bytes())?;
+    moving(
+        alloc,
+        name,
+        first_atom + (number + 1),
+        condition,
+        instance.weight,
+    )
+}
+
+/// An action that moves the set atom on where a condition holds.
+fn moving(
+    alloc: Global,
+    name: Name,
+    atom: usize,
+    condition: Form,
+    cost: u64,
+) -> Result<TargetAction, NoMemory>
+    requires { atom + 1 ≤ 2 ^ 64 - 1 }
+    ensures { IfOk result (IsMove atom (λ state. truth state condition) name cost) }
+{
+    let pre = both(alloc, Form::Atom(atom), condition)?;
+    let effects = moved(alloc, atom)?;
+    Ok(TargetAction {
+        name,
+        pre,
+        effects,
+        cost,
+    })
+}
+
+/// Both hold.
+fn both(alloc: Global, first: Form, second: Form) -> Result<Form, NoMemory>
+    ensures { IfOk result (λ form. form ≡ Form.And (first ∷ second ∷ [])) }
+{
+    let mut parts = List::new(alloc);
+    parts.push(first)?;
+    parts.push(second)?;
+    Ok(Form::And(parts))
+}
+
+/// An atom is cleared, and the next one set.
+fn moved(alloc: Global, atom: usize) -> Result<Effects, NoMemory>
+    requires { atom + 1 ≤ 2 ^ 64 - 1 }
+    ensures { IfOk result (λ effects. effects ≡ moving atom) }
+{
+    let mut effects = List::new(alloc);
+    effects.push(change(atom, false))?;
+    effects.push(change(atom + 1, true))?;
+    Ok(effects)
+}
+
+/// An atom is set or cleared, whatever holds.
+fn change(atom: usize, add: bool) -> Change
+    ensures { result ≡ record { cond = Form.True; atom = atom; add = add } }
+{
+    Change {
+        cond: Form::True,
+        atom,
+        add,
+    }
+}
