@@ -1,0 +1,2 @@
+pub mod Befores
+pub mod Steps
