@@ -1,2 +1,4 @@
 pub mod Befores
+pub mod Drafts
+pub mod Layout
 pub mod Steps

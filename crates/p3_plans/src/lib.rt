@@ -3,6 +3,13 @@
 #![tactic(auto)]
 
 mod before;
+mod draft;
+mod error;
+mod read;
 mod reader;
+mod write;
 
+pub use error::PlanFail;
+pub use read::read_plan;
 pub use reader::{NextStep, PlanReader, PlanStep};
+pub use write::write_plan;
