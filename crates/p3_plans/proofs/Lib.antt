@@ -1,2 +1,3 @@
 pub mod DraftLemmas
 pub mod StepLemmas
+pub mod WrittenLemmas

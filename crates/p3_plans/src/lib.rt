@@ -3,6 +3,8 @@
 #![tactic(auto)]
 
 mod before;
+#[cfg(test)]
+mod cases;
 mod draft;
 mod error;
 mod read;

@@ -2,6 +2,7 @@
 
 ghost use Rattle.std.specs.Prelude.{◌≡◌, ◌≤◌, ◌++◌, length, IfOk, OnOk, IsTrue};
 ghost use Rattle.std.specs.List.{list_all, flat_map};
+ghost use Rattle.p3_tree.specs.PlanTexts.{IsPlanText};
 ghost use Rattle.p3_plans.specs.Layout as layout;
 
 use p3_base::{Name, NoMemory};
@@ -14,6 +15,7 @@ pub fn write_plan(alloc: Global, plan: &Plan) -> Result<Vec<u8>, NoMemory>
     // Each name is a word in lower case that is no variable and no keyword.
     requires words { IsTrue (list_all layout.has_written_words plan.now) }
     ensures text { IfOk result (λ text. text.items ≡ layout.plan_layout plan.now) }
+    ensures plan { IfOk result (λ text. IsPlanText text.items plan.now) }
 {
     let mut out = Vec::new(alloc);
     for step in plan.items() {
