@@ -50,7 +50,7 @@ pub record Sound (draft : Draft) : Type 0 where
 abbrev Free : Draft → Token → Type 0
 Free draft token = offence_of (draft_before draft) token ≡ None
 
-behind_more : (draft : Draft) (token : Token) → draft_before (added draft token) ≡ texts.behind (draft_before draft) token
+pub behind_more : (draft : Draft) (token : Token) → draft_before (added draft token) ≡ texts.behind (draft_before draft) token
 behind_more (Outside plan) token = refl
 behind_more (Begun plan) token = refl
 behind_more (Named plan step) (Open at) = refl
@@ -79,7 +79,7 @@ room steps limit free = grind (arith, nat_tests)
 words_of : (plan : List Step) (step : Step) → list_all has_plan_words plan ≡ true → has_plan_words step ≡ true → list_all has_plan_words (plan ++ step ∷ []) ≡ true
 words_of plan step all one = list_all-append has_plan_words plan (step ∷ []) ∙ rw (all, one) refl
 
-both : (a b : Bool) → (a && b) ≡ true → (a ≡ true) × (b ≡ true)
+pub both : (a b : Bool) → (a && b) ≡ true → (a ≡ true) × (b ≡ true)
 both true b is = (refl, is)
 both false b is = absurd cc
 

@@ -1,3 +1,4 @@
 pub mod DraftLemmas
+pub mod PlanLaws
 pub mod StepLemmas
 pub mod WrittenLemmas

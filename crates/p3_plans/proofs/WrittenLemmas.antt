@@ -1,6 +1,6 @@
 -- The tokens of a written plan.
-use Rattle.std.proofs.Common.{arith, ◌≡◌, ℕ, suc, ◌+◌, ◌-◌, ◌≤◌, ◌<◌, ◌≢◌, List, [], ◌∷◌, ◌++◌, Bool, true, false, length, map, flat_map, take, drop, Option, Some, None, refl, sym, ap, subst, ◌∙◌}
-use Rattle.std.specs.Prelude.{◌&&◌, ◌||◌, ◌==◌, not, IsTrue, if◌then◌else◌}
+use Rattle.std.proofs.Common.{arith, ◌≡◌, ℕ, ◌+◌, ◌-◌, ◌≤◌, ◌<◌, List, [], ◌∷◌, ◌++◌, Bool, true, false, length, map, flat_map, take, drop, None, refl, sym, ap, subst, ◌∙◌}
+use Rattle.std.specs.Prelude.{◌&&◌, ◌||◌, ◌==◌, IsTrue, if◌then◌else◌}
 use Rattle.std.specs.List.{list_all, prefix_len}
 use Rattle.std.specs.Char.{to_ascii_lowercase}
 use Rattle.std.specs.Str.{str_to_ascii_lowercase}
@@ -11,7 +11,7 @@ use Rattle.std.proofs.lemmas.List.{append_assoc, length-append, length-replicate
 use Rattle.p3_tree.specs.declared.task.Step.{Step}
 use Rattle.p3_tree.specs.Names.{Name}
 use Rattle.p3_tree.specs.Plans.{Plan}
-use Rattle.p3_tree.specs.Tokens.{Token, Open, Close, Word, Tokens, before, is_of_word, tokens_from}
+use Rattle.p3_tree.specs.Tokens.{Token, Word, Tokens, before, is_of_word, tokens_from}
 use Rattle.p3_tree.specs.PlanTexts.{Mark, Opens, Closes, Names, mark_of, step_marks, is_plan_word, has_plan_words, step_limit, IsPlanText}
 use Rattle.p3_lexer.specs.Lexing.{token_of, token_len}
 use Rattle.p3_lexer.proofs.TokenLemmas.{tokens_token}
@@ -160,7 +160,7 @@ reads_step step rest m all reads =
     let marks : map Names step.args ++ Closes ∷ m ≡ (map Names step.args ++ Closes ∷ []) ++ m = sym (append_assoc (map Names step.args) (Closes ∷ []) m) in
     subst (λ (bytes : List ℕ). Reads (40 ∷ bytes) (step_marks step ++ m)) grouped
     (subst (λ (ms : List Mark). Reads (40 ∷ step.action ++ later) (Opens ∷ Names step.action ∷ ms)) marks
-      (reads_open (step.action ++ later) _ (reads_word step.action later (map Names step.args ++ Closes ∷ m) apart.0 (starts_off step.args (10 ∷ rest)) (reads_arguments step.args rest m apart.1 reads))))
+    (reads_open (step.action ++ later) _ (reads_word step.action later (map Names step.args ++ Closes ∷ m) apart.0 (starts_off step.args (10 ∷ rest)) (reads_arguments step.args rest m apart.1 reads))))
 
 reads_plan : (plan : Plan) → list_all has_written_words plan ≡ true → Reads (plan_layout plan) (flat_map step_marks plan)
 reads_plan [] all = reads_end

@@ -54,10 +54,7 @@ fn offences_in_their_places(rt: HostRuntime) {
 #[test]
 fn a_plan_is_read(rt: HostRuntime) -> Result<(), Fail> {
     let alloc = rt.alloc();
-    let plan = match read_plan(alloc, b"(Move A b)(load)") {
-        Ok(plan) => plan,
-        Err(_) => return Err(Fail),
-    };
+    let plan = read_plan(alloc, b"(Move A b)(load)")?;
     assert_eq!(rt; plan.len(), 2);
     if let Some(step) = plan.get(0) {
         assert_eq!(rt; step.action.bytes(), b"move".as_slice());
@@ -75,6 +72,9 @@ fn a_plan_is_written(rt: HostRuntime) -> Result<(), Fail> {
     let action = Name::of(alloc, b"move")?;
     let mut plan = List::new(alloc);
     plan.push(Step { action, args })?;
-    assert_eq!(rt; write_plan(alloc, &plan)?.as_slice(), b"(move a)\n".as_slice());
+    assert_eq!(rt;
+        write_plan(alloc, &plan)?.as_slice(),
+        b"(move a)\n".as_slice()
+    );
     Ok(())
 }
