@@ -42,11 +42,6 @@ count_of (texts.Outside steps) = steps
 count_of (texts.Begun steps) = steps
 count_of (texts.Named steps) = steps
 
--- the words are of plans, and the steps are no more than the limit
-pub record Sound (draft : Draft) : Type 0 where
-  pub words : list_all has_plan_words (steps_of draft) ≡ true
-  pub few : count_of (draft_before draft) ≤ step_limit
-
 abbrev Free : Draft → Token → Type 0
 Free draft token = offence_of (draft_before draft) token ≡ None
 

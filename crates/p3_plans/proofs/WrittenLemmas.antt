@@ -15,6 +15,7 @@ use Rattle.p3_tree.specs.Tokens.{Token, Word, Tokens, before, is_of_word, tokens
 use Rattle.p3_tree.specs.PlanTexts.{Mark, Opens, Closes, Names, mark_of, step_marks, is_plan_word, has_plan_words, step_limit, IsPlanText}
 use Rattle.p3_lexer.specs.Lexing.{token_of, token_len}
 use Rattle.p3_lexer.proofs.TokenLemmas.{tokens_token}
+use Rattle.p3_plans.proofs.DraftLemmas.{both}
 use Rattle.p3_plans.specs.Layout.{argument_layout, step_layout, plan_layout, is_written_byte, is_written_word, has_written_words}
 
 -- the tokens of the bytes, wherever they stand
@@ -41,10 +42,6 @@ module _ (rest : List ℕ) (m : List Mark) (reads : Reads rest m) where
   reads_close = record { marks = λ at. ap (λ (later : List Mark). Closes ∷ later) (reads.marks ((at + 1) + 1)); known = λ at. reads.known ((at + 1) + 1) }
 
 -- ---- a word
-
-both : (a b : Bool) → (a && b) ≡ true → (a ≡ true) × (b ≡ true)
-both true b is = (refl, is)
-both false b is = absurd cc
 
 of_word : (byte : ℕ) → is_written_byte byte ≡ true → is_of_word byte ≡ true
 of_word byte is = (both (is_of_word byte) _ is).0
