@@ -14,7 +14,9 @@ use Rattle.p3_tree.specs.PlanTexts as texts
 use Rattle.p3_tree.specs.PlanTexts.{Mark, Opens, Closes, Names, mark_of, step_marks, is_plan_word, has_plan_words, step_limit, IsPlanText, offence_of, offence_from, first_of_both, plan_offence}
 use Rattle.p3_plans.specs.Befores.{refusal_by}
 use Rattle.p3_plans.specs.Drafts.{plan_of, draft_before, added, with_argument}
-use Rattle.p3_plans.specs.Laws.{HasPlan}
+use Rattle.p3_plans.specs.Laws.{HasPlan, StepsBeforeOffences}
+use Rattle.p3_plans.specs.Steps.{steps_from}
+use Rattle.p3_tree.specs.Tokens.{tokens_from}
 use Rattle.p3_plans.specs.declared.draft.Draft.{Draft}
 use Rattle.p3_plans.specs.declared.draft.Draft.TheVariants.{Outside, Begun, Named}
 use Rattle.p3_plans.proofs.DraftLemmas.{IsRead, read_first, read_more, read_refused, read_foreign, read_end, read_whole, behind_more, both}
@@ -122,3 +124,9 @@ one_plan_at_most text p q is_p is_q = ap plan_of (sym (follows_text text p is_p)
 pub a_plan_where_no_offence : (text : List ℕ) → HasPlan text ↔ (plan_offence text ≡ None)
 a_plan_where_no_offence text =
     ((λ has. ap (offence_from (length text) (texts.Outside 0) (tokens_of text).tokens) has.spelled.known ∙ (follows_text text has.plan has.spelled).free), plan_of_text text)
+
+-- ---- worked texts
+
+pub steps_before_offences : StepsBeforeOffences
+unfolding offence_from tokens_from steps_from
+steps_before_offences = record { broken = refl; whole = refl }

@@ -3,7 +3,7 @@
 ghost use Rattle.std.specs.Prelude.{◌≡◌, ◌↔◌, ℕ, List, None};
 ghost use Rattle.p3_tree.specs.Plans.{Plan};
 ghost use Rattle.p3_tree.specs.PlanTexts.{IsPlanText, plan_offence};
-ghost use Rattle.p3_plans.specs.Laws.{HasPlan};
+ghost use Rattle.p3_plans.specs.Laws.{HasPlan, StepsBeforeOffences};
 
 /// A text has one plan at most.
 pub fn one_plan_at_most()
@@ -13,4 +13,9 @@ pub fn one_plan_at_most()
 /// A text has a plan exactly where it has no offence.
 pub fn a_plan_where_no_offence()
     ensures { (text : List ℕ) → HasPlan text ↔ (plan_offence text ≡ None) }
+{}
+
+/// A reader gives the steps of two texts, and what ends them.
+pub fn steps_before_offences()
+    ensures { StepsBeforeOffences }
 {}
