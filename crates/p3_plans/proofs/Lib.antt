@@ -1,0 +1,4 @@
+pub mod DraftLemmas
+pub mod PlanLaws
+pub mod StepLemmas
+pub mod WrittenLemmas

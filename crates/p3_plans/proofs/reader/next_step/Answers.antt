@@ -1,0 +1,54 @@
+use Rattle.std.proofs.Common.{◌≡◌, Some, refl, sym, ap, subst, ◌∙◌, arith}
+use Rattle.p3_base.specs.declared.refusal.Refusal.{Refusal}
+use Rattle.p3_plans.specs.declared.before.Before.{Before}
+use Rattle.p3_lexer.specs.Lexing as lexing
+use Rattle.p3_lexer.specs.Lexing.{token_of}
+use Rattle.p3_tree.specs.Tokens.{Tokens}
+use Rattle.p3_tree.specs.PlanTexts.{Outside}
+use Rattle.p3_plans.specs.Befores.{the_before, begin_of, Passes}
+use Rattle.p3_plans.specs.Steps.{StepText, Left, parts, place_of, nothing}
+use Rattle.p3_plans.proofs.StepLemmas.{parts_end, parts_foreign, parts_refused, parts_more, parts_step, after_step, step_between, place_is, begins}
+use Rattle.p3_plans.proofs.reader.next_step.Goals as goal
+
+pub returns-in-Err-clause-steps : goal.returns-in-Err-clause-steps
+returns-in-Err-clause-steps c =
+    let before = c.loop-word.before in
+    let here : Tokens → Left = parts c.args.text.now (the_before before) (begin_of before) in
+    sym c.loop-word.invariant.leads ∙ ap here c.in-Token.ensures.tokens
+    ∙ parts_refused c.args.text.now (the_before before) (begin_of before) (token_of c.in-Token.place c.in-Token.word.now) (lexing.left c.next.new.self) c.in-Err.refusal c.in-Err.ensures
+
+pub returns-in-Outside-clause-steps : goal.returns-in-Outside-clause-steps
+returns-in-Outside-clause-steps c =
+    let before = c.loop-word.before in
+    let here : Tokens → Left = parts c.args.text.now (the_before before) (begin_of before) in
+    let token = token_of c.in-Token.place c.in-Token.word.now in
+    let step : step_between c.args.text.now (begin_of before) (place_of token) ≡ record { at = c.step_at-step.result.offset; text = c.step_at-step.result.text.now } =
+    rw (place_is c.in-Token.place c.in-Token.word.now, c.step_at-step.ensures.text, c.step_at-step.ensures.offset, c.begin.ensures) refl in
+    sym c.loop-word.invariant.leads ∙ ap here c.in-Token.ensures.tokens
+    ∙ parts_step c.args.text.now before c.in-Outside.steps token (lexing.left c.next.new.self) (subst (λ (later : Before). Passes before token later) c.in-Outside.is c.in-Ok.ensures)
+    ∙ ap (λ (s : StepText). after_step s (parts c.args.text.now (Outside c.in-Outside.steps) 0 (lexing.left c.next.new.self))) step
+
+pub loop-word-preserved : goal.loop-word-preserved
+loop-word-preserved c =
+    let before = c.loop-word.before in
+    let here : Tokens → Left = parts c.args.text.now (the_before before) (begin_of before) in
+    record {
+      source = c.in-Token.ensures.source ∙ c.loop-word.invariant.source;
+      leads = sym (parts_more c.args.text.now before c.in-Ok.later (token_of c.in-Token.place c.in-Token.word.now) (lexing.left c.next.new.self) c.in-Ok.ensures c.in_default.not-Outside)
+          ∙ sym (ap here c.in-Token.ensures.tokens) ∙ c.loop-word.invariant.leads;
+      begins = begins before c.in-Ok.later c.in-Token.place c.in-Token.word.now c.next.new.self.at c.in-Ok.ensures (omega (arith, c.loop-word.invariant.begins, c.in-Token.ensures.slice.behind_gap, c.in-Token.ensures.slice.ends)) (omega (arith, c.in-Token.ensures.slice.ends));
+    }
+
+pub returns-in-End-clause-steps : goal.returns-in-End-clause-steps
+returns-in-End-clause-steps c =
+    let before = c.loop-word.before in
+    let here : Tokens → Left = parts c.args.text.now (the_before before) (begin_of before) in
+    sym c.loop-word.invariant.leads ∙ ap here c.in-End.ensures.tokens ∙ parts_end c.args.text.now (the_before before) (begin_of before)
+    ∙ sym (c.end_of.ensures.offence (parts c.args.text.now (Outside c.args.given) 0 (lexing.left c.next.new.self)))
+
+pub returns-in-Bad-clause-steps : goal.returns-in-Bad-clause-steps
+returns-in-Bad-clause-steps c =
+    let before = c.loop-word.before in
+    let here : Tokens → Left = parts c.args.text.now (the_before before) (begin_of before) in
+    sym c.loop-word.invariant.leads ∙ ap here c.in-Bad.ensures.tokens ∙ parts_foreign c.args.text.now (the_before before) (begin_of before) c.in-Bad.place
+    ∙ ap (λ (refusal : Refusal). nothing (Some refusal)) (sym c.refusal.ensures)

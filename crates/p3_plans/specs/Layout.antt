@@ -1,0 +1,29 @@
+-- The bytes of a written plan.
+use Rattle.std.specs.Prelude.{ℕ, Bool, ◌&&◌, not, nat_le, List, ◌++◌, codes}
+use Rattle.std.specs.List.{list_all, flat_map}
+use Rattle.p3_tree.specs.Names.{Name}
+use Rattle.p3_tree.specs.Plans.{Plan}
+use Rattle.p3_tree.specs.Tokens.{is_of_word}
+use Rattle.p3_tree.specs.PlanTexts.{is_plan_word}
+use Rattle.p3_tree.specs.declared.task.Step.{Step}
+
+abbrev pub argument_layout : Name → List ℕ
+argument_layout name = codes " " ++ name
+
+-- a step is a line
+abbrev pub step_layout : Step → List ℕ
+step_layout step = codes "(" ++ (step.action ++ (flat_map argument_layout step.args ++ codes ")\n"))
+
+abbrev pub plan_layout : Plan → List ℕ
+plan_layout plan = flat_map step_layout plan
+
+-- it may stand in a word, and is no capital letter
+abbrev pub is_written_byte : ℕ → Bool
+is_written_byte byte = is_of_word byte && not (nat_le 65 byte && nat_le byte 90)
+
+-- a word in lower case that is no variable and no keyword
+abbrev pub is_written_word : Name → Bool
+is_written_word name = is_plan_word name && list_all is_written_byte name
+
+abbrev pub has_written_words : Step → Bool
+has_written_words step = is_written_word step.action && list_all is_written_word step.args

@@ -1,0 +1,5 @@
+pub mod Befores
+pub mod Drafts
+pub mod Laws
+pub mod Layout
+pub mod Steps

@@ -1,0 +1,80 @@
+//! Small plan texts.
+
+use crate::{NextStep, PlanFail, PlanReader, read_plan, write_plan};
+use p3_base::{Code, List, Name};
+use p3_tree::Step;
+use std::test::Fail;
+
+fn is_step(next: NextStep<'_>, text: &[u8], offset: u32) -> bool {
+    match next {
+        NextStep::Step(step) => step.text == text && step.offset == offset,
+        NextStep::End | NextStep::Bad(_) => false,
+    }
+}
+
+fn is_bad(next: NextStep<'_>, code: Code, offset: u32, len: u32) -> bool {
+    match next {
+        NextStep::Bad(refusal) => {
+            refusal.code == code && refusal.pos.offset == offset && refusal.len == len
+        }
+        NextStep::Step(_) | NextStep::End => false,
+    }
+}
+
+#[test]
+fn steps_in_order(rt: HostRuntime) {
+    let mut reader = PlanReader::new(b"; a plan\n(Move A\n b) ( load )");
+    assert!(rt; is_step(reader.next(), b"(Move A\n b)", 9));
+    assert!(rt; is_step(reader.next(), b"( load )", 21));
+    assert!(rt; matches!(reader.next(), NextStep::End));
+    assert!(rt; matches!(reader.next(), NextStep::End));
+}
+
+#[test]
+fn offences_in_their_places(rt: HostRuntime) {
+    let cases: [(&[u8], Code, u32, u32); 9] = [
+        (b"(a) (a", Code::Unbalanced, 6, 0),
+        (b"(a) )", Code::Unbalanced, 4, 1),
+        (b"(a) b", Code::Malformed, 4, 1),
+        (b"(a) ()", Code::Malformed, 5, 1),
+        (b"(a) ((", Code::Malformed, 5, 1),
+        (b"(a) (a (", Code::Malformed, 7, 1),
+        (b"(a) (:keep", Code::Malformed, 5, 5),
+        (b"(a) (a ?x)", Code::Malformed, 7, 2),
+        (b"(a) (a \x80)", Code::BadByte, 7, 1),
+    ];
+    for (text, code, offset, len) in cases {
+        let mut reader = PlanReader::new(text);
+        assert!(rt; is_step(reader.next(), b"(a)", 0));
+        assert!(rt; is_bad(reader.next(), code, offset, len));
+        assert!(rt; is_bad(reader.next(), code, offset, len));
+    }
+}
+
+#[test]
+fn a_plan_is_read(rt: HostRuntime) -> Result<(), Fail> {
+    let alloc = rt.alloc();
+    let plan = read_plan(alloc, b"(Move A b)(load)")?;
+    assert_eq!(rt; plan.len(), 2);
+    if let Some(step) = plan.get(0) {
+        assert_eq!(rt; step.action.bytes(), b"move".as_slice());
+        assert_eq!(rt; step.args.len(), 2);
+    }
+    assert!(rt; matches!(read_plan(alloc, b"(a) )"), Err(PlanFail::Refused(_))));
+    Ok(())
+}
+
+#[test]
+fn a_plan_is_written(rt: HostRuntime) -> Result<(), Fail> {
+    let alloc = rt.alloc();
+    let mut args = List::new(alloc);
+    args.push(Name::of(alloc, b"a")?)?;
+    let action = Name::of(alloc, b"move")?;
+    let mut plan = List::new(alloc);
+    plan.push(Step { action, args })?;
+    assert_eq!(rt;
+        write_plan(alloc, &plan)?.as_slice(),
+        b"(move a)\n".as_slice()
+    );
+    Ok(())
+}

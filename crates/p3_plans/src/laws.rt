@@ -1,0 +1,21 @@
+//! Laws of the definitions. Each is the contract of a function without a body.
+
+ghost use Rattle.std.specs.Prelude.{◌≡◌, ◌↔◌, ℕ, List, None};
+ghost use Rattle.p3_tree.specs.Plans.{Plan};
+ghost use Rattle.p3_tree.specs.PlanTexts.{IsPlanText, plan_offence};
+ghost use Rattle.p3_plans.specs.Laws.{HasPlan, StepsBeforeOffences};
+
+/// A text has one plan at most.
+pub fn one_plan_at_most()
+    ensures { (text : List ℕ) (p q : Plan) → IsPlanText text p → IsPlanText text q → p ≡ q }
+{}
+
+/// A text has a plan exactly where it has no offence.
+pub fn a_plan_where_no_offence()
+    ensures { (text : List ℕ) → HasPlan text ↔ (plan_offence text ≡ None) }
+{}
+
+/// A reader gives the steps of two texts, and what ends them.
+pub fn steps_before_offences()
+    ensures { StepsBeforeOffences }
+{}

@@ -1,0 +1,19 @@
+//! Plans as texts: the steps of a text one after another, reading a plan, and writing one.
+//! Giving the steps takes no memory.
+#![tactic(auto)]
+
+mod before;
+#[cfg(test)]
+mod cases;
+mod draft;
+mod error;
+mod laws;
+mod read;
+mod reader;
+mod write;
+
+pub use error::PlanFail;
+pub use laws::{a_plan_where_no_offence, one_plan_at_most, steps_before_offences};
+pub use read::read_plan;
+pub use reader::{NextStep, PlanReader, PlanStep};
+pub use write::write_plan;

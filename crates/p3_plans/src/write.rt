@@ -1,0 +1,58 @@
+//! Writing a plan.
+
+ghost use Rattle.std.specs.Prelude.{◌≡◌, ◌≤◌, ◌++◌, length, IfOk, OnOk, IsTrue};
+ghost use Rattle.std.specs.List.{list_all, flat_map};
+ghost use Rattle.p3_tree.specs.PlanTexts.{IsPlanText};
+ghost use Rattle.p3_plans.specs.Layout as layout;
+
+use p3_base::{Name, NoMemory};
+use p3_tree::{Plan, Step};
+use std::alloc::Global;
+
+/// The text of a plan: a line for each step.
+pub fn write_plan(alloc: Global, plan: &Plan) -> Result<Vec<u8>, NoMemory>
+    requires few { length plan.now ≤ 1000000 }
+    // Each name is a word in lower case that is no variable and no keyword.
+    requires words { IsTrue (list_all layout.has_written_words plan.now) }
+    ensures text { IfOk result (λ text. text.items ≡ layout.plan_layout plan.now) }
+    ensures plan { IfOk result (λ text. IsPlanText text.items plan.now) }
+{
+    let mut out = Vec::new(alloc);
+    for step in plan.items() {
+        push_step(&mut out, step)?;
+    }
+    Ok(out)
+}
+
+fn push_step(out: &mut Vec<u8>, step: &Step) -> Result<(), NoMemory>
+    ensures { OnOk result (out.new.items ≡ out.old.items ++ layout.step_layout step.now) }
+{
+    push(out, "(")?;
+    push_name(out, &step.action)?;
+    push_arguments(out, step.args.items())?;
+    push(out, ")\n")
+}
+
+fn push_arguments(out: &mut Vec<u8>, arguments: &[Name]) -> Result<(), NoMemory>
+    ensures { OnOk result (out.new.items ≡ out.old.items ++ flat_map layout.argument_layout arguments.now) }
+{
+    for argument in arguments {
+        push(out, " ")?;
+        push_name(out, argument)?;
+    }
+    Ok(())
+}
+
+fn push_name(out: &mut Vec<u8>, name: &Name) -> Result<(), NoMemory>
+    ensures { OnOk result (out.new.items ≡ out.old.items ++ name.now) }
+{
+    out.extend_from_slice(name.bytes())?;
+    Ok(())
+}
+
+fn push(out: &mut Vec<u8>, text: &str) -> Result<(), NoMemory>
+    ensures { OnOk result (out.new.items ≡ out.old.items ++ text.now) }
+{
+    out.extend_from_slice(text.as_bytes())?;
+    Ok(())
+}
