@@ -3,3 +3,4 @@ pub mod SimplifiedLemmas
 pub mod TruthLaws
 pub mod AtomLaws
 pub mod TidyLaws
+pub mod NextLaws

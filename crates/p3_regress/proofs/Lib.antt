@@ -1,0 +1,4 @@
+pub mod RegressedLemmas
+pub mod ConditionLemmas
+pub mod AtomAfter
+pub mod RegressedLaws

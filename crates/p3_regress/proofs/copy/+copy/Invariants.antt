@@ -1,0 +1,6 @@
+use Rattle.std.proofs.Common.{◌≡◌, take}
+use Rattle.p3_regress.proofs.copy.+copy.Given as goal
+
+-- the forms passed stand copied
+abbrev pub invariant-copied_all-loop-form : goal.invariant-copied_all-loop-form
+invariant-copied_all-loop-form l = l.copies ≡ take l.form-index l.forms
