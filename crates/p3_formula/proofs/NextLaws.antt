@@ -1,13 +1,16 @@
 -- The state after changes, and truth in states that agree.
-use Rattle.std.proofs.Common.{◌≡◌, ◌∙◌, ℕ, ◌+◌, ◌<◌, ◌≤◌, nat_lt, ◌==◌, Bool, true, false, not, ◌&&◌, ◌||◌, List, [], ◌∷◌, length, refl, sym, ap, arith}
-use Rattle.std.specs.List.{list_any, list_all}
+use Rattle.std.proofs.Common.{◌≡◌, ◌∙◌, ℕ, ◌+◌, ◌<◌, ◌≤◌, nat_lt, ◌==◌, Bool, true, false, not, ◌&&◌, ◌||◌, List, [], ◌∷◌, ◌++◌, map, length, refl, sym, ap, arith}
+use Rattle.std.specs.List.{list_any, list_all, range_with_len}
+use Rattle.std.specs.List.Sorted.{IsPermutation}
 use Rattle.std.proofs.lemmas.Bool.Decides.{nat_tests}
+use Rattle.std.proofs.lemmas.List.Folds.{list_any-append}
+use Rattle.std.proofs.lemmas.List.Sorted.{list_any-IsPermutation}
 use Rattle.std.proofs.lemmas.List.FromFn.{get_or-map-range_with_len, length-map-range_with_len}
 use Rattle.std.proofs.Math.ListN.{get_or-eq_default}
 use mathlib.Core.Former.{Count}
 use Rattle.p3_formula.specs.Folds.{fold_forms}
 use Rattle.p3_formula.specs.Forms.{State, is_set, truth, truth_layer, has_atoms, within_layer}
-use Rattle.p3_formula.specs.Next.{is_deleted, is_set_after, after}
+use Rattle.p3_formula.specs.Next.{is_added, is_deleted, is_set_after, after}
 use Rattle.p3_formula.specs.declared.form.Change.{Change}
 use Rattle.p3_formula.specs.declared.form.Form.{Form, Row_of-Form, end_of-Form, more_of-Form}
 use Rattle.p3_formula.specs.declared.form.Form.TheVariants.{True, False, Atom, Not', And', Or'}
@@ -24,6 +27,10 @@ none_of : (atom : ℕ) (first second : Change → Bool) (effects : List Change)
     → list_any (λ change. (change.atom == atom) && first change && second change) effects ≡ false
 none_of atom first second [] h = refl
 none_of atom first second (change ∷ rest) h = none_here (change.atom == atom) (first change) (second change) _ _ h (none_of atom first second rest)
+
+or-false : (b : Bool) → b ≡ (b || false)
+or-false true = refl
+or-false false = refl
 
 module _ (state : State) (effects : List Change) where
   pub length-after : length (after state effects) ≡ length state
@@ -49,6 +56,35 @@ module _ (state : State) (effects : List Change) where
         ∙ ap (λ b. is_set state atom && not b) (none_of atom (λ change. not change.add) (λ change. truth state change.cond) effects unchanged)
         ∙ sym (and-true (is_set state atom))
     by false beyond = is_set-beyond atom (grind (arith, nat_tests))
+
+-- of two lists of changes that are made at once, the one that does not name the atom does not matter
+module _ (state : State) (front back : List Change) (atom : ℕ) where
+  pub is_set_after-front : list_any (λ change. change.atom == atom) back ≡ false → is_set_after state (front ++ back) atom ≡ is_set_after state front atom
+  is_set_after-front none =
+      let added = list_any-append (λ change. (change.atom == atom) && change.add && truth state change.cond) front back in
+      let deleted = list_any-append (λ change. (change.atom == atom) && not change.add && truth state change.cond) front back in
+      let no_add = none_of atom (λ change. change.add) (λ change. truth state change.cond) back none in
+      let no_delete = none_of atom (λ change. not change.add) (λ change. truth state change.cond) back none in
+      (λ i. added i || is_set state atom && not (deleted i))
+      ∙ (λ i. (is_added state front atom || no_add i) || is_set state atom && not (is_deleted state front atom || no_delete i))
+      ∙ sym (λ i. or-false (is_added state front atom) i || is_set state atom && not (or-false (is_deleted state front atom) i))
+
+  pub is_set_after-back : list_any (λ change. change.atom == atom) front ≡ false → is_set_after state (front ++ back) atom ≡ is_set_after state back atom
+  is_set_after-back none =
+      let added = list_any-append (λ change. (change.atom == atom) && change.add && truth state change.cond) front back in
+      let deleted = list_any-append (λ change. (change.atom == atom) && not change.add && truth state change.cond) front back in
+      let no_add = none_of atom (λ change. change.add) (λ change. truth state change.cond) front none in
+      let no_delete = none_of atom (λ change. not change.add) (λ change. truth state change.cond) front none in
+      (λ i. added i || is_set state atom && not (deleted i))
+      ∙ (λ i. (no_add i || is_added state back atom) || is_set state atom && not (no_delete i || is_deleted state back atom))
+
+-- the order of changes does not matter
+pub after-permutation : (state : State) (effects others : List Change) → IsPermutation effects others → after state effects ≡ after state others
+unfolding after
+after-permutation state effects others same =
+    λ i. map
+    (λ atom. list_any-IsPermutation (λ change. (change.atom == atom) && change.add && truth state change.cond) effects others same i || is_set state atom && not (list_any-IsPermutation (λ change. (change.atom == atom) && not change.add && truth state change.cond) effects others same i))
+    (range_with_len 0 (length state))
 
 -- a form has the same truth in states that agree on its atoms
 module _ (first second : State) (allowed : ℕ → Bool) (agree : (atom : ℕ) → allowed atom ≡ true → is_set first atom ≡ is_set second atom) where

@@ -1,6 +1,6 @@
 -- The conditions of the changes of an atom.
 use Rattle.std.proofs.Common.{◌≡◌, ◌∙◌, ℕ, ◌+◌, ◌==◌, Bool, true, false, not, ◌&&◌, ◌||◌, if◌then◌else◌, List, [], ◌∷◌, ◌++◌, sum_by, refl, sym, ap, arith}
-use Rattle.std.specs.List.{list_any, list_all, filter}
+use Rattle.std.specs.List.{list_any, list_all}
 use Rattle.std.proofs.lemmas.List.Folds.{list_any-append, list_all-append}
 use Rattle.std.proofs.lemmas.List.Sums.{sum_by-cons, sum_by-append}
 use Rattle.p3_formula.specs.Forms.{State, has_atoms, nodes}
@@ -71,23 +71,18 @@ push_weight : (kept : List Form) (cond : Form) → weight (kept ++ cond ∷ []) 
 push_weight kept cond = let h = sum_by-append (λ f. 2 + nodes f) kept (cond ∷ []) in let k = sum_by-cons (λ f. 2 + nodes f) cond [] in omega arith
 
 module _ (atom : ℕ) where
-  weight_more : (a b : Bool) (adds deletes : List Form) (change : Change) (rest : List Change)
+  weight_more : (a b : Bool) (adds deletes : List Form) (cond : Form) (rest : List Change)
       → ((k l : List Form) → weight (conditions true atom k rest) + weight (conditions false atom l rest) ≡ weight k + weight l + atom_growth rest atom)
-      → weight (conditions true atom (if a && b then (adds ++ change.cond ∷ []) else adds) rest) + weight (conditions false atom (if a && not b then (deletes ++ change.cond ∷ []) else deletes) rest)
-      ≡ weight adds + weight deletes + sum_by (λ c. 2 + nodes c.cond) (if a then (change ∷ filter (λ c. c.atom == atom) rest) else (filter (λ c. c.atom == atom) rest))
-  weight_more false b adds deletes change rest known = known adds deletes
-  weight_more true true adds deletes change rest known =
-      let h = known (adds ++ change.cond ∷ []) deletes in
-      let p = push_weight adds change.cond in
-      let q = sum_by-cons (λ c. 2 + nodes c.cond) change (filter (λ c. c.atom == atom) rest) in
-      omega arith
-  weight_more true false adds deletes change rest known =
-      let h = known adds (deletes ++ change.cond ∷ []) in
-      let p = push_weight deletes change.cond in
-      let q = sum_by-cons (λ c. 2 + nodes c.cond) change (filter (λ c. c.atom == atom) rest) in
-      omega arith
+      → weight (conditions true atom (if a && b then (adds ++ cond ∷ []) else adds) rest) + weight (conditions false atom (if a && not b then (deletes ++ cond ∷ []) else deletes) rest)
+      ≡ weight adds + weight deletes + ((if a then (2 + nodes cond) else 0) + atom_growth rest atom)
+  weight_more false b adds deletes cond rest known = let h = known adds deletes in omega arith
+  weight_more true true adds deletes cond rest known = let h = known (adds ++ cond ∷ []) deletes in let p = push_weight adds cond in omega arith
+  weight_more true false adds deletes cond rest known = let h = known adds (deletes ++ cond ∷ []) in let p = push_weight deletes cond in omega arith
 
+  -- the conditions of an atom weigh what its changes may add
   pub weight_conditions : (adds deletes : List Form) (changes : List Change)
       → weight (conditions true atom adds changes) + weight (conditions false atom deletes changes) ≡ weight adds + weight deletes + atom_growth changes atom
   weight_conditions adds deletes [] = omega arith
-  weight_conditions adds deletes (change ∷ rest) = weight_more (change.atom == atom) change.add adds deletes change rest (λ k l. weight_conditions k l rest)
+  weight_conditions adds deletes (change ∷ rest) =
+      weight_more (change.atom == atom) change.add adds deletes change.cond rest (λ k l. weight_conditions k l rest)
+      ∙ ap (λ n. weight adds + weight deletes + n) (sym (sum_by-cons (λ c. if c.atom == atom then (2 + nodes c.cond) else 0) change rest))

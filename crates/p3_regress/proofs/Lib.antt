@@ -2,3 +2,4 @@ pub mod RegressedLemmas
 pub mod ConditionLemmas
 pub mod AtomAfter
 pub mod RegressedLaws
+pub mod SortedLemmas

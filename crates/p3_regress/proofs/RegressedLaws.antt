@@ -1,22 +1,25 @@
 -- A regressed form: its truth, its atoms and its size.
-use Rattle.std.proofs.Common.{◌≡◌, ◌∙◌, ℕ, ◌+◌, ◌≤◌, nat_lt, Bool, true, false, not, List, [], ◌∷◌, map, length, sum, sum_by, refl, sym, ap, arith}
+use Rattle.std.proofs.Common.{◌≡◌, ◌∙◌, ℕ, ◌+◌, ◌≤◌, ◌==◌, nat_lt, Bool, true, false, not, List, [], ◌∷◌, map, length, sum, sum_by, refl, sym, ap, arith}
 use Rattle.std.specs.List.{list_any, list_all}
 use Rattle.std.proofs.lemmas.Bool.Decides.{nat_tests}
 use Rattle.std.proofs.lemmas.List.Folds.{list_all-map}
-use Rattle.std.proofs.lemmas.List.Sums.{sum_by-cons}
+use Rattle.std.proofs.lemmas.List.Sums.{sum_by-cons, AllPass-from_list_all, list_all-from_AllPass}
+use Rattle.std.proofs.lemmas.List.Sorted.{list_any-IsPermutation, sum_by-IsPermutation, All-permutation}
+use Rattle.std.specs.List.Sorted.{IsPermutation}
 use mathlib.Core.Former.{Count}
 use denote.Hole.Carrier.{shown}
-use Rattle.p3_formula.specs.Folds.{fold_forms}
+use Rattle.p3_formula.specs.Folds.{fold_form, fold_forms}
 use Rattle.p3_formula.specs.Forms.{State, truth, truth_layer, has_atoms, within_layer, nodes, nodes_layer, IsBelow}
 use Rattle.p3_formula.specs.Next.{after}
 use Rattle.p3_formula.specs.declared.form.Change.{Change}
 use Rattle.p3_formula.specs.declared.form.Form.{Form, Row_of-Form, end_of-Form, more_of-Form, items-the_row-Form}
+use Rattle.p3_formula.specs.declared.form.Form.TheOpen as layer
 use Rattle.p3_formula.specs.declared.form.Form.TheBlock.{backs-Form, shown-the_row-Form-0, items_shown-the_row-Form-1}
 use Rattle.p3_formula.specs.declared.form.Form.TheVariants.{True, False, Atom, Not, And, Or, Not', And', Or'}
 use Rattle.p3_formula.proofs.FormLemmas.{list_any-map, truth-Not, truth-And, truth-Or, has_atoms-Not, has_atoms-And, has_atoms-Or, nodes-Atom, nodes-Not, nodes-And, nodes-Or}
 use Rattle.p3_formula.proofs.AtomLaws.{left, right, both}
-use Rattle.p3_formula.proofs.NextLaws.{is_set-after}
-use Rattle.p3_regress.specs.Regressed.{is_changed, growth, growth_layer, regressed, regressed_layer}
+use Rattle.p3_formula.proofs.NextLaws.{is_set-after, after-permutation}
+use Rattle.p3_regress.specs.Regressed.{IsTrueBefore, IsUntouched, HasAtomsOfBoth, is_changed, growth, growth_layer, regressed, regressed_layer}
 use Rattle.p3_regress.proofs.AtomAfter.{atom_after_truth, atom_after_same, atom_after_atoms, atom_after_nodes}
 
 not-false : (b : Bool) → not b ≡ true → b ≡ false
@@ -104,3 +107,35 @@ module _ (effects : List Change) where
         let q = sum_by-cons (λ n. n) (nodes part) (fold_forms nodes_layer rest) in
         let r = sum_by-cons (λ n. n) (growth effects part) (fold_forms (growth_layer effects) rest) in
         omega arith
+
+-- the same from changes in another order
+module _ (effects sorted : List Change) (same : IsPermutation effects sorted) where
+  alike : (atom : ℕ) → is_changed effects atom ≡ is_changed sorted atom
+  alike atom = list_any-IsPermutation (λ change. change.atom == atom) effects sorted same
+
+  growth_alike : (form : layer.Form-F ℕ) → growth_layer effects form ≡ growth_layer sorted form
+  growth_alike layer.True = refl
+  growth_alike layer.False = refl
+  growth_alike (layer.Atom atom) = sym (sum_by-IsPermutation _ effects sorted same)
+  growth_alike (layer.Not part) = refl
+  growth_alike (layer.And parts) = refl
+  growth_alike (layer.Or parts) = refl
+
+  growth_same : (form : Form) → growth effects form ≡ growth sorted form
+  unfolding growth
+  growth_same form = λ i. fold_form (λ x. growth_alike x i) form
+
+  pub sorted_truth : (form : Form) → IsTrueBefore effects form (regressed sorted form)
+  sorted_truth form state below = regressed_truth sorted state form below ∙ sym (ap (λ s. truth s form) (after-permutation state effects sorted same))
+
+  pub sorted_same : (form : Form) → IsUntouched effects form → regressed sorted form ≡ form
+  sorted_same form untouched = regressed_same sorted form (sym (λ i. has_atoms (λ atom. not (alike atom i)) form) ∙ untouched)
+
+  pub sorted_atoms : (form : Form) → HasAtomsOfBoth effects form (regressed sorted form)
+  sorted_atoms form allowed h all =
+      regressed_atoms sorted allowed
+      (list_all-from_AllPass (λ change. has_atoms allowed change.cond) sorted (All-permutation (λ change. has_atoms allowed change.cond ≡ true) effects sorted same (AllPass-from_list_all (λ change. has_atoms allowed change.cond) effects all)))
+      form h
+
+  pub sorted_nodes : (form : Form) → nodes (regressed sorted form) ≤ nodes form + growth effects form
+  sorted_nodes form = let h = regressed_nodes sorted form in let k = growth_same form in omega arith

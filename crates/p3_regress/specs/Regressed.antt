@@ -1,6 +1,6 @@
 -- A form before the changes of a step in place of one after it, and what it is to be.
 use Rattle.std.specs.Prelude.{◌≡◌, ℕ, ◌+◌, ◌==◌, Bool, true, false, not, ◌&&◌, if◌then◌else◌, List, [], ◌∷◌, ◌++◌, length, sum, IsTrue}
-use Rattle.std.specs.List.{list_any, list_all, sum_by, filter}
+use Rattle.std.specs.List.{list_any, list_all, sum_by}
 use Rattle.p3_formula.specs.Folds.{fold_form}
 use Rattle.p3_formula.specs.Forms.{State, truth, has_atoms, nodes, IsBelow}
 use Rattle.p3_formula.specs.Next.{after}
@@ -29,7 +29,7 @@ HasAtomsOfBoth effects form before =
 
 -- what the changes of an atom may add to its one node
 abbrev pub atom_growth : List Change → ℕ → ℕ
-atom_growth effects atom = sum_by (λ change. 2 + nodes change.cond) (filter (λ change. change.atom == atom) effects)
+atom_growth effects atom = sum_by (λ change. if change.atom == atom then (2 + nodes change.cond) else 0) effects
 
 abbrev pub growth_layer : List Change → layer.Form-F ℕ → ℕ
 growth_layer effects layer.True = 0

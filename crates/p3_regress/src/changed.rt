@@ -4,6 +4,7 @@ ghost use Rattle.std.specs.Prelude.{◌≡◌, IfOk, [], true, false};
 ghost use Rattle.std.specs.List.{list_any};
 ghost use Rattle.p3_formula.specs.Simplified.{joined, is_value};
 ghost use Rattle.p3_regress.specs.Regressed as made;
+ghost use Rattle.p3_regress.specs.Sorted.{lent};
 
 use crate::copy::copied;
 use p3_base::{Boxed, List, NoMemory};
@@ -20,11 +21,11 @@ fn is_of(change: &Change, atom: usize, add: bool) -> bool
 /// The conditions of the changes that set the atom, or else of those that clear it.
 fn conditions(
     alloc: Global,
-    changes: &[Change],
+    changes: &[&Change],
     atom: usize,
     add: bool,
 ) -> Result<Vec<Form>, NoMemory>
-    ensures { IfOk result (λ conds. conds.items ≡ made.conditions add atom [] changes.now) }
+    ensures { IfOk result (λ conds. conds.items ≡ made.conditions add atom [] (lent changes.now)) }
 {
     let mut conds = Vec::new(alloc);
     for change in changes {
@@ -110,8 +111,8 @@ fn changed(
 }
 
 /// When the atom is set after the step.
-pub(crate) fn atom_after(alloc: Global, changes: &[Change], atom: usize) -> Result<Form, NoMemory>
-    ensures { IfOk result (λ form. form ≡ made.atom_after changes.now atom) }
+pub(crate) fn atom_after(alloc: Global, changes: &[&Change], atom: usize) -> Result<Form, NoMemory>
+    ensures { IfOk result (λ form. form ≡ made.atom_after (lent changes.now) atom) }
 {
     let adds = conditions(alloc, changes, atom, true)?;
     let deletes = conditions(alloc, changes, atom, false)?;

@@ -6,5 +6,6 @@ mod cases;
 mod changed;
 mod copy;
 mod regression;
+mod sorted;
 
 pub use regression::regress;
