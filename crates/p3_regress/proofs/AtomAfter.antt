@@ -8,7 +8,7 @@ use Rattle.p3_formula.specs.Next.{is_added, is_set_after}
 use Rattle.p3_formula.specs.Simplified.{joined, is_value}
 use Rattle.p3_formula.specs.declared.form.Change.{Change}
 use Rattle.p3_formula.specs.declared.form.Form.{Form}
-use Rattle.p3_formula.specs.declared.form.Form.TheVariants.{True, False, Atom, Not, And, Or, Not', And', Or'}
+use Rattle.p3_formula.specs.declared.form.Form.TheVariants.{True, False, Atom, Not, Not', And', Or'}
 use Rattle.p3_formula.proofs.FormLemmas.{truth-Not, truth-And, truth-Or, has_atoms-Not, has_atoms-And, has_atoms-Or, nodes-Atom, nodes-Not, nodes-And, nodes-Or}
 use Rattle.p3_formula.proofs.AtomLaws.{both}
 use Rattle.p3_formula.proofs.TruthLaws.{and-true}

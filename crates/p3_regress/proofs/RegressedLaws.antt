@@ -1,5 +1,5 @@
 -- A regressed form: its truth, its atoms and its size.
-use Rattle.std.proofs.Common.{◌≡◌, ◌∙◌, ℕ, ◌+◌, ◌≤◌, ◌==◌, nat_lt, Bool, true, false, not, List, [], ◌∷◌, map, length, sum, sum_by, refl, sym, ap, arith}
+use Rattle.std.proofs.Common.{◌≡◌, ◌∙◌, ℕ, ◌+◌, ◌≤◌, ◌==◌, nat_lt, Bool, true, false, not, List, ◌∷◌, map, length, sum, sum_by, refl, sym, ap, arith}
 use Rattle.std.specs.List.{list_any, list_all}
 use Rattle.std.proofs.lemmas.Bool.Decides.{nat_tests}
 use Rattle.std.proofs.lemmas.List.Folds.{list_all-map}
@@ -9,14 +9,14 @@ use Rattle.std.specs.List.Sorted.{IsPermutation}
 use mathlib.Core.Former.{Count}
 use denote.Hole.Carrier.{shown}
 use Rattle.p3_formula.specs.Folds.{fold_form, fold_forms}
-use Rattle.p3_formula.specs.Forms.{State, truth, truth_layer, has_atoms, within_layer, nodes, nodes_layer, IsBelow}
+use Rattle.p3_formula.specs.Forms.{State, truth, truth_layer, has_atoms, within_layer, nodes, nodes_layer}
 use Rattle.p3_formula.specs.Next.{after}
 use Rattle.p3_formula.specs.declared.form.Change.{Change}
 use Rattle.p3_formula.specs.declared.form.Form.{Form, Row_of-Form, end_of-Form, more_of-Form, items-the_row-Form}
 use Rattle.p3_formula.specs.declared.form.Form.TheOpen as layer
 use Rattle.p3_formula.specs.declared.form.Form.TheBlock.{backs-Form, shown-the_row-Form-0, items_shown-the_row-Form-1}
 use Rattle.p3_formula.specs.declared.form.Form.TheVariants.{True, False, Atom, Not, And, Or, Not', And', Or'}
-use Rattle.p3_formula.proofs.FormLemmas.{list_any-map, truth-Not, truth-And, truth-Or, has_atoms-Not, has_atoms-And, has_atoms-Or, nodes-Atom, nodes-Not, nodes-And, nodes-Or}
+use Rattle.p3_formula.proofs.FormLemmas.{list_any-map, truth-Not, truth-And, truth-Or, has_atoms-Not, has_atoms-And, has_atoms-Or, nodes-Not, nodes-And, nodes-Or}
 use Rattle.p3_formula.proofs.AtomLaws.{left, right, both}
 use Rattle.p3_formula.proofs.NextLaws.{is_set-after, after-permutation}
 use Rattle.p3_regress.specs.Regressed.{IsTrueBefore, IsUntouched, HasAtomsOfBoth, is_changed, growth, growth_layer, regressed, regressed_layer}

@@ -1,6 +1,5 @@
 -- Equations of regressed forms and of their growth.
-use Rattle.std.proofs.Common.{◌≡◌, ℕ, List, map, sum, sum_by, refl, ap, ◌∙◌}
-use Rattle.std.proofs.lemmas.List.Sums.{sum-map}
+use Rattle.std.proofs.Common.{◌≡◌, ℕ, List, map, refl, ap}
 use denote.Hole.Carrier.{hidden}
 use Rattle.p3_formula.specs.declared.form.Change.{Change}
 use Rattle.p3_formula.specs.declared.form.Form.{Form}
