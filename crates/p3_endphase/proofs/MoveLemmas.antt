@@ -6,7 +6,7 @@ use Rattle.std.proofs.lemmas.List.Sums.{sum_by-cons}
 use Rattle.p3_formula.specs.Forms.{State, is_set, truth, IsBelow}
 use Rattle.p3_formula.specs.Next.{after}
 use Rattle.p3_formula.specs.declared.form.Form.{Form}
-use Rattle.p3_formula.proofs.NextLemmas.{length-after, is_set-after, truth-same}
+use Rattle.p3_formula.proofs.NextLaws.{length-after, is_set-after, truth-agree}
 use Rattle.p3_endphase.specs.declared.phase.SoftEnd.{SoftEnd}
 use Rattle.p3_endphase.specs.Ends.{AreBelow, moving, IsSingleAt, weight_in, violation}
 
@@ -63,7 +63,7 @@ moved_single first count place state single more = record {
 -- ---- what reads lower atoms alone
 
 pub moved_truth : (first count place : ℕ) (state : State) → IsSingleAt first count place state → (form : Form) → IsBelow first form → truth (moved state (first + place)) form ≡ truth state form
-moved_truth first count place state single form below = truth-same (λ atom. nat_lt atom first) (moved state (first + place)) state same form below
+moved_truth first count place state single form below = truth-agree (moved state (first + place)) state (λ atom. nat_lt atom first) same form below
   where
     same : (atom : ℕ) → nat_lt atom first ≡ true → is_set (moved state (first + place)) atom ≡ is_set state atom
     same atom low =

@@ -8,7 +8,7 @@ use std::alloc::Global;
 
 /// The same form once more.
 #[cycle(copy)]
-pub(crate) fn copied(alloc: Global, form: &Form) -> Result<Form, NoMemory>
+pub fn copied(alloc: Global, form: &Form) -> Result<Form, NoMemory>
     ensures { IfOk result (λ copy. copy ≡ form.now) }
 {
     match form {

@@ -14,6 +14,7 @@ mod target;
 mod task;
 
 pub use bits::Bits;
+pub use copy::copied;
 pub use evaluation::eval;
 pub use form::{Change, Effects, Form};
 pub use modal::{GroundModal, GroundPref, GroundSoft};

@@ -1,0 +1,5 @@
+pub mod RegressedLemmas
+pub mod ConditionLemmas
+pub mod AtomAfter
+pub mod RegressedLaws
+pub mod SortedLemmas

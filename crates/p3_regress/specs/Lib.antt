@@ -1,0 +1,2 @@
+pub mod Regressed
+pub mod Sorted
