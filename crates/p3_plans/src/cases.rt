@@ -1,8 +1,11 @@
-//! Small plan texts.
+//! Plan texts, small ones and great ones.
+
+ghost use Rattle.std.specs.Prelude.{◌≤◌, length};
 
 use crate::{NextStep, PlanFail, PlanReader, read_plan, write_plan};
-use p3_base::{Code, List, Name};
+use p3_base::{Code, List, Name, line_column};
 use p3_tree::Step;
+use std::alloc::Global;
 use std::test::Fail;
 
 fn is_step(next: NextStep<'_>, text: &[u8], offset: u32) -> bool {
@@ -18,6 +21,20 @@ fn is_bad(next: NextStep<'_>, code: Code, offset: u32, len: u32) -> bool {
             refusal.code == code && refusal.pos.offset == offset && refusal.len == len
         }
         NextStep::Step(_) | NextStep::End => false,
+    }
+}
+
+/// Whether the text is refused for this reason at this line and column.
+fn is_refused_at(alloc: Global, text: &[u8], code: Code, line: u32, column: u32) -> bool
+    requires { length text.now ≤ 16777216 }
+{
+    match read_plan(alloc, text) {
+        Err(PlanFail::Refused(refusal)) => {
+            refusal.code == code
+                && refusal.pos.offset as usize <= text.len()
+                && line_column(text, refusal.pos.offset) == (line, column)
+        }
+        Ok(_) | Err(PlanFail::NoMemory) => false,
     }
 }
 
@@ -76,5 +93,27 @@ fn a_plan_is_written(rt: HostRuntime) -> Result<(), Fail> {
         write_plan(alloc, &plan)?.as_slice(),
         b"(move a)\n".as_slice()
     );
+    Ok(())
+}
+
+#[test]
+fn one_step_too_many(rt: HostRuntime) -> Result<(), Fail> {
+    let alloc = rt.alloc();
+    let mut text = Vec::new(alloc);
+    for _ in 0..1_000_001 {
+        text.extend_from_slice(b"(a)\n")?;
+    }
+    assert!(rt;
+        text.len() <= 16_777_216
+            && is_refused_at(alloc, text.as_slice(), Code::TooManySteps, 1_000_001, 1)
+    );
+    Ok(())
+}
+
+#[test]
+fn no_name_at_all(rt: HostRuntime) -> Result<(), Fail> {
+    let alloc = rt.alloc();
+    let text = vec![in alloc; b'('; 16_777_216]?;
+    assert!(rt; is_refused_at(alloc, text.as_slice(), Code::Malformed, 1, 2));
     Ok(())
 }
