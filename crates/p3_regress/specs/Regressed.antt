@@ -10,7 +10,7 @@ use Rattle.p3_formula.specs.declared.form.Form.{Form}
 use Rattle.p3_formula.specs.declared.form.Form.TheVariants.{True, False, Atom, Not, And, Or}
 use Rattle.p3_formula.specs.declared.form.Form.TheOpen as layer
 
--- the second form holds in a state exactly where the first holds after the changes
+-- the second form holds in a state exactly where the first holds after the changes; an atom past the state's end is never set, so the first has none
 abbrev pub IsTrueBefore : List Change → Form → Form → Type 0
 IsTrueBefore effects form before = (state : State) → IsBelow (length state) form → truth state before ≡ truth (after state effects) form
 

@@ -12,11 +12,13 @@ use p3_base::{Boxed, List, NoMemory};
 use p3_formula::{Change, Effects, Form};
 use std::alloc::Global;
 
-/// The form that holds before a step exactly where this one holds after it.
+/// The form that holds before a step exactly where this one holds after it, in each state that
+/// has this one's atoms.
 ///
 /// An atom becomes the disjunction of the conditions that set it and of its staying set, and an
 /// atom that no change names stays. The changes are sorted once, and each atom's are found by
-/// halving, so that the time is near-linear in what is given and given back.
+/// halving, so that the time is near-linear in the form, the changes and, for each place of an
+/// atom in the form, the conditions of its changes.
 #[tactic(auto, using(crate::proofs::RegressedLaws::sorted_truth, crate::proofs::RegressedLaws::sorted_same, crate::proofs::RegressedLaws::sorted_atoms, crate::proofs::RegressedLaws::sorted_nodes))]
 pub fn regress(alloc: Global, form: &Form, effects: &Effects) -> Result<Form, NoMemory>
     ensures truth { IfOk result (λ before. IsTrueBefore effects.now form.now before) }
