@@ -4,9 +4,14 @@ ghost use Rattle.std.specs.Prelude.{◌≤◌, length};
 
 use crate::{NextStep, PlanFail, PlanReader, read_plan, write_plan};
 use p3_base::{Code, List, Name, line_column};
+use p3_lexer::{Lexer, Next};
 use p3_tree::Step;
 use std::alloc::Global;
 use std::test::Fail;
+
+/// The domain of the first example.
+const FIRST_DOMAIN: &[u8] =
+    b"(define (domain d) (:predicates (p))\n(:action a :parameters () :precondition () :effect (p)))\n";
 
 fn is_step(next: NextStep<'_>, text: &[u8], offset: u32) -> bool {
     match next {
@@ -116,4 +121,49 @@ fn no_name_at_all(rt: HostRuntime) -> Result<(), Fail> {
     let text = vec![in alloc; b'('; 16_777_216]?;
     assert!(rt; is_refused_at(alloc, text.as_slice(), Code::Malformed, 1, 2));
     Ok(())
+}
+
+fn is_token(next: Next<'_>, wanted: &[u8], place: u32) -> bool {
+    match next {
+        Next::Token { text, offset } => text == wanted && offset == place,
+        Next::End | Next::Bad(_) => false,
+    }
+}
+
+#[test]
+fn tokens_of_the_first_example(rt: HostRuntime) {
+    let tokens: [(&[u8], u32); 27] = [
+        (b"(", 0),
+        (b"define", 1),
+        (b"(", 8),
+        (b"domain", 9),
+        (b"d", 16),
+        (b")", 17),
+        (b"(", 19),
+        (b":predicates", 20),
+        (b"(", 32),
+        (b"p", 33),
+        (b")", 34),
+        (b")", 35),
+        (b"(", 37),
+        (b":action", 38),
+        (b"a", 46),
+        (b":parameters", 48),
+        (b"(", 60),
+        (b")", 61),
+        (b":precondition", 63),
+        (b"(", 77),
+        (b")", 78),
+        (b":effect", 80),
+        (b"(", 88),
+        (b"p", 89),
+        (b")", 90),
+        (b")", 91),
+        (b")", 92),
+    ];
+    let mut lexer = Lexer::new(FIRST_DOMAIN);
+    for (text, offset) in tokens {
+        assert!(rt; is_token(lexer.next(), text, offset));
+    }
+    assert!(rt; matches!(lexer.next(), Next::End));
 }
