@@ -1,6 +1,7 @@
 -- The copies, split by one preference after another.
 use Rattle.std.proofs.Common.{◌≡◌, ◌∙◌, ℕ, ◌+◌, ◌<◌, nat_lt, Bool, true, false, not, ◌&&◌, cond, List, [], ◌∷◌, ◌++◌, length, map, take, get_or, sum_by, refl, sym, ap, subst, arith}
 use Rattle.std.specs.Prelude.{if◌then◌else◌}
+use Rattle.std.specs.List.{All}
 use Rattle.std.proofs.lemmas.List.{append-nil, append_assoc, take_more}
 use Rattle.std.proofs.lemmas.List.Elements.{All-nil, All-cons, All-head, All-tail, All-weaker}
 use Rattle.std.proofs.lemmas.List.Sums.{sum_by-cons, sum_by-take-le, sum_by_more_le}
@@ -10,9 +11,9 @@ use Rattle.p3_formula.specs.declared.form.Form.TheVariants as form
 use Rattle.p3_formula.specs.declared.modal.GroundPref.{GroundPref}
 use Rattle.p3_formula.specs.declared.target.Weights.{Weights}
 use Rattle.p3_formula.specs.declared.task.GroundStep.{GroundStep}
-use Rattle.p3_formula.proofs.FormLemmas.{truth-And, truth-Not}
+use Rattle.p3_formula.proofs.FormLemmas.{truth-And, truth-Not, has_atoms-And, has_atoms-Not}
 use Rattle.p3_precprefs.specs.declared.copies.StepCopy.{StepCopy}
-use Rattle.p3_precprefs.specs.Copies.{weight_of, weighted, fitting, is_violated, violation, HasOneCopy, satisfied, violating, doubled, split_by, split_all, first_copy, IsWithin}
+use Rattle.p3_precprefs.specs.Copies.{weight_of, weighted, fitting, HasAtomsIn, HasPartsIn, is_violated, violation, HasOneCopy, satisfied, violating, doubled, split_by, split_all, first_copy, IsWithin}
 
 -- ---- one preference more
 
@@ -20,15 +21,20 @@ split_all_more : (by_name : List ℕ) (prefs : List GroundPref) (pref : GroundPr
 split_all_more by_name [] pref copies = refl
 split_all_more by_name (other ∷ prefs) pref copies = split_all_more by_name prefs pref (split_by by_name copies other)
 
+-- ---- what holds of each copy
+
+module _ (P Q : StepCopy → Type 0) (body : Form) (weight : ℕ) (first : (copy : StepCopy) → P copy → Q (satisfied body copy)) (second : (copy : StepCopy) → P copy → Q (violating body weight copy)) where
+  all_doubled : (copies : List StepCopy) → All P copies → All Q (doubled body weight copies)
+  all_doubled [] all = All-nil Q
+  all_doubled (copy ∷ copies) all =
+      All-cons Q (satisfied body copy) (violating body weight copy ∷ doubled body weight copies) (first copy (All-head P copy copies all))
+      (All-cons Q (violating body weight copy) (doubled body weight copies) (second copy (All-head P copy copies all)) (all_doubled copies (All-tail P copy copies all)))
+
 -- ---- bounds of costs
 
 within_doubled : (body : Form) (weight bound : ℕ) (copies : List StepCopy) → IsWithin bound copies → IsWithin (bound + weight) (doubled body weight copies)
-within_doubled body weight bound [] within = All-nil (λ (copy : StepCopy). copy.cost < bound + weight)
-within_doubled body weight bound (copy ∷ copies) within =
-    let here : copy.cost < bound = All-head (λ (copy : StepCopy). copy.cost < bound) copy copies within in
-    let rest = within_doubled body weight bound copies (All-tail (λ (copy : StepCopy). copy.cost < bound) copy copies within) in
-    All-cons (λ (copy : StepCopy). copy.cost < bound + weight) (satisfied body copy) (violating body weight copy ∷ doubled body weight copies) (omega (arith, here))
-    (All-cons (λ (copy : StepCopy). copy.cost < bound + weight) (violating body weight copy) (doubled body weight copies) (omega (arith, here)) rest)
+within_doubled body weight bound copies within =
+    all_doubled (λ (copy : StepCopy). copy.cost < bound) (λ (copy : StepCopy). copy.cost < bound + weight) body weight (λ copy below. omega (arith, below)) (λ copy below. omega (arith, below)) copies within
 
 within_more : (bound more : ℕ) (copies : List StepCopy) → IsWithin bound copies → IsWithin (bound + more) copies
 within_more bound more copies within = All-weaker (λ (copy : StepCopy). copy.cost < bound) (λ (copy : StepCopy). copy.cost < bound + more) (λ copy below. omega (arith, below)) copies within
@@ -64,6 +70,32 @@ within_so_far by_name prefs index room first fits =
     All-weaker (λ (copy : StepCopy). copy.cost < first.cost + 1 + sum_by (weight_of by_name) (take index prefs)) (λ (copy : StepCopy). copy.cost < room)
     (λ copy below. omega (arith, below, fits, sum_by-take-le (weight_of by_name) prefs index))
     (split_all by_name (take index prefs) (first ∷ [])) (within_split_all by_name (first.cost + 1) (take index prefs) (first ∷ []) begins)
+
+-- ---- atoms
+
+module _ (allowed : ℕ → Bool) where
+  abbrev IsIn : StepCopy → Type 0
+  IsIn copy = HasAtomsIn allowed copy.pre
+
+  atoms_both : (first second : Form) → HasAtomsIn allowed first → HasAtomsIn allowed second → HasAtomsIn allowed (form.And (first ∷ second ∷ []))
+  atoms_both first second one other = has_atoms-And allowed (first ∷ second ∷ []) ∙ (λ i. one i && (other i && true))
+
+  atoms_doubled : (body : Form) (weight : ℕ) → HasAtomsIn allowed body → (copies : List StepCopy) → All IsIn copies → All IsIn (doubled body weight copies)
+  atoms_doubled body weight within =
+      all_doubled IsIn IsIn body weight (λ copy known. atoms_both copy.pre body known within) (λ copy known. atoms_both copy.pre (form.Not body) known (has_atoms-Not allowed body ∙ within))
+
+  atoms_split_by : (by_name : List ℕ) (copies : List StepCopy) (pref : GroundPref) → HasAtomsIn allowed pref.body → All IsIn copies → All IsIn (split_by by_name copies pref)
+  atoms_split_by by_name copies pref within all = by (nat_lt 0 (weight_of by_name pref))
+    where
+      by : (has : Bool) → All IsIn (if has then doubled pref.body (weight_of by_name pref) copies else copies)
+      by true = atoms_doubled pref.body (weight_of by_name pref) within copies all
+      by false = all
+
+  pub atoms_split_all : (by_name : List ℕ) (prefs : List GroundPref) (copies : List StepCopy) → All (λ (pref : GroundPref). HasAtomsIn allowed pref.body) prefs → All IsIn copies → All IsIn (split_all by_name prefs copies)
+  atoms_split_all by_name [] copies within all = all
+  atoms_split_all by_name (pref ∷ prefs) copies within all =
+      atoms_split_all by_name prefs (split_by by_name copies pref) (All-tail (λ (pref : GroundPref). HasAtomsIn allowed pref.body) pref prefs within)
+      (atoms_split_by by_name copies pref (All-head (λ (pref : GroundPref). HasAtomsIn allowed pref.body) pref prefs within) all)
 
 -- ---- which copies fit
 
@@ -169,3 +201,7 @@ module _ (weights : Weights) (step : GroundStep) where
 
   pub no_copy : (state : State) → truth state step.pre ≡ false → fitting state (split_all weights.by_name step.prefs (first_copy weights step ∷ [])) ≡ []
   no_copy state fails = none_fits state weights.by_name step.prefs (first_copy weights step ∷ []) (first_fits state false fails)
+
+  pub in_atoms : (allowed : ℕ → Bool) → HasPartsIn allowed step → All (λ (copy : StepCopy). HasAtomsIn allowed copy.pre) (split_all weights.by_name step.prefs (first_copy weights step ∷ []))
+  in_atoms allowed within = atoms_split_all allowed weights.by_name step.prefs (first_copy weights step ∷ []) within.bodies
+      (All-cons (λ (copy : StepCopy). HasAtomsIn allowed copy.pre) (first_copy weights step) [] within.pre (All-nil (λ (copy : StepCopy). HasAtomsIn allowed copy.pre)))

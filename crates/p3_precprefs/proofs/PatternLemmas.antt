@@ -67,7 +67,7 @@ pub apart_patterns : (count : ℕ) → AreApart (patterns count)
 apart_patterns zero = (All-nil (λ other. [] ≢ other), tt)
 apart_patterns (suc count) = apart_both_ways (patterns count) (apart_patterns count)
 
--- ---- and have one entry for each step
+-- ---- and are equally long
 
 long_both_ways : (count : ℕ) (lists : List (List Bool)) → All (λ list. length list ≡ count) lists → All (λ list. length list ≡ suc count) (flat_map both_ways lists)
 long_both_ways count [] long = All-nil (λ list. length list ≡ suc count)

@@ -1,7 +1,7 @@
 -- The copies of a step, one for each choice of its weighted preferences that are violated.
-use Rattle.std.specs.Prelude.{◌≡◌, ◌≢◌, ℕ, zero, suc, ◌+◌, ◌*◌, ◌<◌, nat_lt, Bool, true, false, not, List, [], ◌∷◌, ◌++◌, map, sum_by, slice_index_or, unwrap_or, if◌then◌else◌, Option, Some, None}
+use Rattle.std.specs.Prelude.{◌≡◌, ◌≢◌, ℕ, zero, suc, ◌+◌, ◌*◌, ◌<◌, nat_lt, Bool, true, false, not, List, [], ◌∷◌, ◌++◌, map, sum_by, slice_index_or, unwrap_or, if◌then◌else◌, Option, Some, None, IsTrue}
 use Rattle.std.specs.List.{All, filter, flat_map}
-use Rattle.p3_formula.specs.Forms.{State, truth}
+use Rattle.p3_formula.specs.Forms.{State, truth, has_atoms}
 use Rattle.p3_formula.specs.declared.form.Form.{Form}
 use Rattle.p3_formula.specs.declared.form.Form.TheVariants as form
 use Rattle.p3_formula.specs.declared.modal.GroundPref.{GroundPref}
@@ -69,6 +69,14 @@ AreApart (one ∷ others) = All (λ other. one ≢ other) others × AreApart oth
 
 abbrev pub violated_lists : List StepCopy → List (List Bool)
 violated_lists copies = map (λ (copy : StepCopy). copy.violated) copies
+
+-- the atoms of a form, and those of a step's precondition and preferences, are some of those
+abbrev pub HasAtomsIn : (ℕ → Bool) → Form → Type 0
+HasAtomsIn allowed form = IsTrue (has_atoms allowed form)
+
+pub record HasPartsIn (allowed : ℕ → Bool) (step : GroundStep) : Type 0 where
+  pub pre : HasAtomsIn allowed step.pre
+  pub bodies : All (λ (pref : GroundPref). HasAtomsIn allowed pref.body) step.prefs
 
 -- ---- how they are made
 

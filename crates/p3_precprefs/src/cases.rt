@@ -60,7 +60,10 @@ fn two_of_three_preferences_split(rt: HostRuntime) -> Result<(), Fail> {
     let costs: [u64; 4] = [6, 13, 11, 18];
     for (copy, cost) in copies.items().iter().zip(costs) {
         assert_eq!(rt; copy.cost, cost);
-        assert_eq!(rt; copy.violated.len(), 2);
+    }
+    let patterns = [[false, false], [false, true], [true, false], [true, true]];
+    for (copy, pattern) in copies.items().iter().zip(patterns) {
+        assert!(rt; copy.violated.items() == pattern.as_slice());
     }
     Ok(())
 }

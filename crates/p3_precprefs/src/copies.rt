@@ -1,6 +1,6 @@
 //! A step split by its preferences.
 
-ghost use Rattle.std.specs.Prelude.{◌≡◌, ◌≤◌, ◌<◌, ◌+◌, ◌*◌, ◌^◌, ℕ, true, false, [], ◌∷◌, ◌++◌, length, sum_by, unwrap_or, IfOk, IsSome};
+ghost use Rattle.std.specs.Prelude.{◌≡◌, ◌≤◌, ◌<◌, ◌+◌, ◌*◌, ◌^◌, ℕ, Bool, true, false, [], ◌∷◌, ◌++◌, length, sum_by, unwrap_or, IfOk, IsSome};
 ghost use Rattle.std.specs.List.{All};
 ghost use Rattle.p3_formula.specs.Forms.{State, truth};
 ghost use Rattle.p3_precprefs.specs.Copies as made;
@@ -39,6 +39,8 @@ pub fn split(
     // No two copies show the same, and each has an entry for each weighted preference.
     ensures apart { IfOk result (λ copies. made.AreApart (made.violated_lists copies)) }
     ensures entries { IfOk result (λ copies. All (λ (copy : StepCopy). length copy.violated ≡ length (made.weighted weights.now.by_name step.now.prefs)) copies) }
+    // They read no atoms but those of the step.
+    ensures atoms { IfOk result (λ copies. (allowed : ℕ → Bool) → made.HasPartsIn allowed step.now → All (λ (copy : StepCopy). made.HasAtomsIn allowed copy.pre) copies) }
 {
     split_all(alloc, step, weights)
 }
