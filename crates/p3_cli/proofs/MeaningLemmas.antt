@@ -22,9 +22,7 @@ use Rattle.p3_tree.specs.declared.task.Action.{Action}
 use Rattle.p3_tree.specs.declared.task.Step.{Step}
 use Rattle.p3_tree.specs.declared.task.Task.{Task}
 use Rattle.p3_syntax.proofs.GrammarLemmas.{task_text}
-use Rattle.p3_compile.specs.Written.{written_of}
 use Rattle.p3_cli.specs.Ending.{status_of}
-use Rattle.p3_cli.specs.Layout.{domain_layout, problem_layout}
 use Rattle.p3_cli.specs.Meaning.{HoldsTask, direction_name, task_report, IsCompiled, IsDone}
 use Rattle.p3_cli.specs.Product.{Produces}
 use Rattle.p3_cli.specs.Request.{Request, Compile, Input, Output, inputs, outputs, is_file_word, are_compile_words, request_of}
@@ -35,9 +33,7 @@ use Rattle.p3_cli.specs.declared.ending.Ending.{Ending}
 use Rattle.p3_cli.specs.declared.ending.Ending.TheVariants as ending
 use Rattle.p3_cli.proofs.AcceptedLemmas.{tiny_well_formed}
 use Rattle.p3_cli.proofs.RunLemmas.{kept_status}
-use Rattle.p3_cli.specs.WrittenText.{HasFaithfulText}
 use Rattle.p3_cli.proofs.SpelledLemmas.{spelled_task}
-use Rattle.p3_cli.proofs.Texts.Written.{written_faithful_text}
 
 -- ---- what the names hold
 
@@ -149,16 +145,15 @@ compiled : (domain problem od op d p odt opt report : List ℕ) (store : Store) 
     → IsTranslation d p odt opt report → (status ≡ 0 → after ≡ with_put report before) → IsCompiled domain problem od op store (insert (insert store od odt) op opt) before after status
 compiled domain problem od op d p odt opt report store before after status apart first second (task, spelled, made) put =
     let tiny : IsTinyTask task = spelled_task d p task spelled in
-    let text : HasFaithfulText odt opt task = written_faithful_text task (written_of task) odt opt tiny refl made.faithful made.domain made.problem in
     let both : (bytes_under (insert (insert store od odt) op opt) od ≡ Some odt) × (bytes_under (insert (insert store od odt) op opt) op ≡ Some opt) = both_written store od op odt opt apart in
     record {
       task = task;
-      written = text.0;
+      written = made.text.0;
       read = holds_task store domain problem d p task first second (task_text d p task spelled.domain spelled.problem);
       tiny = tiny;
       well_formed = tiny_well_formed task tiny;
-      holds = holds_task (insert (insert store od odt) op opt) od op odt opt text.0 both.0 both.1 text.1;
-      faithful = text.2;
+      holds = holds_task (insert (insert store od odt) op opt) od op odt opt made.text.0 both.0 both.1 made.text.1;
+      faithful = made.text.2;
       reported = λ done. put done ∙ ap (λ lines. with_put lines before) (made.told ∙ report_is task tiny);
     }
 

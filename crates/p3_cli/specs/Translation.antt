@@ -12,6 +12,7 @@ use Rattle.p3_syntax.specs.Texts.{domain_of_text, problem_of_text, malformed}
 use Rattle.p3_compile.specs.Written.{written_of}
 use Rattle.p3_cli.specs.Layout.{domain_layout, problem_layout}
 use Rattle.p3_cli.specs.Refusal.{refusal_line}
+use Rattle.p3_cli.specs.WrittenText.{HasFaithfulText}
 use Rattle.p3_cli.specs.declared.ending.Ending.{Ending}
 use Rattle.p3_cli.specs.declared.ending.Ending.TheVariants.{Refused}
 
@@ -46,11 +47,12 @@ pub record IsSpelled (d p : List ℕ) (task : Task) : Type 0 where
 abbrev pub report_text : ℕ → List ℕ
 report_text count = codes "steps " ++ (decimal count ++ codes "\npreferences 1\nbase 0\ndirection minimize\n")
 
--- the texts and the report that are made of a task: those of a faithful translation, whose cheapest plans lift to best plans
+-- the texts and the report that are made of a task: the grammar reads the texts as a faithful translation, whose cheapest plans lift to best plans
 pub record IsWritten (task : Task) (od op report : List ℕ) : Type 0 where
   pub domain : od ≡ domain_layout (written_of task).domain
   pub problem : op ≡ problem_layout (written_of task).problem
   pub faithful : Faithful task (written_of task)
+  pub text : HasFaithfulText od op task
   pub told : report ≡ report_text (length task.domain.actions)
 
 -- the texts od and op are what is written for the task that d and p spell
