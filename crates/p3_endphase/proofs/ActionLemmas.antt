@@ -1,6 +1,5 @@
 -- Actions that move the set atom on, as they are made.
 use Rattle.std.proofs.Common.{◌≡◌, ◌∙◌, ℕ, ◌+◌, ◌%◌, ◌<◌, ◌^◌, Bool, true, false, ◌&&◌, List, [], ◌∷◌, ◌++◌, length, take, get_or, refl, sym, ap, subst, arith}
-use Rattle.std.specs.Prelude.{IfOk, Result, Ok, Err}
 use Rattle.std.specs.Char.{to_ascii_lowercase}
 use Rattle.std.specs.Str.{str_to_ascii_lowercase}
 use Rattle.std.specs.Fmt.{decimal}
@@ -58,10 +57,6 @@ lowered_collect n fits = ap (λ digits. 99 ∷ 111 ∷ 108 ∷ 108 ∷ 101 ∷ 9
 
 pub lowered_forgo : (n : ℕ) → n < 2 ^ 64 → str_to_ascii_lowercase (forgo_name n) ≡ forgo_name n
 lowered_forgo n fits = ap (λ digits. 102 ∷ 111 ∷ 114 ∷ 103 ∷ 111 ∷ digits) (lowered_decimal n fits)
-
-pub if_ok_then : {A E : Type 0} {P Q : A → Type 0} (r : Result A E) → ((x : A) → P x → Q x) → IfOk r P → IfOk r Q
-if_ok_then (Ok x) f p = f x p
-if_ok_then (Err e) f p = p
 
 -- ---- two more actions
 

@@ -8,15 +8,12 @@ use Rattle.p3_formula.specs.Next.{after}
 use Rattle.p3_formula.specs.declared.form.Form.{Form}
 use Rattle.p3_formula.specs.declared.form.Form.TheVariants as form
 use Rattle.p3_formula.specs.declared.target.TargetAction.{TargetAction}
+use Rattle.p3_formula.proofs.AtomLaws.{left, right}
 use Rattle.p3_formula.proofs.FormLemmas.{truth-Atom}
 use Rattle.p3_endphase.specs.declared.phase.EndPhase.{EndPhase}
 use Rattle.p3_endphase.specs.declared.phase.SoftEnd.{SoftEnd}
 use Rattle.p3_endphase.specs.Ends.{AreBelow, moving, IsMove, IsSettled, Settles, AreActions, IsEndPhase, IsSingleAt, Ends, weight_in, violation, HasOneEnd}
 use Rattle.p3_endphase.proofs.MoveLemmas.{moved, moved_single, moved_violation}
-
-both : (a b : Bool) → (a && b) ≡ true → (a ≡ true) × (b ≡ true)
-both true b e = (refl, e)
-both false b e = absurd (cc)
 
 -- ---- members of lists
 
@@ -40,7 +37,8 @@ module _ (first count : ℕ) where
   pub fits_here : (place at : ℕ) (condition : State → Bool) (name : List ℕ) (cost : ℕ) (a : TargetAction) (state : State)
       → IsMove (first + at) condition name cost a → at < count → IsSingleAt first count place state → truth state a.pre ≡ true → (at ≡ place) × (condition state ≡ true)
   fits_here place at condition name cost a state move below single fits =
-      let parts : (is_set state (first + at) ≡ true) × (condition state ≡ true) = both (is_set state (first + at)) (condition state) (sym (move.fits state) ∙ fits) in
+      let holds : (is_set state (first + at) && condition state) ≡ true = sym (move.fits state) ∙ fits in
+      let parts : (is_set state (first + at) ≡ true) × (condition state ≡ true) = (left (is_set state (first + at)) (condition state) holds, right (is_set state (first + at)) (condition state) holds) in
       (by (at == place) refl parts.0, parts.1)
     where
       by : (same : Bool) → (at == place) ≡ same → is_set state (first + at) ≡ true → at ≡ place

@@ -107,11 +107,11 @@ document_read (list text fits inside rest) at others e =
     ∙ ap (λ tokens. onto (tokens ++ behind) later) (sym (group_spelling at (expression.Word (at + 1) text ∷ placed start inside)))
 
 -- a document of one expression is a text of it
-pub document_balanced : (document : Document) (e : Expression) → placed 0 document ≡ e ∷ [] → IsBalanced (bytes document []) e
+pub document_balanced : (whole : Document) (e : Expression) → placed 0 whole ≡ e ∷ [] → IsBalanced (bytes whole []) e
 unfolding tokens_from
-document_balanced document e one =
-    let nothing : Tokens = kept_all (tokens_from false (beyond 0 document) []) in
-    let read = document_read document 0 [] refl ∙ ap (λ parts. onto (flat_map spelling parts) nothing) one in
+document_balanced whole e one =
+    let nothing : Tokens = kept_all (tokens_from false (beyond 0 whole) []) in
+    let read = document_read whole 0 [] refl ∙ ap (λ parts. onto (flat_map spelling parts) nothing) one in
     record {
       known = ap (λ found. found.foreign) read;
       spelled = ap (λ found. found.tokens) read ∙ append-nil _ ∙ append-nil _;

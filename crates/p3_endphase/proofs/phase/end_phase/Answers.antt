@@ -1,15 +1,15 @@
-use Rattle.p3_endphase.proofs.ActionLemmas.{if_ok_then}
+use Rattle.std.proofs.lemmas.Result.{IfOk-weaker}
 use Rattle.p3_endphase.proofs.EndLemmas as ends
 use Rattle.p3_endphase.proofs.phase.end_phase.Goals as goal
 
 pub returns-clause-one_end : goal.returns-clause-one_end
-returns-clause-one_end c = if_ok_then c.made.result (λ phase shape. ends.one_end c.args.finish.now c.args.instances.now c.args.first_atom phase shape c.requires.accept) c.made.ensures
+returns-clause-one_end c = IfOk-weaker c.made.result _ _ (λ phase shape. ends.one_end c.args.finish.now c.args.instances.now c.args.first_atom phase shape c.requires.accept) c.made.ensures
 
 pub returns-clause-no_end : goal.returns-clause-no_end
-returns-clause-no_end c = if_ok_then c.made.result (λ phase shape. ends.no_end c.args.finish.now c.args.instances.now c.args.first_atom phase shape) c.made.ensures
+returns-clause-no_end c = IfOk-weaker c.made.result _ _ (λ phase shape. ends.no_end c.args.finish.now c.args.instances.now c.args.first_atom phase shape) c.made.ensures
 
 pub returns-clause-one_fits : goal.returns-clause-one_fits
-returns-clause-one_fits c = if_ok_then c.made.result (λ phase shape state place single. ends.one_fits c.args.finish.now c.args.instances.now c.args.first_atom phase shape place state single) c.made.ensures
+returns-clause-one_fits c = IfOk-weaker c.made.result _ _ (λ phase shape state place single. ends.one_fits c.args.finish.now c.args.instances.now c.args.first_atom phase shape place state single) c.made.ensures
 
 pub returns-clause-moves_on : goal.returns-clause-moves_on
-returns-clause-moves_on c = if_ok_then c.made.result (λ phase shape state place single. ends.moves_on c.args.finish.now c.args.instances.now c.args.first_atom phase shape place state single) c.made.ensures
+returns-clause-moves_on c = IfOk-weaker c.made.result _ _ (λ phase shape state place single. ends.moves_on c.args.finish.now c.args.instances.now c.args.first_atom phase shape place state single) c.made.ensures
