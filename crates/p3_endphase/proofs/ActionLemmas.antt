@@ -1,11 +1,8 @@
 -- Actions that move the set atom on, as they are made.
-use Rattle.std.proofs.Common.{◌≡◌, ◌∙◌, ℕ, ◌+◌, ◌%◌, ◌<◌, ◌^◌, Bool, true, false, ◌&&◌, List, [], ◌∷◌, ◌++◌, length, take, get_or, refl, sym, ap, subst, arith}
-use Rattle.std.specs.Char.{to_ascii_lowercase}
+use Rattle.std.proofs.Common.{◌≡◌, ◌∙◌, ℕ, ◌+◌, ◌<◌, ◌^◌, Bool, true, false, ◌&&◌, List, [], ◌∷◌, ◌++◌, length, take, get_or, refl, sym, ap, subst, arith}
 use Rattle.std.specs.Str.{str_to_ascii_lowercase}
-use Rattle.std.specs.Fmt.{decimal}
-use Rattle.std.proofs.lemmas.Fmt.{decimal_by_steps}
-use Rattle.std.proofs.lemmas.Bool.Decides.{nat_tests}
-use Rattle.std.proofs.lemmas.List.{map-append, take_more, length-take-le}
+use Rattle.std.proofs.lemmas.List.{take_more, length-take-le}
+use Rattle.p3_base.proofs.NameLemmas.{lowered_decimal}
 use Rattle.p3_formula.specs.Forms.{State, is_set, truth}
 use Rattle.p3_formula.specs.declared.form.Change.{Change}
 use Rattle.p3_formula.specs.declared.form.Form.{Form}
@@ -39,18 +36,6 @@ with_condition atom cost name other condition new action same holds move = recor
 }
 
 -- ---- names with numbers have no upper case letters
-
-lowered_digit : (n : ℕ) → n < 10 → to_ascii_lowercase (48 + n) ≡ 48 + n
-lowered_digit n small = grind (arith, nat_tests)
-
-lowered_decimal : (n : ℕ) → n < 2 ^ 64 → str_to_ascii_lowercase (decimal n) ≡ decimal n
-lowered_decimal n fits =
-    decimal_by_steps (λ n digits. str_to_ascii_lowercase digits ≡ digits)
-    (λ n small. ap (λ b. b ∷ []) (lowered_digit n small))
-    (λ n digits large same. map-append to_ascii_lowercase digits ((48 + n % 10) ∷ [])
-    ∙ ap (λ front. front ++ to_ascii_lowercase (48 + n % 10) ∷ []) same
-    ∙ ap (λ b. digits ++ b ∷ []) (lowered_digit (n % 10) (omega arith)))
-    n fits
 
 pub lowered_collect : (n : ℕ) → n < 2 ^ 64 → str_to_ascii_lowercase (collect_name n) ≡ collect_name n
 lowered_collect n fits = ap (λ digits. 99 ∷ 111 ∷ 108 ∷ 108 ∷ 101 ∷ 99 ∷ 116 ∷ digits) (lowered_decimal n fits)
