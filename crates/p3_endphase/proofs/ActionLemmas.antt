@@ -1,6 +1,7 @@
 -- Actions that move the set atom on, as they are made.
-use Rattle.std.proofs.Common.{◌≡◌, ◌∙◌, ℕ, ◌+◌, ◌<◌, ◌^◌, Bool, true, false, ◌&&◌, List, [], ◌∷◌, ◌++◌, length, take, get_or, refl, sym, ap, subst, arith}
+use Rattle.std.proofs.Common.{◌≡◌, ◌∙◌, ℕ, ◌+◌, ◌<◌, ◌^◌, Bool, true, ◌&&◌, List, [], ◌∷◌, ◌++◌, length, take, get_or, refl, sym, ap, subst, arith}
 use Rattle.std.specs.Str.{str_to_ascii_lowercase}
+use Rattle.std.proofs.Math.Bool.{and-true}
 use Rattle.std.proofs.lemmas.List.{take_more, length-take-le}
 use Rattle.p3_base.proofs.NameLemmas.{lowered_decimal}
 use Rattle.p3_formula.specs.Forms.{State, is_set, truth}
@@ -12,16 +13,12 @@ use Rattle.p3_formula.proofs.FormLemmas.{truth-And, truth-Atom}
 use Rattle.p3_endphase.specs.declared.phase.SoftEnd.{SoftEnd}
 use Rattle.p3_endphase.specs.Ends.{collect_name, forgo_name, moving, IsMove, IsSettled, Settles, AreActions}
 
-and_true : (a b : Bool) → (a && (b && true)) ≡ (a && b)
-and_true a true = refl
-and_true a false = refl
-
 -- the atom and the condition, one after the other
 pub made : (atom : ℕ) (condition pre : Form) (name : List ℕ) (cost : ℕ) (effects : List Change) → pre ≡ form.And (form.Atom atom ∷ condition ∷ []) → effects ≡ moving atom
     → IsMove atom (λ state. truth state condition) name cost (record { name = name; pre = pre; effects = effects; cost = cost })
 made atom condition pre name cost effects is changes = record {
   is_named = refl;
-  fits = λ state. ap (truth state) is ∙ truth-And state (form.Atom atom ∷ condition ∷ []) ∙ (λ i. truth-Atom state atom i && (truth state condition && true)) ∙ and_true (is_set state atom) (truth state condition);
+  fits = λ state. ap (truth state) is ∙ truth-And state (form.Atom atom ∷ condition ∷ []) ∙ (λ i. truth-Atom state atom i && (truth state condition && true)) ∙ ap (λ b. is_set state atom && b) (and-true (truth state condition));
   moves = changes;
   costs = refl;
 }

@@ -1,6 +1,7 @@
 -- One list of actions ends, from each state where just one of the phase's atoms is set.
 use Rattle.std.proofs.Common.{◌≡◌, ◌∙◌, ◌≢◌, ◌⊎◌, inl, inr, ℕ, zero, suc, ◌+◌, ◌<◌, Bool, true, false, not, ◌&&◌, cond, List, [], ◌∷◌, length, sum_by, refl, sym, ap, subst, arith, true≢false}
 use Rattle.std.specs.Prelude.{◌==◌, codes, Contains}
+use Rattle.std.proofs.lemmas.Bool.{and_parts}
 use Rattle.std.proofs.lemmas.Bool.Decides.{nat_tests}
 use Rattle.std.proofs.lemmas.List.Sums.{sum_by-cons}
 use Rattle.p3_formula.specs.Forms.{State, is_set, truth}
@@ -8,7 +9,6 @@ use Rattle.p3_formula.specs.Next.{after}
 use Rattle.p3_formula.specs.declared.form.Form.{Form}
 use Rattle.p3_formula.specs.declared.form.Form.TheVariants as form
 use Rattle.p3_formula.specs.declared.target.TargetAction.{TargetAction}
-use Rattle.p3_formula.proofs.AtomLaws.{left, right}
 use Rattle.p3_formula.proofs.FormLemmas.{truth-Atom}
 use Rattle.p3_endphase.specs.declared.phase.EndPhase.{EndPhase}
 use Rattle.p3_endphase.specs.declared.phase.SoftEnd.{SoftEnd}
@@ -38,7 +38,7 @@ module _ (first count : ℕ) where
       → IsMove (first + at) condition name cost a → at < count → IsSingleAt first count place state → truth state a.pre ≡ true → (at ≡ place) × (condition state ≡ true)
   fits_here place at condition name cost a state move below single fits =
       let holds : (is_set state (first + at) && condition state) ≡ true = sym (move.fits state) ∙ fits in
-      let parts : (is_set state (first + at) ≡ true) × (condition state ≡ true) = (left (is_set state (first + at)) (condition state) holds, right (is_set state (first + at)) (condition state) holds) in
+      let parts : (is_set state (first + at) ≡ true) × (condition state ≡ true) = and_parts (is_set state (first + at)) (condition state) holds in
       (by (at == place) refl parts.0, parts.1)
     where
       by : (same : Bool) → (at == place) ≡ same → is_set state (first + at) ≡ true → at ≡ place

@@ -1,6 +1,8 @@
 -- Atoms and size of negated and simplified forms.
-use Rattle.std.proofs.Common.{◌≡◌, ◌∙◌, ℕ, ◌+◌, ◌≤◌, Bool, true, false, ◌&&◌, List, [], ◌∷◌, ◌++◌, sum, sum_by, refl, sym, ap, append_assoc, arith}
+use Rattle.std.proofs.Common.{◌≡◌, ◌∙◌, ℕ, ◌+◌, ◌≤◌, Bool, true, false, List, [], ◌∷◌, ◌++◌, sum, sum_by, refl, sym, ap, append_assoc, arith}
 use Rattle.std.specs.List.{list_all}
+use Rattle.std.proofs.Math.Bool.{and-true}
+use Rattle.std.proofs.lemmas.Bool.{and_parts, and_from}
 use Rattle.std.proofs.lemmas.List.{append-nil}
 use Rattle.std.proofs.lemmas.List.Sums.{sum_by-cons, sum_by_push}
 use mathlib.Core.Former.{Count}
@@ -10,18 +12,7 @@ use Rattle.p3_formula.specs.Simplified.{negated, joined, junction, simplified, s
 use Rattle.p3_formula.specs.declared.form.Form.{Form, Row_of-Form, end_of-Form, more_of-Form}
 use Rattle.p3_formula.specs.declared.form.Form.TheVariants.{True, False, Atom, Not', And', Or'}
 use Rattle.p3_formula.proofs.FormLemmas.{has_atoms-Not, has_atoms-And, has_atoms-Or, nodes-Not, nodes-And, nodes-Or}
-use Rattle.p3_formula.proofs.TruthLaws.{and-true, all-skip}
-
-pub left : (a b : Bool) → (a && b) ≡ true → a ≡ true
-left true b h = refl
-left false b h = h
-
-pub right : (a b : Bool) → (a && b) ≡ true → b ≡ true
-right true b h = h
-right false b h = cc
-
-pub both : (a b : Bool) → a ≡ true → b ≡ true → (a && b) ≡ true
-both a b h k = ap (λ x. x && b) h ∙ k
+use Rattle.p3_formula.proofs.TruthLaws.{all-skip}
 
 module _ (allowed : ℕ → Bool) where
   pub negated_atoms : (form : Form) → has_atoms allowed (negated form) ≡ has_atoms allowed form
@@ -37,7 +28,7 @@ module _ (allowed : ℕ → Bool) where
   unfolding has_atoms
   joined_atoms true [] = refl
   joined_atoms false [] = refl
-  joined_atoms every (part ∷ []) = and-true (has_atoms allowed part)
+  joined_atoms every (part ∷ []) = sym (and-true (has_atoms allowed part))
   joined_atoms true (part ∷ other ∷ parts) = has_atoms-And allowed (part ∷ other ∷ parts)
   joined_atoms false (part ∷ other ∷ parts) = has_atoms-Or allowed (part ∷ other ∷ parts)
 
@@ -72,9 +63,9 @@ module _ (allowed : ℕ → Bool) where
     all_atoms : {n : Count} (parts : Row_of-Form n) → list_all (λ part. part) (fold_forms (within_layer allowed) parts) ≡ true → list_all (has_atoms allowed) (fold_forms simplified_layer parts) ≡ true
     all_atoms end_of-Form h = refl
     all_atoms (more_of-Form part rest) h =
-        both (has_atoms allowed (simplified part)) _
-        (simplified_atoms part (left (has_atoms allowed part) _ h))
-        (all_atoms rest (right (has_atoms allowed part) _ h))
+        and_from (has_atoms allowed (simplified part)) _
+        (simplified_atoms part (and_parts (has_atoms allowed part) _ h).0)
+        (all_atoms rest (and_parts (has_atoms allowed part) _ h).1)
 
 pub negated_nodes : (form : Form) → nodes (negated form) ≤ 1 + nodes form
 unfolding nodes

@@ -2,6 +2,8 @@
 use Rattle.std.proofs.Common.{◌≡◌, ◌∙◌, ℕ, ◌<◌, ◌≤◌, nat_lt, ◌==◌, Bool, true, false, not, ◌&&◌, ◌||◌, List, [], ◌∷◌, ◌++◌, map, length, refl, sym, ap, arith}
 use Rattle.std.specs.List.{list_any, list_all, range_with_len}
 use Rattle.std.specs.List.Sorted.{IsPermutation}
+use Rattle.std.proofs.Math.Bool.{and-true, or-false}
+use Rattle.std.proofs.lemmas.Bool.{and_parts, not-true}
 use Rattle.std.proofs.lemmas.Bool.Decides.{nat_tests}
 use Rattle.std.proofs.lemmas.List.Folds.{list_any-append}
 use Rattle.std.proofs.lemmas.List.Sorted.{list_any-IsPermutation}
@@ -14,8 +16,6 @@ use Rattle.p3_formula.specs.Next.{is_added, is_deleted, is_set_after, after}
 use Rattle.p3_formula.specs.declared.form.Change.{Change}
 use Rattle.p3_formula.specs.declared.form.Form.{Form, Row_of-Form, end_of-Form, more_of-Form}
 use Rattle.p3_formula.specs.declared.form.Form.TheVariants.{True, False, Atom, Not', And', Or'}
-use Rattle.p3_formula.proofs.AtomLaws.{left, right}
-use Rattle.p3_formula.proofs.TruthLaws.{and-true}
 
 -- what is none of those is none of the same under one more condition, and under two
 none_here : (a b c x y : Bool) → (a || x) ≡ false → (x ≡ false → y ≡ false) → (a && b && c || y) ≡ false
@@ -27,10 +27,6 @@ none_of : (atom : ℕ) (first second : Change → Bool) (effects : List Change)
     → list_any (λ change. (change.atom == atom) && first change && second change) effects ≡ false
 none_of atom first second [] h = refl
 none_of atom first second (change ∷ rest) h = none_here (change.atom == atom) (first change) (second change) _ _ h (none_of atom first second rest)
-
-or-false : (b : Bool) → b ≡ (b || false)
-or-false true = refl
-or-false false = refl
 
 module _ (state : State) (effects : List Change) where
   pub length-after : length (after state effects) ≡ length state
@@ -54,7 +50,7 @@ module _ (state : State) (effects : List Change) where
         is_set-after atom (grind (arith, nat_tests))
         ∙ ap (λ b. b || is_set state atom && not (is_deleted state effects atom)) (none_of atom (λ change. change.add) (λ change. truth state change.cond) effects unchanged)
         ∙ ap (λ b. is_set state atom && not b) (none_of atom (λ change. not change.add) (λ change. truth state change.cond) effects unchanged)
-        ∙ sym (and-true (is_set state atom))
+        ∙ and-true (is_set state atom)
     by false beyond = is_set-beyond atom (grind (arith, nat_tests))
 
 -- of two lists of changes that are made at once, the one that does not name the atom does not matter
@@ -67,7 +63,7 @@ module _ (state : State) (front back : List Change) (atom : ℕ) where
       let no_delete = none_of atom (λ change. not change.add) (λ change. truth state change.cond) back none in
       (λ i. added i || is_set state atom && not (deleted i))
       ∙ (λ i. (is_added state front atom || no_add i) || is_set state atom && not (is_deleted state front atom || no_delete i))
-      ∙ sym (λ i. or-false (is_added state front atom) i || is_set state atom && not (or-false (is_deleted state front atom) i))
+      ∙ (λ i. or-false (is_added state front atom) i || is_set state atom && not (or-false (is_deleted state front atom) i))
 
   pub is_set_after-back : list_any (λ change. change.atom == atom) front ≡ false → is_set_after state (front ++ back) atom ≡ is_set_after state back atom
   is_set_after-back none =
@@ -102,13 +98,9 @@ module _ (first second : State) (allowed : ℕ → Bool) (agree : (atom : ℕ) �
     truths-agree : {n : Count} (parts : Row_of-Form n) → list_all (λ part. part) (fold_forms (within_layer allowed) parts) ≡ true → fold_forms (truth_layer first) parts ≡ fold_forms (truth_layer second) parts
     truths-agree end_of-Form h = refl
     truths-agree (more_of-Form part rest) h =
-        λ i. truth-agree part (left (has_atoms allowed part) _ h) i ∷ truths-agree rest (right (has_atoms allowed part) _ h) i
-
-not-false : (b : Bool) → not b ≡ true → b ≡ false
-not-false true h = sym h
-not-false false h = refl
+        λ i. truth-agree part (and_parts (has_atoms allowed part) _ h).0 i ∷ truths-agree rest (and_parts (has_atoms allowed part) _ h).1 i
 
 -- a form whose atoms no change names keeps its truth
 pub truth-unchanged : (state : State) (effects : List Change) (form : Form)
     → has_atoms (λ atom. not (list_any (λ change. change.atom == atom) effects)) form ≡ true → truth (after state effects) form ≡ truth state form
-truth-unchanged state effects = truth-agree (after state effects) state _ (λ atom h. is_set-unchanged state effects atom (not-false _ h))
+truth-unchanged state effects = truth-agree (after state effects) state _ (λ atom h. is_set-unchanged state effects atom (not-true _ h))

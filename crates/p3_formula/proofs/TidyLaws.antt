@@ -1,5 +1,7 @@
 -- Simplified forms are tidy.
 use Rattle.std.proofs.Common.{◌≡◌, ◌∙◌, ℕ, suc, Bool, true, false, not, ◌||◌, nat_le, List, [], ◌∷◌, ◌++◌, length, map, refl, ap, arith}
+use Rattle.std.proofs.Math.Bool.{or-true}
+use Rattle.std.proofs.lemmas.Bool.{and_parts, and_from}
 use Rattle.std.proofs.lemmas.Bool.Decides.{nat_tests}
 use Rattle.std.specs.List.{list_all}
 use Rattle.std.proofs.lemmas.List.Folds.{list_all-map, list_all-append}
@@ -12,7 +14,6 @@ use Rattle.p3_formula.specs.declared.form.Form.{Form, Row_of-Form, end_of-Form, 
 use Rattle.p3_formula.specs.declared.form.Form.TheBlock.{hidden-the_row-Form-0}
 use Rattle.p3_formula.specs.declared.form.Form.TheVariants.{True, False, Atom, Not, And, Or, Not', And', Or'}
 use Rattle.p3_formula.proofs.FormLemmas.{fold_parts}
-use Rattle.p3_formula.proofs.AtomLaws.{left, right, both}
 
 look-And : (parts : List Form) → look (And parts) ≡ joined_look (map look parts)
 unfolding look
@@ -21,10 +22,6 @@ look-And parts = ap joined_look (fold_parts look_layer parts)
 look-Or : (parts : List Form) → look (Or parts) ≡ joined_look (map look parts)
 unfolding look
 look-Or parts = ap joined_look (fold_parts look_layer parts)
-
-or-true : (b : Bool) → (b || true) ≡ true
-or-true true = refl
-or-true false = refl
 
 two_or_more : (n : ℕ) → nat_le 2 (suc (suc n)) ≡ true
 two_or_more n = grind (arith, nat_tests)
@@ -36,30 +33,30 @@ as_part form h = ap (λ b. is_constant form || b) h ∙ or-true (is_constant for
 -- a form that is no negation may be negated
 negation : (form : Form) → is_tidy_part form ≡ true → (look form).negation ≡ false → is_tidy (Not form) ≡ true
 unfolding look hidden-the_row-Form-0 hidden
-negation form fits positive = both (look form).fits (not (look form).negation) fits (ap not positive)
+negation form fits positive = and_from (look form).fits (not (look form).negation) fits (ap not positive)
 
 negated_tidy : (form : Form) → is_tidy form ≡ true → is_tidy (negated form) ≡ true
 unfolding look
 negated_tidy True h = refl
 negated_tidy False h = refl
 negated_tidy (Atom atom) h = negation (Atom atom) h refl
-negated_tidy (Not' shape (more_of-Form part rest)) h = as_part part (left (look part).fits _ h)
+negated_tidy (Not' shape (more_of-Form part rest)) h = as_part part (and_parts (look part).fits _ h).0
 negated_tidy (And' shape parts) h = negation (And' shape parts) h refl
 negated_tidy (Or' shape parts) h = negation (Or' shape parts) h refl
 
 together_tidy : (parts : List Form) → nat_le 2 (length (map look parts)) ≡ true → list_all is_tidy_part parts ≡ true → (joined_look (map look parts)).fits ≡ true
-together_tidy parts many h = both (nat_le 2 (length (map look parts))) _ many (list_all-map (λ part. part.fits) look parts ∙ h)
+together_tidy parts many h = and_from (nat_le 2 (length (map look parts))) _ many (list_all-map (λ part. part.fits) look parts ∙ h)
 
 joined_tidy : (every : Bool) (parts : List Form) → list_all is_tidy_part parts ≡ true → is_tidy (joined every parts) ≡ true
 joined_tidy true [] h = refl
 joined_tidy false [] h = refl
-joined_tidy every (part ∷ []) h = as_part part (left (is_tidy_part part) _ h)
+joined_tidy every (part ∷ []) h = as_part part (and_parts (is_tidy_part part) _ h).0
 joined_tidy true (part ∷ other ∷ parts) h = as_part (And (part ∷ other ∷ parts)) (ap (λ l. l.fits) (look-And (part ∷ other ∷ parts)) ∙ together_tidy (part ∷ other ∷ parts) (two_or_more (length (map look parts))) h)
 joined_tidy false (part ∷ other ∷ parts) h = as_part (Or (part ∷ other ∷ parts)) (ap (λ l. l.fits) (look-Or (part ∷ other ∷ parts)) ∙ together_tidy (part ∷ other ∷ parts) (two_or_more (length (map look parts))) h)
 
 -- one more part is kept
 more : (kept : List Form) (part : Form) → list_all is_tidy_part kept ≡ true → is_tidy_part part ≡ true → list_all is_tidy_part (kept ++ part ∷ []) ≡ true
-more kept part h fits = list_all-append is_tidy_part kept (part ∷ []) ∙ both (list_all is_tidy_part kept) _ h (both (is_tidy_part part) true fits refl)
+more kept part h fits = list_all-append is_tidy_part kept (part ∷ []) ∙ and_from (list_all is_tidy_part kept) _ h (and_from (is_tidy_part part) true fits refl)
 
 junction_tidy : (every : Bool) (kept rest : List Form) → list_all is_tidy_part kept ≡ true → list_all is_tidy rest ≡ true → is_tidy (junction every kept rest) ≡ true
 junction_tidy every kept [] h k = joined_tidy every kept h
@@ -67,10 +64,10 @@ junction_tidy true kept (True ∷ rest) h k = junction_tidy true kept rest h k
 junction_tidy true kept (False ∷ rest) h k = refl
 junction_tidy false kept (True ∷ rest) h k = refl
 junction_tidy false kept (False ∷ rest) h k = junction_tidy false kept rest h k
-junction_tidy every kept (Atom atom ∷ rest) h k = junction_tidy every (kept ++ Atom atom ∷ []) rest (more kept (Atom atom) h (left (is_tidy_part (Atom atom)) _ k)) (right (is_tidy_part (Atom atom)) _ k)
-junction_tidy every kept (Not' shape part ∷ rest) h k = junction_tidy every (kept ++ Not' shape part ∷ []) rest (more kept (Not' shape part) h (left (is_tidy_part (Not' shape part)) _ k)) (right (is_tidy_part (Not' shape part)) _ k)
-junction_tidy every kept (And' shape parts ∷ rest) h k = junction_tidy every (kept ++ And' shape parts ∷ []) rest (more kept (And' shape parts) h (left (is_tidy_part (And' shape parts)) _ k)) (right (is_tidy_part (And' shape parts)) _ k)
-junction_tidy every kept (Or' shape parts ∷ rest) h k = junction_tidy every (kept ++ Or' shape parts ∷ []) rest (more kept (Or' shape parts) h (left (is_tidy_part (Or' shape parts)) _ k)) (right (is_tidy_part (Or' shape parts)) _ k)
+junction_tidy every kept (Atom atom ∷ rest) h k = junction_tidy every (kept ++ Atom atom ∷ []) rest (more kept (Atom atom) h (and_parts (is_tidy_part (Atom atom)) _ k).0) (and_parts (is_tidy_part (Atom atom)) _ k).1
+junction_tidy every kept (Not' shape part ∷ rest) h k = junction_tidy every (kept ++ Not' shape part ∷ []) rest (more kept (Not' shape part) h (and_parts (is_tidy_part (Not' shape part)) _ k).0) (and_parts (is_tidy_part (Not' shape part)) _ k).1
+junction_tidy every kept (And' shape parts ∷ rest) h k = junction_tidy every (kept ++ And' shape parts ∷ []) rest (more kept (And' shape parts) h (and_parts (is_tidy_part (And' shape parts)) _ k).0) (and_parts (is_tidy_part (And' shape parts)) _ k).1
+junction_tidy every kept (Or' shape parts ∷ rest) h k = junction_tidy every (kept ++ Or' shape parts ∷ []) rest (more kept (Or' shape parts) h (and_parts (is_tidy_part (Or' shape parts)) _ k).0) (and_parts (is_tidy_part (Or' shape parts)) _ k).1
 
 mutual
   unfolding simplified look
@@ -85,4 +82,4 @@ mutual
 
   all_tidy : {n : Count} (parts : Row_of-Form n) → list_all is_tidy (fold_forms simplified_layer parts) ≡ true
   all_tidy end_of-Form = refl
-  all_tidy (more_of-Form part rest) = both (is_tidy (simplified part)) _ (simplified_tidy part) (all_tidy rest)
+  all_tidy (more_of-Form part rest) = and_from (is_tidy (simplified part)) _ (simplified_tidy part) (all_tidy rest)

@@ -1,6 +1,7 @@
 -- Truth of negated and simplified forms.
 use Rattle.std.proofs.Common.{◌≡◌, ◌∙◌, Bool, true, false, not, ◌&&◌, ◌||◌, List, [], ◌∷◌, ◌++◌, map, refl, sym, ap, append_assoc}
 use Rattle.std.specs.List.{list_any, list_all}
+use Rattle.std.proofs.Math.Bool.{not-not, and-true, and-false, or-true, or-false}
 use Rattle.std.proofs.lemmas.List.{append-nil}
 use Rattle.std.proofs.lemmas.List.Folds.{list_all-map}
 use mathlib.Core.Former.{Count}
@@ -10,26 +11,6 @@ use Rattle.p3_formula.specs.Simplified.{negated, joined, junction, simplified, s
 use Rattle.p3_formula.specs.declared.form.Form.{Form, Row_of-Form, end_of-Form, more_of-Form}
 use Rattle.p3_formula.specs.declared.form.Form.TheVariants.{True, False, Atom, Not', And', Or'}
 use Rattle.p3_formula.proofs.FormLemmas.{truth-Not, truth-And, truth-Or, list_any-map}
-
-not-not : (b : Bool) → b ≡ not (not b)
-not-not true = refl
-not-not false = refl
-
-pub and-true : (b : Bool) → b ≡ (b && true)
-and-true true = refl
-and-true false = refl
-
-or-false : (b : Bool) → b ≡ (b || false)
-or-false true = refl
-or-false false = refl
-
-and-false : (b : Bool) → false ≡ (b && false)
-and-false true = refl
-and-false false = refl
-
-or-true : (b : Bool) → true ≡ (b || true)
-or-true true = refl
-or-true false = refl
 
 -- each passes, or else some
 abbrev pub among : {A : Type 0} → Bool → (A → Bool) → List A → Bool
@@ -47,11 +28,11 @@ module _ {A : Type 0} (test : A → Bool) (x : A) (rest : List A) where
 
   all-stop : (front : List A) → test x ≡ false → false ≡ list_all test (front ++ x ∷ rest)
   all-stop [] fails = sym (ap (λ b. b && list_all test rest) fails)
-  all-stop (y ∷ front) fails = and-false (test y) ∙ ap (λ b. test y && b) (all-stop front fails)
+  all-stop (y ∷ front) fails = sym (and-false (test y)) ∙ ap (λ b. test y && b) (all-stop front fails)
 
   any-stop : (front : List A) → test x ≡ true → true ≡ list_any test (front ++ x ∷ rest)
   any-stop [] passes = sym (ap (λ b. b || list_any test rest) passes)
-  any-stop (y ∷ front) passes = or-true (test y) ∙ ap (λ b. test y || b) (any-stop front passes)
+  any-stop (y ∷ front) passes = sym (or-true (test y)) ∙ ap (λ b. test y || b) (any-stop front passes)
 
 module _ (state : State) where
   pub negated_truth : (form : Form) → truth state (negated form) ≡ not (truth state form)
@@ -59,16 +40,16 @@ module _ (state : State) where
   negated_truth True = refl
   negated_truth False = refl
   negated_truth (Atom atom) = truth-Not state (Atom atom)
-  negated_truth (Not' shape (more_of-Form part rest)) = not-not (truth state part)
+  negated_truth (Not' shape (more_of-Form part rest)) = sym (not-not (truth state part))
   negated_truth (And' shape parts) = truth-Not state (And' shape parts)
   negated_truth (Or' shape parts) = truth-Not state (Or' shape parts)
 
-  joined_truth : (every : Bool) (parts : List Form) → truth state (joined every parts) ≡ among every (truth state) parts
+  pub joined_truth : (every : Bool) (parts : List Form) → truth state (joined every parts) ≡ among every (truth state) parts
   unfolding truth
   joined_truth true [] = refl
   joined_truth false [] = refl
-  joined_truth true (part ∷ []) = and-true (truth state part)
-  joined_truth false (part ∷ []) = or-false (truth state part)
+  joined_truth true (part ∷ []) = sym (and-true (truth state part))
+  joined_truth false (part ∷ []) = sym (or-false (truth state part))
   joined_truth true (part ∷ other ∷ parts) = truth-And state (part ∷ other ∷ parts)
   joined_truth false (part ∷ other ∷ parts) = truth-Or state (part ∷ other ∷ parts)
 

@@ -2,6 +2,7 @@
 use Rattle.std.proofs.Common.{◌≡◌, ◌∙◌, ℕ, ◌+◌, ◌<◌, nat_lt, Bool, true, false, not, ◌&&◌, cond, List, [], ◌∷◌, ◌++◌, length, map, take, get_or, sum_by, refl, sym, ap, subst, arith}
 use Rattle.std.specs.Prelude.{if◌then◌else◌}
 use Rattle.std.specs.List.{All}
+use Rattle.std.proofs.Math.Bool.{and-true}
 use Rattle.std.proofs.lemmas.List.{append-nil, append_assoc, take_more}
 use Rattle.std.proofs.lemmas.List.Elements.{All-nil, All-cons, All-head, All-tail, All-weaker}
 use Rattle.std.proofs.lemmas.List.Sums.{sum_by-cons, sum_by-take-le, sum_by_more_le}
@@ -99,10 +100,6 @@ module _ (allowed : ℕ → Bool) where
 
 -- ---- which copies fit
 
-and_true : (a b : Bool) → (a && (b && true)) ≡ (a && b)
-and_true a true = refl
-and_true a false = refl
-
 -- which of both copies fits, where the first one does
 abbrev chosen : Form → ℕ → Bool → StepCopy → StepCopy
 chosen body weight true copy = satisfied body copy
@@ -117,7 +114,7 @@ picked body weight false holds copy kept = refl
 
 module _ (state : State) where
   truth_both : (first second : Form) → truth state (form.And (first ∷ second ∷ [])) ≡ (truth state first && truth state second)
-  truth_both first second = truth-And state (first ∷ second ∷ []) ∙ and_true (truth state first) (truth state second)
+  truth_both first second = truth-And state (first ∷ second ∷ []) ∙ ap (λ b. truth state first && b) (and-true (truth state second))
 
   fitting_doubled : (body : Form) (weight : ℕ) (copies : List StepCopy) → fitting state (doubled body weight copies) ≡ map (chosen body weight (truth state body)) (fitting state copies)
   fitting_doubled body weight [] = refl

@@ -1,6 +1,8 @@
 -- What an atom is after changes.
 use Rattle.std.proofs.Common.{◌≡◌, ◌∙◌, ℕ, ◌+◌, ◌≤◌, ◌*◌, Bool, true, false, not, ◌&&◌, ◌||◌, if◌then◌else◌, List, [], ◌∷◌, ◌++◌, length, sum_by, refl, sym, ap, arith}
 use Rattle.std.specs.List.{list_any, list_all}
+use Rattle.std.proofs.Math.Bool.{and-true, and-false, or-true, or-false}
+use Rattle.std.proofs.lemmas.Bool.{and_from}
 use Rattle.std.proofs.lemmas.List.Folds.{list_any-append, list_all-append}
 use Rattle.std.proofs.lemmas.List.Sums.{sum_by-cons, sum_by-append}
 use Rattle.p3_formula.specs.Forms.{State, is_set, truth, has_atoms, nodes}
@@ -9,19 +11,10 @@ use Rattle.p3_formula.specs.Simplified.{joined, is_value}
 use Rattle.p3_formula.specs.declared.form.Change.{Change}
 use Rattle.p3_formula.specs.declared.form.Form.{Form}
 use Rattle.p3_formula.specs.declared.form.Form.TheVariants.{True, False, Atom, Not, Not', And', Or'}
-use Rattle.p3_formula.proofs.FormLemmas.{truth-Not, truth-And, truth-Or, has_atoms-Not, has_atoms-And, has_atoms-Or, nodes-Atom, nodes-Not, nodes-And, nodes-Or}
-use Rattle.p3_formula.proofs.AtomLaws.{both}
-use Rattle.p3_formula.proofs.TruthLaws.{and-true}
+use Rattle.p3_formula.proofs.FormLemmas.{truth-Not, truth-And, has_atoms-Not, has_atoms-And, has_atoms-Or, nodes-Atom, nodes-Not, nodes-And, nodes-Or}
+use Rattle.p3_formula.proofs.TruthLaws.{joined_truth}
 use Rattle.p3_regress.specs.Regressed.{is_changed, conditions, stays, with_kept, changed, atom_after, atom_growth}
-use Rattle.p3_regress.proofs.ConditionLemmas.{or-false, any_conditions, all_conditions, no_conditions, weight, weight_conditions}
-
-or-true : (b : Bool) → (b || true) ≡ true
-or-true true = refl
-or-true false = refl
-
-and-false : (b : Bool) → (b && false) ≡ false
-and-false true = refl
-and-false false = refl
+use Rattle.p3_regress.proofs.ConditionLemmas.{any_conditions, all_conditions, no_conditions, weight, weight_conditions}
 
 or-mono : (a b c d : Bool) → (a ≡ true → c ≡ true) → (b ≡ true → d ≡ true) → (a || b) ≡ true → (c || d) ≡ true
 or-mono true b c d f g h = ap (λ x. x || d) (f refl)
@@ -41,22 +34,16 @@ module _ (state : State) where
   some_holds [] h = h
   some_holds (form ∷ rest) h = or-mono (is_value true form) _ (truth state form) _ (true_holds form) (some_holds rest) h
 
-  joined_truth : (parts : List Form) → truth state (joined false parts) ≡ list_any (truth state) parts
-  unfolding truth
-  joined_truth [] = refl
-  joined_truth (part ∷ []) = sym (or-false (truth state part))
-  joined_truth (part ∷ other ∷ parts) = truth-Or state (part ∷ other ∷ parts)
-
   module _ (atom : ℕ) where
     stays_truth : (deletes : List Form) → truth state (stays atom deletes) ≡ (is_set state atom && not (list_any (truth state) deletes))
     unfolding truth
     stays_truth deletes =
         truth-And state (Atom atom ∷ Not (joined false deletes) ∷ [])
-        ∙ ap (λ b. is_set state atom && b) (sym (and-true (truth state (Not (joined false deletes)))) ∙ truth-Not state (joined false deletes) ∙ ap not (joined_truth deletes))
+        ∙ ap (λ b. is_set state atom && b) (and-true (truth state (Not (joined false deletes))) ∙ truth-Not state (joined false deletes) ∙ ap not (joined_truth state false deletes))
 
     with_kept_truth : (adds deletes : List Form) → list_any (truth state) (with_kept atom adds deletes) ≡ (list_any (truth state) adds || is_set state atom && not (list_any (truth state) deletes))
     unfolding truth
-    with_kept_truth adds [] = list_any-append (truth state) adds (Atom atom ∷ []) ∙ ap (λ b. list_any (truth state) adds || b) (or-false (is_set state atom) ∙ and-true (is_set state atom))
+    with_kept_truth adds [] = list_any-append (truth state) adds (Atom atom ∷ []) ∙ ap (λ b. list_any (truth state) adds || b) (or-false (is_set state atom) ∙ sym (and-true (is_set state atom)))
     with_kept_truth adds (first ∷ rest) = by (list_any (is_value true) (first ∷ rest)) refl where
       by : (b : Bool) → list_any (is_value true) (first ∷ rest) ≡ b
           → list_any (truth state) (if b then adds else (adds ++ stays atom (first ∷ rest) ∷ [])) ≡ (list_any (truth state) adds || is_set state atom && not (list_any (truth state) (first ∷ rest)))
@@ -74,7 +61,7 @@ module _ (state : State) where
       by : (b : Bool) → list_any (is_value true) adds ≡ b
           → truth state (if b then True else joined false (with_kept atom adds deletes)) ≡ (list_any (truth state) adds || is_set state atom && not (list_any (truth state) deletes))
       by true e = sym (ap (λ b. b || is_set state atom && not (list_any (truth state) deletes)) (some_holds adds e))
-      by false e = joined_truth (with_kept atom adds deletes) ∙ with_kept_truth adds deletes
+      by false e = joined_truth state false (with_kept atom adds deletes) ∙ with_kept_truth adds deletes
 
     pub atom_after_truth : (effects : List Change) → truth state (atom_after effects atom) ≡ is_set_after state effects atom
     atom_after_truth effects =
@@ -92,17 +79,17 @@ module _ (allowed : ℕ → Bool) (atom : ℕ) (may : allowed atom ≡ true) whe
   joined_atoms : (parts : List Form) → list_all (has_atoms allowed) parts ≡ true → has_atoms allowed (joined false parts) ≡ true
   unfolding has_atoms
   joined_atoms [] h = refl
-  joined_atoms (part ∷ []) h = and-true (has_atoms allowed part) ∙ h
+  joined_atoms (part ∷ []) h = sym (and-true (has_atoms allowed part)) ∙ h
   joined_atoms (part ∷ other ∷ parts) h = has_atoms-Or allowed (part ∷ other ∷ parts) ∙ h
 
   stays_atoms : (deletes : List Form) → list_all (has_atoms allowed) deletes ≡ true → has_atoms allowed (stays atom deletes) ≡ true
   unfolding has_atoms
   stays_atoms deletes h =
       has_atoms-And allowed (Atom atom ∷ Not (joined false deletes) ∷ [])
-      ∙ both (allowed atom) _ may (both (has_atoms allowed (Not (joined false deletes))) true (has_atoms-Not allowed (joined false deletes) ∙ joined_atoms deletes h) refl)
+      ∙ and_from (allowed atom) _ may (and_from (has_atoms allowed (Not (joined false deletes))) true (has_atoms-Not allowed (joined false deletes) ∙ joined_atoms deletes h) refl)
 
   one_more_atoms : (adds : List Form) (last : Form) → list_all (has_atoms allowed) adds ≡ true → has_atoms allowed last ≡ true → list_all (has_atoms allowed) (adds ++ last ∷ []) ≡ true
-  one_more_atoms adds last h k = list_all-append (has_atoms allowed) adds (last ∷ []) ∙ both (list_all (has_atoms allowed) adds) _ h (both (has_atoms allowed last) true k refl)
+  one_more_atoms adds last h k = list_all-append (has_atoms allowed) adds (last ∷ []) ∙ and_from (list_all (has_atoms allowed) adds) _ h (and_from (has_atoms allowed last) true k refl)
 
   with_kept_atoms : (adds deletes : List Form) → list_all (has_atoms allowed) adds ≡ true → list_all (has_atoms allowed) deletes ≡ true → list_all (has_atoms allowed) (with_kept atom adds deletes) ≡ true
   unfolding has_atoms

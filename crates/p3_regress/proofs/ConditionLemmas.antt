@@ -1,29 +1,14 @@
 -- The conditions of the changes of an atom.
 use Rattle.std.proofs.Common.{◌≡◌, ◌∙◌, ℕ, ◌+◌, ◌==◌, Bool, true, false, not, ◌&&◌, ◌||◌, if◌then◌else◌, List, [], ◌∷◌, ◌++◌, sum_by, refl, sym, ap, arith}
 use Rattle.std.specs.List.{list_any, list_all}
+use Rattle.std.proofs.Math.Bool.{or-false, or_assoc}
+use Rattle.std.proofs.lemmas.Bool.{and_parts, and_from, or_parts}
 use Rattle.std.proofs.lemmas.List.Folds.{list_any-append, list_all-append}
 use Rattle.std.proofs.lemmas.List.Sums.{sum_by-cons, sum_by-append}
 use Rattle.p3_formula.specs.Forms.{nodes}
 use Rattle.p3_formula.specs.declared.form.Change.{Change}
 use Rattle.p3_formula.specs.declared.form.Form.{Form}
-use Rattle.p3_formula.proofs.AtomLaws.{left, right, both}
 use Rattle.p3_regress.specs.Regressed.{is_changed, is_of, conditions, atom_growth}
-
-pub or-false : (b : Bool) → (b || false) ≡ b
-or-false true = refl
-or-false false = refl
-
-or-assoc : (a b c : Bool) → (a || b || c) ≡ (a || (b || c))
-or-assoc true b c = refl
-or-assoc false b c = refl
-
-or-left : (a b : Bool) → (a || b) ≡ false → a ≡ false
-or-left true b h = h
-or-left false b h = refl
-
-or-right : (a b : Bool) → (a || b) ≡ false → b ≡ false
-or-right true b h = absurd (cc)
-or-right false b h = h
 
 -- one change more
 module _ (test : Form → Bool) (add : Bool) (atom : ℕ) where
@@ -32,7 +17,7 @@ module _ (test : Form → Bool) (add : Bool) (atom : ℕ) where
       → list_any test (conditions add atom (if b then (kept ++ cond ∷ []) else kept) rest) ≡ (list_any test kept || (b && test cond || list_any (λ change. is_of add atom change && test change.cond) rest))
   any_more true kept cond rest known =
       let some = list_any (λ change. is_of add atom change && test change.cond) rest in
-      known (kept ++ cond ∷ []) ∙ ap (λ b. b || some) (list_any-append test kept (cond ∷ []) ∙ ap (λ b. list_any test kept || b) (or-false (test cond))) ∙ or-assoc (list_any test kept) (test cond) some
+      known (kept ++ cond ∷ []) ∙ ap (λ b. b || some) (list_any-append test kept (cond ∷ []) ∙ ap (λ b. list_any test kept || b) (or-false (test cond))) ∙ or_assoc (list_any test kept) (test cond) some
   any_more false kept cond rest known = known kept
 
   -- some condition passes exactly where some such change has one that does
@@ -41,7 +26,7 @@ module _ (test : Form → Bool) (add : Bool) (atom : ℕ) where
   any_conditions kept (change ∷ rest) = any_more (is_of add atom change) kept change.cond rest (λ k. any_conditions k rest)
 
   all_more : (b : Bool) (kept : List Form) (cond : Form) → list_all test kept ≡ true → test cond ≡ true → list_all test (if b then (kept ++ cond ∷ []) else kept) ≡ true
-  all_more true kept cond h passes = list_all-append test kept (cond ∷ []) ∙ both (list_all test kept) _ h (both (test cond) true passes refl)
+  all_more true kept cond h passes = list_all-append test kept (cond ∷ []) ∙ and_from (list_all test kept) _ h (and_from (test cond) true passes refl)
   all_more false kept cond h passes = h
 
   -- what each condition passes, each of these does
@@ -49,8 +34,8 @@ module _ (test : Form → Bool) (add : Bool) (atom : ℕ) where
   all_conditions kept [] h all = h
   all_conditions kept (change ∷ rest) h all =
       all_conditions (if is_of add atom change then (kept ++ change.cond ∷ []) else kept) rest
-      (all_more (is_of add atom change) kept change.cond h (left (test change.cond) _ all))
-      (right (test change.cond) _ all)
+      (all_more (is_of add atom change) kept change.cond h (and_parts (test change.cond) _ all).0)
+      (and_parts (test change.cond) _ all).1
 
 none_more : {A : Type 0} (a b : Bool) (first second : A) → a ≡ false → (if a && b then first else second) ≡ second
 none_more false b first second e = refl
@@ -60,8 +45,8 @@ none_more true b first second e = absurd (cc)
 pub no_conditions : (add : Bool) (atom : ℕ) (kept : List Form) (changes : List Change) → is_changed changes atom ≡ false → conditions add atom kept changes ≡ kept
 no_conditions add atom kept [] h = refl
 no_conditions add atom kept (change ∷ rest) h =
-    ap (λ k. conditions add atom k rest) (none_more (change.atom == atom) _ _ kept (or-left (change.atom == atom) _ h))
-    ∙ no_conditions add atom kept rest (or-right (change.atom == atom) _ h)
+    ap (λ k. conditions add atom k rest) (none_more (change.atom == atom) _ _ kept (or_parts (change.atom == atom) _ h).0)
+    ∙ no_conditions add atom kept rest (or_parts (change.atom == atom) _ h).1
 
 -- what conditions weigh for the growth
 abbrev pub weight : List Form → ℕ

@@ -1,6 +1,7 @@
 -- A regressed form: its truth, its atoms and its size.
-use Rattle.std.proofs.Common.{◌≡◌, ◌∙◌, ℕ, ◌+◌, ◌≤◌, ◌==◌, nat_lt, Bool, true, false, not, List, ◌∷◌, map, length, sum, sum_by, refl, sym, ap, arith}
+use Rattle.std.proofs.Common.{◌≡◌, ◌∙◌, ℕ, ◌+◌, ◌≤◌, ◌==◌, nat_lt, Bool, true, not, List, ◌∷◌, map, length, sum, sum_by, refl, sym, ap, arith}
 use Rattle.std.specs.List.{list_any, list_all}
+use Rattle.std.proofs.lemmas.Bool.{and_parts, and_from, not-true}
 use Rattle.std.proofs.lemmas.Bool.Decides.{nat_tests}
 use Rattle.std.proofs.lemmas.List.Folds.{list_all-map}
 use Rattle.std.proofs.lemmas.List.Sums.{sum_by-cons, AllPass-from_list_all, list_all-from_AllPass}
@@ -17,14 +18,9 @@ use Rattle.p3_formula.specs.declared.form.Form.TheOpen as layer
 use Rattle.p3_formula.specs.declared.form.Form.TheBlock.{backs-Form, shown-the_row-Form-0, items_shown-the_row-Form-1}
 use Rattle.p3_formula.specs.declared.form.Form.TheVariants.{True, False, Atom, Not, And, Or, Not', And', Or'}
 use Rattle.p3_formula.proofs.FormLemmas.{list_any-map, truth-Not, truth-And, truth-Or, has_atoms-Not, has_atoms-And, has_atoms-Or, nodes-Not, nodes-And, nodes-Or}
-use Rattle.p3_formula.proofs.AtomLaws.{left, right, both}
 use Rattle.p3_formula.proofs.NextLaws.{is_set-after, after-permutation}
 use Rattle.p3_regress.specs.Regressed.{IsTrueBefore, IsUntouched, HasAtomsOfBoth, is_changed, growth, growth_layer, regressed, regressed_layer}
 use Rattle.p3_regress.proofs.AtomAfter.{atom_after_truth, atom_after_same, atom_after_atoms, atom_after_nodes}
-
-not-false : (b : Bool) → not b ≡ true → b ≡ false
-not-false true h = sym h
-not-false false h = refl
 
 module _ (effects : List Change) where
   module _ (state : State) where
@@ -47,8 +43,8 @@ module _ (effects : List Change) where
           → map (truth state) (fold_forms (regressed_layer effects) parts) ≡ fold_forms (truth_layer (after state effects)) parts
       regressed_truths end_of-Form h = refl
       regressed_truths (more_of-Form part rest) h =
-          λ i. regressed_truth part (left (has_atoms (λ atom. nat_lt atom (length state)) part) _ h) i
-          ∷ regressed_truths rest (right (has_atoms (λ atom. nat_lt atom (length state)) part) _ h) i
+          λ i. regressed_truth part (and_parts (has_atoms (λ atom. nat_lt atom (length state)) part) _ h).0 i
+          ∷ regressed_truths rest (and_parts (has_atoms (λ atom. nat_lt atom (length state)) part) _ h).1 i
 
   mutual
     unfolding has_atoms regressed shown-the_row-Form-0 shown
@@ -56,7 +52,7 @@ module _ (effects : List Change) where
     pub regressed_same : (form : Form) → has_atoms (λ atom. not (is_changed effects atom)) form ≡ true → regressed effects form ≡ form
     regressed_same True h = refl
     regressed_same False h = refl
-    regressed_same (Atom atom) h = atom_after_same effects atom (not-false _ h)
+    regressed_same (Atom atom) h = atom_after_same effects atom (not-true _ h)
     regressed_same (Not' shape (more_of-Form part rest)) h = ap Not (regressed_same part h) ∙ backs-Form (Not' shape (more_of-Form part rest))
     regressed_same (And' shape parts) h = ap And (all_same parts h ∙ sym (items_shown-the_row-Form-1 shape parts)) ∙ backs-Form (And' shape parts)
     regressed_same (Or' shape parts) h = ap Or (all_same parts h ∙ sym (items_shown-the_row-Form-1 shape parts)) ∙ backs-Form (Or' shape parts)
@@ -65,8 +61,8 @@ module _ (effects : List Change) where
         → fold_forms (regressed_layer effects) parts ≡ items-the_row-Form n parts
     all_same end_of-Form h = refl
     all_same (more_of-Form part rest) h =
-        λ i. regressed_same part (left (has_atoms (λ atom. not (is_changed effects atom)) part) _ h) i
-        ∷ all_same rest (right (has_atoms (λ atom. not (is_changed effects atom)) part) _ h) i
+        λ i. regressed_same part (and_parts (has_atoms (λ atom. not (is_changed effects atom)) part) _ h).0 i
+        ∷ all_same rest (and_parts (has_atoms (λ atom. not (is_changed effects atom)) part) _ h).1 i
 
   module _ (allowed : ℕ → Bool) (all : list_all (λ change. has_atoms allowed change.cond) effects ≡ true) where
     mutual
@@ -83,9 +79,9 @@ module _ (effects : List Change) where
       all_atoms : {n : Count} (parts : Row_of-Form n) → list_all (λ part. part) (fold_forms (within_layer allowed) parts) ≡ true → list_all (has_atoms allowed) (fold_forms (regressed_layer effects) parts) ≡ true
       all_atoms end_of-Form h = refl
       all_atoms (more_of-Form part rest) h =
-          both (has_atoms allowed (regressed effects part)) _
-          (regressed_atoms part (left (has_atoms allowed part) _ h))
-          (all_atoms rest (right (has_atoms allowed part) _ h))
+          and_from (has_atoms allowed (regressed effects part)) _
+          (regressed_atoms part (and_parts (has_atoms allowed part) _ h).0)
+          (all_atoms rest (and_parts (has_atoms allowed part) _ h).1)
 
   mutual
     unfolding nodes regressed growth
