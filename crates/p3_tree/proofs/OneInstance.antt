@@ -2,6 +2,7 @@
 use Rattle.std.proofs.Common.{◌≡◌, ◌∙◌, ◌⊎◌, inl, inr, ℕ, ◌+◌, zero, suc, zero-add, refl, sym, ap, subst, Bool, true, false, ◌&&◌, [], ◌∷◌, cond, true≢false, length, Some, None, pos, ◌-ℤ◌, arith}
 use Rattle.std.specs.Prelude.{unwrap_or}
 use Rattle.std.specs.List.{cons_option}
+use Rattle.std.proofs.lemmas.Bool.{and_parts}
 use Rattle.p3_tree.specs.States.{State, start}
 use Rattle.p3_tree.specs.Plans.{Plan, fits, state_after, step_cost}
 use Rattle.p3_tree.specs.Constraints.{instances}
@@ -116,10 +117,6 @@ module _ (W : Words) where
       contradicts : {A : Type 0} (test : Bool) → test ≡ true → test ≡ false → A
       contradicts test e f = absurd (true≢false (sym e ∙ f))
 
-      both_true : (first second : Bool) → (first && second) ≡ true → (first ≡ true) × (second ≡ true)
-      both_true true second e = (refl, e)
-      both_true false second e = absurd (cc)
-
       abbrev last : Bool → Step
       last true = W.collect
       last false = W.forgo
@@ -133,7 +130,7 @@ module _ (W : Words) where
 
       nothing_fits : (t : State) (q : Plan) → Ended t → fit_from U t q ≡ true → q ≡ []
       nothing_fits t [] phase e = refl
-      nothing_fits t (st ∷ q) phase e = by (pair.fitting.is_fit t st (both_true (fits U t st) (fit_from U (state_after U t st) q) e).0)
+      nothing_fits t (st ∷ q) phase e = by (pair.fitting.is_fit t st (and_parts (fits U t st) (fit_from U (state_after U t st) q) e).0)
         where
           by : Fit t st → st ∷ q ≡ []
           by (Copies has same go) = contradicts (W.go t) go phase.go
@@ -163,7 +160,7 @@ module _ (W : Words) where
       ends : (t : State) (p : Bool) (q : Plan) → Ending t p → fit_from U t q ≡ true → W.last_link (state_from U t q) ≡ true → q ≡ last p ∷ []
       ends t p [] phase e goal = contradicts (W.last_link t) goal phase.last_link
       ends t p (st ∷ q) phase e goal =
-          let both : (fits U t st ≡ true) × (fit_from U (state_after U t st) q ≡ true) = both_true (fits U t st) (fit_from U (state_after U t st) q) e in
+          let both : (fits U t st ≡ true) × (fit_from U (state_after U t st) q ≡ true) = and_parts (fits U t st) (fit_from U (state_after U t st) q) e in
           let same : st ≡ last p = is_last t p st phase (pair.fitting.is_fit t st both.0) in
           let rest : q ≡ [] = nothing_fits (state_after U t (last p)) q (after_last t p phase) (fit_behind t q st (last p) same both.1) in
           λ i. same i ∷ rest i
@@ -185,12 +182,12 @@ module _ (W : Words) where
       shape : (q : Plan) (t : State) (p : Bool) → Shape t p q
       shape [] t p phase e goal = contradicts (W.last_link t) goal phase.last_link
       shape (st ∷ q) t p phase e goal =
-          let both : (fits U t st ≡ true) × (fit_from U (state_after U t st) q ≡ true) = both_true (fits U t st) (fit_from U (state_after U t st) q) e in
+          let both : (fits U t st ≡ true) × (fit_from U (state_after U t st) q ≡ true) = and_parts (fits U t st) (fit_from U (state_after U t st) q) e in
           shape_by t p st q (shape q (state_after U t W.copy) W.later) phase both.1 goal (pair.fitting.is_fit t st both.0)
 
       is_canonical : (q : Plan) → Valid U q → (n : ℕ) × IsCount n × (q ≡ canonical W.at_first n)
       is_canonical q valid =
-          let both : (fit_from U (start U) q ≡ true) × (W.last_link (state_from U (start U) q) ≡ true) = both_true (fit_from U (start U) q) (W.last_link (state_from U (start U) q)) (sym (pair.fitting.valid q) ∙ valid) in
+          let both : (fit_from U (start U) q ≡ true) × (W.last_link (state_from U (start U) q) ≡ true) = and_parts (fit_from U (start U) q) (W.last_link (state_from U (start U) q)) (sym (pair.fitting.valid q) ∙ valid) in
           shape q (start U) W.at_first pair.fitting.at_start both.0 both.1
 
       -- ---- and each such plan is valid

@@ -2,6 +2,8 @@
 use Rattle.std.proofs.Common.{◌≡◌, ◌∙◌, inl, inr, ℕ, ◌+◌, ◌*◌, zero, suc, add-zero, refl, sym, ap, subst, Bool, true, false, not, ◌&&◌, ◌||◌, List, [], ◌∷◌, ◌++◌, cond, length, map, true≢false, Some, None, pos, ◌-ℤ◌, is_some, arith}
 use Rattle.std.specs.Prelude.{find}
 use Rattle.std.specs.List.{list_all}
+use Rattle.std.proofs.Math.Bool.{and-true}
+use Rattle.std.proofs.lemmas.Bool.{and_parts}
 use Rattle.std.proofs.lemmas.Int.{ints}
 use Rattle.std.proofs.lemmas.Slice.Eq.{bytes_eq-Decides}
 use Rattle.p3_base.specs.declared.refusal.Direction.TheVariants.{Minimize}
@@ -51,10 +53,6 @@ pub record OnePreference (T : Task) : Type 0 where
   pub summed : summand_of metric.body ≡ Some summand
   pub counted : wish.name.name ≡ summand.name.name
 
-and_true : (test : Bool) → (test && true) ≡ test
-and_true true = refl
-and_true false = refl
-
 -- ---- one preference
 
 module _ (T : Task) (one : OnePreference T) where
@@ -74,7 +72,7 @@ module _ (T : Task) (one : OnePreference T) where
 
   pub valid_is : (plan : Plan) → is_valid T plan ≡ steps_fit T plan
   unfolding is_valid goal_holds
-  valid_is plan = (λ i. steps_fit T plan && wishing.hard (last_state (visited T plan)) i && list_all (is_met T plan) (hard_list_is i)) ∙ and_true (steps_fit T plan && true) ∙ and_true (steps_fit T plan)
+  valid_is plan = (λ i. steps_fit T plan && wishing.hard (last_state (visited T plan)) i && list_all (is_met T plan) (hard_list_is i)) ∙ and-true (steps_fit T plan && true) ∙ and-true (steps_fit T plan)
 
   pub one_instance : length (instances T) ≡ 1
   one_instance = ap length instances_is
@@ -157,7 +155,7 @@ module _ (T : Task) (act : OneAction T) where
   hard_is s env = ap (hard_holds T s env) act.no_condition
 
   fits_by_is : (s : State) (st : Step) (named : Bool) → fits_by T s st (cond named (Some act.action) None) ≡ (named && is_empty st.args)
-  fits_by_is s st true = (λ i. arguments_fit st.args i && hard_is s (arguments act.action st) i && has_cost s (arguments act.action st) i) ∙ and_true (is_empty st.args && true) ∙ and_true (is_empty st.args)
+  fits_by_is s st true = (λ i. arguments_fit st.args i && hard_is s (arguments act.action st) i && has_cost s (arguments act.action st) i) ∙ and-true (is_empty st.args && true) ∙ and-true (is_empty st.args)
   fits_by_is s st false = refl
 
   fits_is : (s : State) (st : Step) → fits T s st ≡ (same_name act.action.name.name st.action && is_empty st.args)
@@ -172,12 +170,8 @@ module _ (T : Task) (act : OneAction T) where
   step_fits s = fits_is s the_step ∙ ap (λ same. same && true) own_name
 
   is_the_step : (s : State) (st : Step) → fits T s st ≡ true → st ≡ the_step
-  is_the_step s st e = by st (both (same_name act.action.name.name st.action) (is_empty st.args) (sym (fits_is s st) ∙ e))
+  is_the_step s st e = by st (and_parts (same_name act.action.name.name st.action) (is_empty st.args) (sym (fits_is s st) ∙ e))
     where
-      both : (first second : Bool) → (first && second) ≡ true → (first ≡ true) × (second ≡ true)
-      both true second e = (refl, e)
-      both false second e = absurd (cc)
-
       no_args : (args : List Name) → is_empty args ≡ true → args ≡ []
       no_args [] e = refl
       no_args (arg ∷ args) e = absurd (cc)
@@ -204,7 +198,7 @@ module _ (T : Task) (act : OneAction T) where
   one_change : (l w : Literal) (negated same here : Bool) → has_fact (fact_of_literal l ∷ []) (fact_of_literal w) ≡ same
       → (has_fact (cond negated [] (fact_of_literal l ∷ [])) (fact_of_literal w) || (here && not (has_fact (cond negated (fact_of_literal l ∷ []) []) (fact_of_literal w)))) ≡ cond same (not negated) here
   one_change l w false true here e = ap (λ test. test || (here && true)) e
-  one_change l w false false here e = ap (λ test. test || (here && true)) e ∙ and_true here
+  one_change l w false false here e = ap (λ test. test || (here && true)) e ∙ and-true here
   one_change l w true true true e = ap (λ test. not test) e
   one_change l w true true false e = refl
   one_change l w true false true e = ap (λ test. not test) e
@@ -269,12 +263,8 @@ module _ (W : Words) (T U : Task) (one : OnePreference T) (act : OneAction T) (a
   fitting_is : (s : State) (plan : Plan) → fit_from T s plan ≡ true → plan ≡ steps_of (length plan)
   fitting_is s [] e = refl
   fitting_is s (st ∷ plan) e =
-      let both : (fits T s st ≡ true) × (fit_from T (state_after T s st) plan ≡ true) = parts (fits T s st) (fit_from T (state_after T s st) plan) e in
+      let both : (fits T s st ≡ true) × (fit_from T (state_after T s st) plan ≡ true) = and_parts (fits T s st) (fit_from T (state_after T s st) plan) e in
       λ i. is_the_step T act s st both.0 i ∷ fitting_is (state_after T s st) plan both.1 i
-    where
-      parts : (first second : Bool) → (first && second) ≡ true → (first ≡ true) × (second ≡ true)
-      parts true second e = (refl, e)
-      parts false second e = absurd (cc)
 
   truth_after_all : (s : State) (n : ℕ) → truth one.wish.literal (state_from T (state_after T s (the_step T act)) (steps_of n)) ≡ after_truth T act one.wish.literal (truth one.wish.literal s)
   truth_after_all s zero = truth_after T act one.wish.literal s

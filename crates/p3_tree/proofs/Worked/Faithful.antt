@@ -1,6 +1,8 @@
 -- The written task of the first example is a faithful translation of the task read.
 use Rattle.std.proofs.Common.{inr, ◌≡◌, ◌∙◌, inl, ℕ, ◌+◌, ◌*◌, zero, suc, zero-add, refl, sym, ap, Bool, true, false, not, ◌&&◌, ◌||◌, List, [], ◌∷◌, ◌++◌, cond, length, Option, Some, None, pos, ◌-ℤ◌, ◌*ℤ◌}
 use Rattle.std.specs.Prelude.{codes, slice_get, filter}
+use Rattle.std.proofs.Math.Bool.{and-true}
+use Rattle.std.proofs.lemmas.Bool.{and_parts, not-true}
 use Rattle.std.proofs.lemmas.Slice.Eq.{bytes_eq-Decides}
 use Prim.Native.String.{String}
 use Rattle.p3_tree.specs.Names.{Name, same_name, is_empty}
@@ -37,21 +39,9 @@ unfolding are_arguments
 no_arguments T [] = refl
 no_arguments T (arg ∷ args) = refl
 
-both_true : (first second : Bool) → (first && second) ≡ true → (first ≡ true) × (second ≡ true)
-both_true true second e = (refl, e)
-both_true false second e = absurd (cc)
-
-and_true : (test : Bool) → (test && true) ≡ test
-and_true true = refl
-and_true false = refl
-
-not_true : (test : Bool) → not test ≡ true → test ≡ false
-not_true true e = absurd (cc)
-not_true false e = refl
-
 parts_of : (args : List Name) (hard : Bool) → (are_arguments written [] args && hard && true) ≡ true → (is_empty args ≡ true) × (hard ≡ true)
 parts_of args hard e =
-    let both : (are_arguments written [] args ≡ true) × (hard ≡ true) = both_true _ _ (sym (and_true _) ∙ e) in
+    let both : (are_arguments written [] args ≡ true) × (hard ≡ true) = and_parts _ _ (sym (and-true _) ∙ e) in
     (sym (no_arguments written args) ∙ both.0, both.1)
 
 -- ---- words
@@ -101,7 +91,7 @@ words = record {
 
 fits_by_a : (s : State) (st : Step) (named : Bool) → fits_by read s st (cond named (Some a_action) None) ≡ (named && is_empty st.args)
 unfolding meaning_computes read
-fits_by_a s st true = and_true _ ∙ and_true _ ∙ no_arguments read st.args
+fits_by_a s st true = and-true _ ∙ and-true _ ∙ no_arguments read st.args
 fits_by_a s st false = refl
 
 fits_read : (s : State) (st : Step) → fits read s st ≡ (same_name (codes "a") st.action && is_empty st.args)
@@ -111,8 +101,8 @@ fits_read s st = fits_by_a s st (same_name (codes "a") st.action)
 fit_read : (s : State) (plan : Plan) → fit_from read s plan ≡ true → plan ≡ repeated words (length plan)
 fit_read s [] e = refl
 fit_read s (st ∷ plan) e =
-    let parts : (fits read s st ≡ true) × (fit_from read (state_after read s st) plan ≡ true) = both_true _ _ e in
-    let named : (same_name (codes "a") st.action ≡ true) × (is_empty st.args ≡ true) = both_true _ _ (sym (fits_read s st) ∙ parts.0) in
+    let parts : (fits read s st ≡ true) × (fit_from read (state_after read s st) plan ≡ true) = and_parts _ _ e in
+    let named : (same_name (codes "a") st.action ≡ true) × (is_empty st.args ≡ true) = and_parts _ _ (sym (fits_read s st) ∙ parts.0) in
     λ i. bare_step (codes "a") st named.0 named.1 i ∷ fit_read (state_after read s st) plan parts.1 i
 
 repeated_fits : (s : State) (n : ℕ) → fit_from read s (repeated words n) ≡ true
@@ -122,7 +112,7 @@ repeated_fits s (suc n) = repeated_fits (state_after read s a) n
 
 valid_read : (plan : Plan) → is_valid read plan ≡ steps_fit read plan
 unfolding meaning_computes read
-valid_read plan = and_true _ ∙ and_true _
+valid_read plan = and-true _ ∙ and-true _
 
 p_after : (s : State) (n : ℕ) → has_fact (state_from read s (repeated words (suc n))) p_fact ≡ true
 unfolding meaning_computes read
@@ -176,12 +166,12 @@ fit_by t st false true collects forgoes e f g h fit =
     Finishes (bare_step (codes "finish") st f parts.0) parts.1
 fit_by t st false false true forgoes e f g h fit =
     let parts : (is_empty st.args ≡ true) × ((has_fact t (fact "e0") && (has_fact t (fact "f0") && true)) ≡ true) = parts_of st.args _ fit in
-    let both : (has_fact t (fact "e0") ≡ true) × ((has_fact t (fact "f0") && true) ≡ true) = both_true _ _ parts.1 in
-    Collects (bare_step (codes "collect0") st g parts.0) both.0 (both_true _ _ both.1).0
+    let both : (has_fact t (fact "e0") ≡ true) × ((has_fact t (fact "f0") && true) ≡ true) = and_parts _ _ parts.1 in
+    Collects (bare_step (codes "collect0") st g parts.0) both.0 (and_parts _ _ both.1).0
 fit_by t st false false false true e f g h fit =
     let parts : (is_empty st.args ≡ true) × ((has_fact t (fact "e0") && (not (has_fact t (fact "f0")) && true)) ≡ true) = parts_of st.args _ fit in
-    let both : (has_fact t (fact "e0") ≡ true) × ((not (has_fact t (fact "f0")) && true) ≡ true) = both_true _ _ parts.1 in
-    Forgoes (bare_step (codes "forgo0") st h parts.0) both.0 (not_true (has_fact t (fact "f0")) (both_true _ _ both.1).0)
+    let both : (has_fact t (fact "e0") ≡ true) × ((not (has_fact t (fact "f0")) && true) ≡ true) = and_parts _ _ parts.1 in
+    Forgoes (bare_step (codes "forgo0") st h parts.0) both.0 (not-true (has_fact t (fact "f0")) (and_parts _ _ both.1).0)
 fit_by t st false false false false e f g h fit = absurd (cc)
 
 is_fit : (t : State) (st : Step) → fits written t st ≡ true → Fit words t st
@@ -219,11 +209,11 @@ fitting = record {
     go = kept t (fact "e0" ∷ []) (fact "go" ∷ []) (fact "go") true phase.go;
     first_link = refl;
     last_link = kept t (fact "e0" ∷ []) (fact "go" ∷ []) (fact "e1") false phase.last_link;
-    holds = kept t (fact "e0" ∷ []) (fact "go" ∷ []) (fact "f0") p phase.holds ∙ and_true p;
+    holds = kept t (fact "e0" ∷ []) (fact "go" ∷ []) (fact "f0") p phase.holds ∙ and-true p;
   };
   after_collect = λ t phase. ended t true phase;
   after_forgo = λ t phase. ended t false phase;
-  valid = λ q. and_true _ ∙ (λ i. steps_fit-walk written q i && has_fact (last_state-walk written q i) (fact "e1"));
+  valid = λ q. and-true _ ∙ (λ i. steps_fit-walk written q i && has_fact (last_state-walk written q i) (fact "e1"));
 }
 
 costing : Costing words read written
