@@ -1,7 +1,8 @@
 -- Reading a plan, token by token.
 use Rattle.std.proofs.Common.{arith, ◌≡◌, ℕ, ◌+◌, ◌≤◌, List, [], ◌∷◌, ◌++◌, Bool, true, false, length, map, flat_map, Option, Some, None, refl, sym, ap, subst, ◌∙◌}
-use Rattle.std.specs.Prelude.{Result, Ok, Err, IfOk, IfErr, ◌&&◌, if◌then◌else◌, nat_lt}
+use Rattle.std.specs.Prelude.{Result, Ok, Err, IfOk, IfErr, if◌then◌else◌, nat_lt}
 use Rattle.std.specs.List.{list_all}
+use Rattle.std.proofs.lemmas.Bool.{and_parts}
 use Rattle.std.proofs.lemmas.Bool.Decides.{nat_tests}
 use Rattle.std.proofs.lemmas.List.{append_assoc, append-nil, map-append, length-append}
 use Rattle.std.proofs.lemmas.List.Folds.{list_all-append}
@@ -74,14 +75,10 @@ room steps limit free = grind (arith, nat_tests)
 words_of : (plan : List Step) (step : Step) → list_all has_plan_words plan ≡ true → has_plan_words step ≡ true → list_all has_plan_words (plan ++ step ∷ []) ≡ true
 words_of plan step all one = list_all-append has_plan_words plan (step ∷ []) ∙ rw (all, one) refl
 
-pub both : (a b : Bool) → (a && b) ≡ true → (a ≡ true) × (b ≡ true)
-both true b is = (refl, is)
-both false b is = absurd cc
-
 last_words : (plan : List Step) (step : Step) → list_all has_plan_words (plan ++ step ∷ []) ≡ true → (list_all has_plan_words plan ≡ true) × (list_all is_plan_word (step.action ∷ step.args) ≡ true)
 last_words plan step all =
-    let apart : (list_all has_plan_words plan ≡ true) × (list_all has_plan_words (step ∷ []) ≡ true) = both (list_all has_plan_words plan) (list_all has_plan_words (step ∷ [])) (sym (list_all-append has_plan_words plan (step ∷ [])) ∙ all) in
-    (apart.0, (both (has_plan_words step) true apart.1).0)
+    let apart : (list_all has_plan_words plan ≡ true) × (list_all has_plan_words (step ∷ []) ≡ true) = and_parts (list_all has_plan_words plan) (list_all has_plan_words (step ∷ [])) (sym (list_all-append has_plan_words plan (step ∷ [])) ∙ all) in
+    (apart.0, (and_parts (has_plan_words step) true apart.1).0)
 
 words_more : (draft : Draft) (token : Token) → Free draft token → list_all has_plan_words (steps_of draft) ≡ true → list_all has_plan_words (steps_of (added draft token)) ≡ true
 words_more (Outside plan) token free words = words

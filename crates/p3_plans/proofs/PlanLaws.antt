@@ -2,6 +2,7 @@
 use Rattle.std.proofs.Common.{arith, ◌≡◌, ℕ, suc, ◌+◌, ◌≤◌, List, [], ◌∷◌, ◌++◌, true, length, map, flat_map, fold, Option, Some, None, refl, sym, ap, subst, ◌∙◌}
 use Rattle.std.specs.Prelude.{◌↔◌, nat_lt}
 use Rattle.std.specs.List.{list_all}
+use Rattle.std.proofs.lemmas.Bool.{and_parts}
 use Rattle.std.proofs.lemmas.Bool.Decides.{nat_tests}
 use Rattle.std.proofs.lemmas.List.{append_assoc, append-nil, length-append}
 use Rattle.p3_base.specs.declared.refusal.Code.{Code}
@@ -19,7 +20,7 @@ use Rattle.p3_plans.specs.Steps.{steps_from}
 use Rattle.p3_tree.specs.Tokens.{tokens_from}
 use Rattle.p3_plans.specs.declared.draft.Draft.{Draft}
 use Rattle.p3_plans.specs.declared.draft.Draft.TheVariants.{Outside, Begun, Named}
-use Rattle.p3_plans.proofs.DraftLemmas.{IsRead, read_first, read_more, read_refused, read_foreign, read_end, read_whole, behind_more, both}
+use Rattle.p3_plans.proofs.DraftLemmas.{IsRead, read_first, read_more, read_refused, read_foreign, read_end, read_whole, behind_more}
 
 -- ---- where no offence is
 
@@ -79,7 +80,7 @@ module _ (size : ℕ) (end : Draft) where
   arguments (arg ∷ args) plan step (Close at ∷ later) m is words go_on = absurd cc
   arguments (arg ∷ args) plan step (Word at text ∷ later) m is words go_on =
       let same : text ≡ arg = cc in
-      let apart = both (is_plan_word arg) (list_all is_plan_word args) words in
+      let apart = and_parts (is_plan_word arg) (list_all is_plan_word args) words in
       follows_more (Named plan step) (Word at text) later (rw (same, apart.0) refl)
       (arguments args plan (with_argument step text) later m (cc) apart.1 (λ rest marks.
       subst (λ (all : List Name). Follows size (Outside (plan ++ record { action = step.action; args = all } ∷ [])) rest end)
@@ -104,8 +105,8 @@ follows_plan size (step ∷ q) p (Open at ∷ Open place ∷ tokens) is words fe
 follows_plan size (step ∷ q) p (Open at ∷ Close place ∷ tokens) is words few = absurd cc
 follows_plan size (step ∷ q) p (Open at ∷ Word place text ∷ tokens) is words few =
     let same : text ≡ step.action = cc in
-    let all = both (has_plan_words step) (list_all has_plan_words q) words in
-    let apart = both (is_plan_word step.action) (list_all is_plan_word step.args) all.0 in
+    let all = and_parts (has_plan_words step) (list_all has_plan_words q) words in
+    let apart = and_parts (is_plan_word step.action) (list_all is_plan_word step.args) all.0 in
     let later : map mark_of tokens ≡ (map Names step.args ++ Closes ∷ []) ++ flat_map step_marks q = cc in
     let marks : map mark_of tokens ≡ map Names step.args ++ Closes ∷ flat_map step_marks q = later ∙ append_assoc (map Names step.args) (Closes ∷ []) (flat_map step_marks q) in
     let count : length (p ++ step ∷ []) + length q ≤ step_limit = omega (arith, few, length-append p (step ∷ [])) in

@@ -6,6 +6,7 @@ use Rattle.std.specs.Char.{to_ascii_lowercase}
 use Rattle.std.specs.Str.{str_to_ascii_lowercase}
 use Rattle.std.proofs.Math.ListN.{replicate}
 use Rattle.std.proofs.Math.Seq.{drop-append_seam, take-append_seam, drop-append-add}
+use Rattle.std.proofs.lemmas.Bool.{and_parts}
 use Rattle.std.proofs.lemmas.Bool.Decides.{nat_tests}
 use Rattle.std.proofs.lemmas.List.{append_assoc, length-append, length-replicate}
 use Rattle.p3_tree.specs.declared.task.Step.{Step}
@@ -15,7 +16,6 @@ use Rattle.p3_tree.specs.Tokens.{Token, Word, Tokens, before, is_of_word, tokens
 use Rattle.p3_tree.specs.PlanTexts.{Mark, Opens, Closes, Names, mark_of, step_marks, is_plan_word, has_plan_words, step_limit, IsPlanText}
 use Rattle.p3_lexer.specs.Lexing.{token_of, token_len}
 use Rattle.p3_lexer.proofs.TokenLemmas.{tokens_token}
-use Rattle.p3_plans.proofs.DraftLemmas.{both}
 use Rattle.p3_plans.specs.Layout.{argument_layout, step_layout, plan_layout, is_written_byte, is_written_word, has_written_words}
 
 -- the tokens of the bytes, wherever they stand
@@ -44,7 +44,7 @@ module _ (rest : List ℕ) (m : List Mark) (reads : Reads rest m) where
 -- ---- a word
 
 of_word : (byte : ℕ) → is_written_byte byte ≡ true → is_of_word byte ≡ true
-of_word byte is = (both (is_of_word byte) _ is).0
+of_word byte is = (and_parts (is_of_word byte) _ is).0
 
 lower : (byte : ℕ) → is_written_byte byte ≡ true → to_ascii_lowercase byte ≡ byte
 lower byte is = grind (arith, nat_tests)
@@ -52,7 +52,7 @@ lower byte is = grind (arith, nat_tests)
 lowered : (word : List ℕ) → list_all is_written_byte word ≡ true → str_to_ascii_lowercase word ≡ word
 lowered [] all = refl
 lowered (byte ∷ bytes) all =
-    let apart = both (is_written_byte byte) (list_all is_written_byte bytes) all in
+    let apart = and_parts (is_written_byte byte) (list_all is_written_byte bytes) all in
     (λ i. lower byte apart.0 i ∷ lowered bytes apart.1 i)
 
 -- no word goes on there
@@ -68,7 +68,7 @@ off_len (byte ∷ bytes) off = rw off refl
 run_len : (word rest : List ℕ) → list_all is_written_byte word ≡ true → StartsOff rest → prefix_len is_of_word (word ++ rest) ≡ length word
 run_len [] rest all off = off_len rest off
 run_len (byte ∷ bytes) rest all off =
-    let apart = both (is_written_byte byte) (list_all is_written_byte bytes) all in
+    let apart = and_parts (is_written_byte byte) (list_all is_written_byte bytes) all in
     let later : prefix_len is_of_word (bytes ++ rest) ≡ length bytes = run_len bytes rest apart.1 off in
     rw (of_word byte apart.0, later) (omega arith)
 
@@ -89,7 +89,7 @@ module _ (first : ℕ) (others rest : List ℕ) (all : list_all is_written_byte 
   text = front ++ (word ++ rest)
 
   is_word : is_of_word first ≡ true
-  is_word = of_word first (both (is_written_byte first) (list_all is_written_byte others) all).0
+  is_word = of_word first (and_parts (is_written_byte first) (list_all is_written_byte others) all).0
 
   here : drop at text ≡ word ++ rest
   here = ap (λ (n : ℕ). drop n text) (sym (length-replicate at 0)) ∙ drop-append_seam front (word ++ rest)
@@ -125,7 +125,7 @@ module _ (first : ℕ) (others rest : List ℕ) (all : list_all is_written_byte 
 reads_word : (word rest : List ℕ) (m : List Mark) → is_written_word word ≡ true → StartsOff rest → Reads rest m → Reads (word ++ rest) (Names word ∷ m)
 reads_word [] rest m is off reads = absurd cc
 reads_word (first ∷ others) rest m is off reads =
-    let all : list_all is_written_byte (first ∷ others) ≡ true = (both (is_plan_word (first ∷ others)) (list_all is_written_byte (first ∷ others)) is).1 in
+    let all : list_all is_written_byte (first ∷ others) ≡ true = (and_parts (is_plan_word (first ∷ others)) (list_all is_written_byte (first ∷ others)) is).1 in
     record {
       marks = λ at. ap (λ (t : Tokens). map mark_of t.tokens) (word_first first others rest all off at) ∙ ap (λ (later : List Mark). Names (first ∷ others) ∷ later) (reads.marks (at + length (first ∷ others)));
       known = λ at. ap (λ (t : Tokens). t.foreign) (word_first first others rest all off at) ∙ reads.known (at + length (first ∷ others));
@@ -142,7 +142,7 @@ reads_arguments : (args : List Name) (rest : List ℕ) (m : List Mark) → list_
     → Reads (flat_map argument_layout args ++ 41 ∷ 10 ∷ rest) (map Names args ++ Closes ∷ m)
 reads_arguments [] rest m all reads = reads_close rest m reads
 reads_arguments (arg ∷ args) rest m all reads =
-    let apart = both (is_written_word arg) (list_all is_written_word args) all in
+    let apart = and_parts (is_written_word arg) (list_all is_written_word args) all in
     let later : List ℕ = flat_map argument_layout args ++ 41 ∷ 10 ∷ rest in
     let grouped : arg ++ later ≡ (arg ++ flat_map argument_layout args) ++ 41 ∷ 10 ∷ rest = sym (append_assoc arg (flat_map argument_layout args) (41 ∷ 10 ∷ rest)) in
     subst (λ (bytes : List ℕ). Reads (32 ∷ bytes) (map Names (arg ∷ args) ++ Closes ∷ m)) grouped
@@ -150,7 +150,7 @@ reads_arguments (arg ∷ args) rest m all reads =
 
 reads_step : (step : Step) (rest : List ℕ) (m : List Mark) → has_written_words step ≡ true → Reads rest m → Reads (step_layout step ++ rest) (step_marks step ++ m)
 reads_step step rest m all reads =
-    let apart = both (is_written_word step.action) (list_all is_written_word step.args) all in
+    let apart = and_parts (is_written_word step.action) (list_all is_written_word step.args) all in
     let spaced : List ℕ = flat_map argument_layout step.args in
     let later : List ℕ = spaced ++ 41 ∷ 10 ∷ rest in
     let grouped : step.action ++ later ≡ (step.action ++ (spaced ++ 41 ∷ 10 ∷ [])) ++ rest = simp append_assoc in
@@ -162,19 +162,19 @@ reads_step step rest m all reads =
 reads_plan : (plan : Plan) → list_all has_written_words plan ≡ true → Reads (plan_layout plan) (flat_map step_marks plan)
 reads_plan [] all = reads_end
 reads_plan (step ∷ plan) all =
-    let apart = both (has_written_words step) (list_all has_written_words plan) all in
+    let apart = and_parts (has_written_words step) (list_all has_written_words plan) all in
     reads_step step (plan_layout plan) (flat_map step_marks plan) apart.0 (reads_plan plan apart.1)
 
 plan_words : (words : List Name) → list_all is_written_word words ≡ true → list_all is_plan_word words ≡ true
 plan_words [] all = refl
 plan_words (word ∷ words) all =
-    let apart = both (is_written_word word) (list_all is_written_word words) all in
-    rw ((both (is_plan_word word) (list_all is_written_byte word) apart.0).0, plan_words words apart.1) refl
+    let apart = and_parts (is_written_word word) (list_all is_written_word words) all in
+    rw ((and_parts (is_plan_word word) (list_all is_written_byte word) apart.0).0, plan_words words apart.1) refl
 
 plan_steps : (plan : Plan) → list_all has_written_words plan ≡ true → list_all has_plan_words plan ≡ true
 plan_steps [] all = refl
 plan_steps (step ∷ plan) all =
-    let apart = both (has_written_words step) (list_all has_written_words plan) all in
+    let apart = and_parts (has_written_words step) (list_all has_written_words plan) all in
     rw (plan_words (step.action ∷ step.args) apart.0, plan_steps plan apart.1) refl
 
 -- what is written is a text of the plan
