@@ -2,6 +2,7 @@
 use Rattle.std.proofs.Common.{◌≡◌, ◌∙◌, ℕ, ◌+◌, zero-add, refl, sym, ap, subst, Bool, true, false, not, ◌&&◌, ◌||◌, List, [], ◌∷◌, ◌++◌, cond, eqb, append-nil, inl, inr, ◌⊎◌, Some, pos, true≢false}
 use Rattle.std.specs.Prelude.{codes, filter, find, option_map, option_and_then, if◌then◌else◌}
 use Rattle.std.specs.List.{enumerate_from}
+use Rattle.std.proofs.Math.Bool.{and-true}
 use Rattle.p3_tree.specs.Names.{Name, same_name}
 use Rattle.p3_tree.specs.States.{State, has_fact, start}
 use Rattle.p3_tree.specs.Effects.{adds, dels, next}
@@ -25,7 +26,7 @@ use Rattle.p3_tree.specs.declared.task.Step.{Step}
 use Rattle.p3_tree.specs.declared.task.Task.{Task}
 use Rattle.p3_compile.specs.Written as w
 use Rattle.p3_compile.specs.Written.{atom, changing, added, finish_action, settled}
-use Rattle.p3_compile.proofs.Targets.{fact, and_true, adds_change, dels_change, step_act, target, words, step_has_cost, settled_cost, forgo_has_cost, last_three, named_copy, named_last, is_fit, copy_fits, finish_fits, collect_fits, forgo_fits}
+use Rattle.p3_compile.proofs.Targets.{fact, adds_change, dels_change, step_act, target, words, step_has_cost, settled_cost, forgo_has_cost, last_three, named_copy, named_last, is_fit, copy_fits, finish_fits, collect_fits, forgo_fits}
 
 -- a name apart from those of the running atom and the chain
 pub record Apart (name : Name) : Type 0 where
@@ -49,7 +50,7 @@ has_one first second same e = ap (λ test. (test && true) || false) e ∙ by sam
 
 one_change : (name other : Name) (negated same held : Bool) → same_name name other ≡ same → (has_fact (cond negated [] (fact name ∷ [])) (fact other) || (held && not (has_fact (cond negated (fact name ∷ []) []) (fact other)))) ≡ cond same (not negated) held
 one_change name other false true held e = ap (λ test. test || (held && true)) (has_one name other true e)
-one_change name other false false held e = ap (λ test. test || (held && true)) (has_one name other false e) ∙ and_true held
+one_change name other false false held e = ap (λ test. test || (held && true)) (has_one name other false e) ∙ and-true held
 one_change name other true true true e = ap (λ test. not test) (has_one name other true e)
 one_change name other true true false e = refl
 one_change name other true false true e = ap (λ test. not test) (has_one name other false e)
@@ -128,7 +129,7 @@ module _ (has_step : Bool) (changed preferred : Name) (change_negated preference
       first_link = refl;
       last_link = kept t (fact (codes "e0") ∷ []) (fact (codes "go") ∷ []) (fact (codes "e1")) false phase.last_link;
       holds = ap (signed_by preference_negated) (kept t (fact (codes "e0") ∷ []) (fact (codes "go") ∷ []) (fact preferred) (has_fact t (fact preferred)) refl
-          ∙ (λ i. has_one (codes "e0") preferred false apart_preferred.e0_other i || (has_fact t (fact preferred) && not (has_one (codes "go") preferred false apart_preferred.go_other i))) ∙ and_true (has_fact t (fact preferred))) ∙ phase.holds;
+          ∙ (λ i. has_one (codes "e0") preferred false apart_preferred.e0_other i || (has_fact t (fact preferred) && not (has_one (codes "go") preferred false apart_preferred.go_other i))) ∙ and-true (has_fact t (fact preferred))) ∙ phase.holds;
     })
 
     ended : (t : State) (p : Bool) → Ending V t p → Ended V ((fact (codes "e1") ∷ []) ++ filter (λ f. not (has_fact (fact (codes "e0") ∷ []) f)) t)
@@ -146,7 +147,7 @@ module _ (has_step : Bool) (changed preferred : Name) (change_negated preference
 
     valid : (q : Plan) → is_valid U q ≡ (fit_from U (start U) q && has_fact (state_from U (start U) q) (fact (codes "e1")))
     unfolding meaning_computes
-    valid q = and_true _ ∙ (λ i. steps_fit-walk U q i && has_fact (last_state-walk U q i) (fact (codes "e1")))
+    valid q = and-true _ ∙ (λ i. steps_fit-walk U q i && has_fact (last_state-walk U q i) (fact (codes "e1")))
 
     pub fitting : (T : Task) → Running V (start U) at_first → Fitting V T U
     fitting T begins = record {

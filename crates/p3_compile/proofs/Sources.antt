@@ -7,6 +7,7 @@ use Rattle.std.specs.Option.{option_map_or}
 use Rattle.std.specs.Fmt.{decimal}
 use Rattle.std.proofs.lemmas.Fmt.{decimal_injective}
 use Rattle.std.proofs.lemmas.Slice.Eq.{bytes_eq-Decides}
+use Rattle.std.proofs.lemmas.Bool.{false_from_ne_true}
 use Rattle.std.proofs.lemmas.Bool.Decides.{nat_tests}
 use Rattle.p3_tree.specs.Names.{Name, same_name}
 use Rattle.p3_tree.specs.States.{State, has_fact, initial_fact}
@@ -30,12 +31,8 @@ behind_f digits others e = cc
 pub source_injective : (m n : ℕ) → m < 2 ^ 64 → n < 2 ^ 64 → source_atom m ≡ source_atom n → m ≡ n
 source_injective m n small little e = decimal_injective m n small little (behind_f (decimal m) (decimal n) e)
 
-false_where : (test : Bool) → (test ≡ true → ⊥) → test ≡ false
-false_where true never = absurd (never refl)
-false_where false never = refl
-
 pub other_source : (m n : ℕ) → m < 2 ^ 64 → n < 2 ^ 64 → (m ≡ n → ⊥) → same_name (source_atom m) (source_atom n) ≡ false
-other_source m n small little differ = false_where _ (λ e. differ (source_injective m n small little ((bytes_eq-Decides (source_atom m) (source_atom n)).0 e)))
+other_source m n small little differ = false_from_ne_true _ (λ e. differ (source_injective m n small little ((bytes_eq-Decides (source_atom m) (source_atom n)).0 e)))
 
 same_bools : (first second : Bool) → (first ≡ true → second ≡ true) → (second ≡ true → first ≡ true) → first ≡ second
 same_bools true second to from = sym (to refl)

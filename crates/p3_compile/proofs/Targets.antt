@@ -1,7 +1,8 @@
 -- The written task of a tiny task, given by its words: which steps fit, what holds after them, and what they cost.
 use Rattle.std.proofs.Common.{◌≡◌, ◌∙◌, ℕ, add-zero, refl, sym, ap, Bool, true, false, not, ◌&&◌, List, [], ◌∷◌, ◌++◌, cond, eqb, map, Option, Some, None, is_some}
 use Rattle.std.specs.Prelude.{codes, find, if◌then◌else◌}
-use Rattle.std.proofs.lemmas.Bool.{eqb-true}
+use Rattle.std.proofs.Math.Bool.{and-true}
+use Rattle.std.proofs.lemmas.Bool.{eqb-true, and_parts, not-true}
 use Rattle.std.proofs.lemmas.Slice.Eq.{bytes_eq-Decides}
 use Rattle.p3_tree.specs.Names.{Name, same_name, is_empty}
 use Rattle.p3_tree.specs.States.{State, Environment, has_fact}
@@ -30,14 +31,6 @@ fact name = record { name = name; args = [] }
 
 abbrev pub bare : Name → Step
 bare name = record { action = name; args = [] }
-
-pub and_true : (test : Bool) → (test && true) ≡ test
-and_true true = refl
-and_true false = refl
-
-both_true : (first second : Bool) → (first && second) ≡ true → (first ≡ true) × (second ≡ true)
-both_true true second e = (refl, e)
-both_true false second e = absurd (cc)
 
 -- ---- literals
 
@@ -99,7 +92,7 @@ module _ (has_step : Bool) (changed preferred : Name) (change_negated preference
 
   settles : (t : State) (negated : Bool) → hard_holds target t [] (settling (accepting negated preferred)) ≡ (has_fact t (fact (codes "e0")) && signed_by negated (has_fact t (fact preferred)))
   unfolding meaning_computes
-  settles t negated = hard_holds-Both target t [] (atom (codes "e0") ∷ accepting negated preferred ∷ []) ∙ (λ i. has_fact t (fact (codes "e0")) && (accepts target t [] negated preferred i && true)) ∙ ap (λ test. has_fact t (fact (codes "e0")) && test) (and_true _)
+  settles t negated = hard_holds-Both target t [] (atom (codes "e0") ∷ accepting negated preferred ∷ []) ∙ (λ i. has_fact t (fact (codes "e0")) && (accepts target t [] negated preferred i && true)) ∙ ap (λ test. has_fact t (fact (codes "e0")) && test) (and-true _)
 
   opposite : (test : Bool) → signed_by (not preference_negated) test ≡ not (signed_by preference_negated test)
   opposite test = by preference_negated test
@@ -138,7 +131,7 @@ module _ (has_step : Bool) (changed preferred : Name) (change_negated preference
   -- ---- which steps fit
 
   after_arguments : (args : List Name) (hard cost : Bool) → cost ≡ true → (are_arguments target [] args && hard && cost) ≡ (is_empty args && hard)
-  after_arguments args hard cost e = (λ i. no_arguments args i && hard && e i) ∙ and_true (is_empty args && hard)
+  after_arguments args hard cost e = (λ i. no_arguments args i && hard && e i) ∙ and-true (is_empty args && hard)
 
   step_by : (t : State) (st : Step) → fits_by target t st (Some step_act) ≡ (is_empty st.args && has_fact t (fact (codes "go")))
   unfolding meaning_computes
@@ -182,26 +175,22 @@ module _ (has_step : Bool) (changed preferred : Name) (change_negated preference
     last_fit : (t : State) (st : Step) (finishes collects forgoes : Bool) → same_name (codes "finish") st.action ≡ finishes → same_name (codes "collect0") st.action ≡ collects → same_name (codes "forgo0") st.action ≡ forgoes
         → fits_by target t st (cond finishes (Some finish_action) (cond collects (Some collect_act) (cond forgoes (Some forgo_act) None))) ≡ true → Fit W t st
     last_fit t st true collects forgoes f g h fit =
-        let parts : (is_empty st.args ≡ true) × (has_fact t (fact (codes "go")) ≡ true) = both_true _ _ (sym (finish_by t st) ∙ fit) in
+        let parts : (is_empty st.args ≡ true) × (has_fact t (fact (codes "go")) ≡ true) = and_parts _ _ (sym (finish_by t st) ∙ fit) in
         Finishes (same_bare (codes "finish") st f parts.0) parts.1
     last_fit t st false true forgoes f g h fit =
-        let parts : (is_empty st.args ≡ true) × ((has_fact t (fact (codes "e0")) && W.holds t) ≡ true) = both_true _ _ (sym (collect_by t st) ∙ fit) in
-        let both : (has_fact t (fact (codes "e0")) ≡ true) × (W.holds t ≡ true) = both_true _ _ parts.1 in
+        let parts : (is_empty st.args ≡ true) × ((has_fact t (fact (codes "e0")) && W.holds t) ≡ true) = and_parts _ _ (sym (collect_by t st) ∙ fit) in
+        let both : (has_fact t (fact (codes "e0")) ≡ true) × (W.holds t ≡ true) = and_parts _ _ parts.1 in
         Collects (same_bare (codes "collect0") st g parts.0) both.0 both.1
     last_fit t st false false true f g h fit =
-        let parts : (is_empty st.args ≡ true) × ((has_fact t (fact (codes "e0")) && not (W.holds t)) ≡ true) = both_true _ _ (sym (forgo_by t st) ∙ fit) in
-        let both : (has_fact t (fact (codes "e0")) ≡ true) × (not (W.holds t) ≡ true) = both_true _ _ parts.1 in
-        Forgoes (same_bare (codes "forgo0") st h parts.0) both.0 (not_true (W.holds t) both.1)
-      where
-        not_true : (test : Bool) → not test ≡ true → test ≡ false
-        not_true true e = absurd (cc)
-        not_true false e = refl
+        let parts : (is_empty st.args ≡ true) × ((has_fact t (fact (codes "e0")) && not (W.holds t)) ≡ true) = and_parts _ _ (sym (forgo_by t st) ∙ fit) in
+        let both : (has_fact t (fact (codes "e0")) ≡ true) × (not (W.holds t) ≡ true) = and_parts _ _ parts.1 in
+        Forgoes (same_bare (codes "forgo0") st h parts.0) both.0 (not-true (W.holds t) both.1)
     last_fit t st false false false f g h fit = absurd (cc)
 
     fit_by : (has runs : Bool) (t : State) (st : Step) → has_step ≡ has → same_name (codes "s0v") st.action ≡ runs → fits_by target t st (cond has (cond runs (Some step_act) (last_three st.action)) (last_three st.action)) ≡ true → Fit W t st
     unfolding last_three
     fit_by true true t st has same fit =
-        let parts : (is_empty st.args ≡ true) × (has_fact t (fact (codes "go")) ≡ true) = both_true _ _ (sym (step_by t st) ∙ fit) in
+        let parts : (is_empty st.args ≡ true) × (has_fact t (fact (codes "go")) ≡ true) = and_parts _ _ (sym (step_by t st) ∙ fit) in
         Copies has (same_bare (codes "s0v") st same parts.0) parts.1
     fit_by true false t st has same fit = last_fit t st (same_name (codes "finish") st.action) (same_name (codes "collect0") st.action) (same_name (codes "forgo0") st.action) refl refl refl fit
     fit_by false runs t st has same fit = last_fit t st (same_name (codes "finish") st.action) (same_name (codes "collect0") st.action) (same_name (codes "forgo0") st.action) refl refl refl fit

@@ -3,6 +3,7 @@ use Rattle.std.proofs.Common.{◌≡◌, ◌∙◌, ℕ, ◌<◌, ◌^◌, zero-
 use Rattle.std.specs.Prelude.{codes, filter_map, flat_map, option_map}
 use Rattle.std.specs.List.{list_any, list_all}
 use Rattle.std.specs.Option.{option_and_then, option_map_or}
+use Rattle.std.proofs.Math.Bool.{or-true, or-false}
 use Rattle.std.proofs.lemmas.List.Elements.{filter_map-append}
 use Rattle.std.proofs.lemmas.List.Folds.{list_any-append}
 use Rattle.std.proofs.lemmas.Slice.Eq.{bytes_eq-Decides}
@@ -51,14 +52,6 @@ module _ (T : Task) (one : OnePreference T) (small : length T.domain.predicates 
   has_at_start : (has : Bool) (changed : Name) (negated : Bool) (name : Name) → has_fact (start (U_of has changed negated)) (fact name) ≡ (has_fact sources (fact name) || (same_name (codes "go") name && true || false))
   has_at_start has changed negated name = ap (λ s. has_fact s (fact name)) (start_is has changed negated) ∙ list_any-append (λ other. same_fact other (fact name)) sources (fact (codes "go") ∷ [])
 
-  or_true : (test : Bool) → (test || true) ≡ true
-  or_true true = refl
-  or_true false = refl
-
-  or_false : (test : Bool) → (test || false) ≡ test
-  or_false true = refl
-  or_false false = refl
-
   preferred_at_start : has_fact sources (fact preferred) ≡ has_fact (start T) (fact_of_literal one.wish.literal)
   unfolding sources start
   preferred_at_start =
@@ -72,10 +65,10 @@ module _ (T : Task) (one : OnePreference T) (small : length T.domain.predicates 
   begins : (has : Bool) (changed : Name) (negated : Bool) (source : Step) (same : Bool) → Running (V has changed preferred negated one.wish.literal.is_negated one.summand.weight (w.predicates T.domain.predicates) (w.entries T.domain.predicates T.problem.init) source at_first same) (start (U_of has changed negated)) at_first
   unfolding sources
   begins has changed negated source same = record {
-    go = has_at_start has changed negated (codes "go") ∙ or_true (has_fact sources (fact (codes "go")));
-    first_link = has_at_start has changed negated (codes "e0") ∙ or_false (has_fact sources (fact (codes "e0"))) ∙ no_other T.problem.init (codes "e0") (λ n. refl) 0 T.domain.predicates;
-    last_link = has_at_start has changed negated (codes "e1") ∙ or_false (has_fact sources (fact (codes "e1"))) ∙ no_other T.problem.init (codes "e1") (λ n. refl) 0 T.domain.predicates;
-    holds = ap (signed_by one.wish.literal.is_negated) (has_at_start has changed negated preferred ∙ or_false (has_fact sources (fact preferred)) ∙ preferred_at_start);
+    go = has_at_start has changed negated (codes "go") ∙ or-true (has_fact sources (fact (codes "go")));
+    first_link = has_at_start has changed negated (codes "e0") ∙ or-false (has_fact sources (fact (codes "e0"))) ∙ no_other T.problem.init (codes "e0") (λ n. refl) 0 T.domain.predicates;
+    last_link = has_at_start has changed negated (codes "e1") ∙ or-false (has_fact sources (fact (codes "e1"))) ∙ no_other T.problem.init (codes "e1") (λ n. refl) 0 T.domain.predicates;
+    holds = ap (signed_by one.wish.literal.is_negated) (has_at_start has changed negated preferred ∙ or-false (has_fact sources (fact preferred)) ∙ preferred_at_start);
     known = inl refl;
   }
 

@@ -2,6 +2,7 @@
 use Rattle.std.proofs.Common.{◌≡◌, ◌∙◌, ℕ, ◌+◌, ◌<◌, ◌≤◌, ◌^◌, zero, suc, add-one, add-zero, refl, sym, ap, subst, Bool, true, false, not, ◌||◌, List, [], ◌∷◌, ◌++◌, cond, eqb, length, map, Some, None, arith}
 use Rattle.std.specs.Prelude.{codes, flat_map, filter_map, if◌then◌else◌}
 use Rattle.std.specs.List.{range_with_len, enumerate_from, cons_option}
+use Rattle.std.proofs.Math.Bool.{or-true}
 use Rattle.std.proofs.lemmas.List.{map-append}
 use Rattle.std.proofs.lemmas.List.Folds.{list_any-append}
 use Rattle.std.proofs.lemmas.Grind.{flat_map-append}
@@ -64,12 +65,8 @@ module _ (has_step : Bool) (changed preferred : Name) (change_negated preference
   no_variables [] = tt
   no_variables (n ∷ list) = (NoVariables, no_variables list)
 
-  or_true : (test : Bool) → (test || true) ≡ true
-  or_true true = refl
-  or_true false = refl
-
   last_declared : (name : Name) → declares (w.header (codes "go") ∷ w.header (codes "e0") ∷ w.header (codes "e1") ∷ []) name ≡ true → declares heads name ≡ true
-  last_declared name e = list_any-append (λ header. same_name header.name.name name) (source_headers (length headers)) _ ∙ ap (λ test. declares (source_headers (length headers)) name || test) e ∙ or_true _
+  last_declared name e = list_any-append (λ header. same_name header.name.name name) (source_headers (length headers)) _ ∙ ap (λ test. declares (source_headers (length headers)) name || test) e ∙ or-true _
 
   go : declares heads (codes "go") ≡ true
   go = last_declared (codes "go") refl
