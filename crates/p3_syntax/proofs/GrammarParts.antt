@@ -2,6 +2,7 @@
 use Rattle.std.proofs.Common.{◌≡◌, ◌∙◌, refl, sym, ap, Bool, true, false, not, if◌then◌else◌, List, [], ◌∷◌, map, codes, Option, Some, None, IfSome}
 use Rattle.std.specs.List.{list_all}
 use Rattle.std.specs.Option.{option_map_or}
+use Rattle.std.proofs.lemmas.Bool.{and_parts}
 use Rattle.std.proofs.lemmas.List.{map-id}
 use Rattle.std.proofs.lemmas.Slice.Eq.{bytes_eq-Decides}
 use Rattle.p3_tree.specs.Names.{Name, same_name, has_name}
@@ -18,7 +19,7 @@ use Rattle.p3_syntax.specs.Words.{word_of, name_of, only_part, Headed, headed, h
 use Rattle.p3_syntax.specs.Parts.{atom_of, literal_of, literal_in, formula_of}
 use Rattle.p3_syntax.specs.Domain.{is_requirement, requirements_in, requirements_among, Defined, defined_in, defined}
 use Rattle.p3_syntax.specs.Domain as reading
-use Rattle.p3_syntax.proofs.TinyLemmas.{along, both, IfSome-guard, weaker}
+use Rattle.p3_syntax.proofs.TinyLemmas.{along, IfSome-guard, weaker}
 use Rattle.p3_syntax.proofs.GrammarWords.{Agrees, IsAtom, IsHeaded, IsHeadedBy, all_allowed, are_among, at_list, at_most_one_agrees, atom_agrees, chosen_at, chosen_last, each_agrees, headed_agrees, headed_by_agrees, is_predicate, name_agrees, none_named, only_agrees, optional_in, parts_behind, the_section, then_is, word_agrees, word_passes}
 
 pub predicate_is : (e : Expression) (pred : Ref) (is : IsAtom e pred) → predicate_place is.first ≡ Some pred
@@ -99,7 +100,7 @@ requirements_are : (list : List Expression) → list_all is_requirement list ≡
     → (words : List Ref) × (each_at (word_if halves.begins_with_colon) list ≡ Some words)
 requirements_are [] passes = ([], refl)
 requirements_are (e ∷ list) passes =
-    let parts = both (is_requirement e) (list_all is_requirement list) passes in
+    let parts = and_parts (is_requirement e) (list_all is_requirement list) passes in
     let one = requirement_is e parts.0 in
     let more = requirements_are list parts.1 in
     (one.0 ∷ more.0, then_is _ one.1 (then_is _ more.1 refl))

@@ -1,6 +1,7 @@
 -- The tree of a problem half that is read is that of the grammar.
 use Rattle.std.proofs.Common.{◌≡◌, ◌∙◌, refl, ap, Bool, true, false, if◌then◌else◌, List, [], ◌∷◌, map, codes, Option, Some, None, IfSome, length}
 use Rattle.std.specs.List.{list_all}
+use Rattle.std.proofs.lemmas.Bool.{and_parts}
 use Rattle.std.proofs.lemmas.Slice.Eq.{bytes_eq-Decides}
 use Rattle.std.specs.Prelude.{not, ◌&&◌, ◌==◌, nat_le}
 use Rattle.std.specs.Char.{is_ascii_digit}
@@ -24,7 +25,7 @@ use Rattle.p3_syntax.specs.Words.{word_of, name_of, only_part, Headed, headed, h
 use Rattle.p3_syntax.specs.Parts.{atom_of, literal_in}
 use Rattle.p3_syntax.specs.Domain.{requirements_among, defined}
 use Rattle.p3_syntax.specs.Problem.{Contents, entry_of, is_short_number, numeral_of, preferred, preference_of, count_of, product_of, summand_in, metric_of, domain_name_among, init_among, goal_among, metric_among, problem_words, contents_of, problem_of}
-use Rattle.p3_syntax.proofs.TinyLemmas.{along, both, IfSome-guard, weaker}
+use Rattle.p3_syntax.proofs.TinyLemmas.{along, IfSome-guard, weaker}
 use Rattle.p3_syntax.proofs.GrammarWords.{Agrees, IsHeaded, IsHeadedBy, at_list, at_word, atom_agrees, chosen_last, chosen_with, exactly_one_agrees, headed_agrees, headed_by_agrees, is_predicate, name_agrees, once_in, only_agrees, optional_in, or_first, parts_behind, sections_agree, the_section, then_is, word_agrees, word_passes}
 use Rattle.p3_syntax.proofs.GrammarParts.{absent_is, defined_agrees, formula_of_literal, half_is, literal_agrees, part_is, predicate_is, requirements_agree, same_each, word_is}
 
@@ -33,7 +34,7 @@ use Rattle.p3_syntax.proofs.GrammarParts.{absent_is, defined_agrees, formula_of_
 number_is : (name : Name) → is_short_number name ≡ true → is_number name ≡ true
 number_is [] fits = absurd (cc)
 number_is (digit ∷ digits) fits =
-    (both (not (length (digit ∷ digits) == 0) && nat_le (length (digit ∷ digits)) 15) (list_all is_ascii_digit (digit ∷ digits)) fits).1
+    (and_parts (not (length (digit ∷ digits) == 0) && nat_le (length (digit ∷ digits)) 15) (list_all is_ascii_digit (digit ∷ digits)) fits).1
 
 number_agrees : (e : Expression) → IfSome (numeral_of e) (λ numeral. num_place e ≡ Some (num.Number numeral))
 unfolding numeral_of num_place

@@ -2,6 +2,7 @@
 use Rattle.std.proofs.Common.{◌≡◌, ◌∙◌, refl, sym, ap, subst, Bool, true, false, not, ◌&&◌, ◌||◌, if◌then◌else◌, List, [], ◌∷◌, map, filter, Option, Some, None, IfSome, true≢false}
 use Rattle.std.specs.List.{list_all}
 use Rattle.std.specs.Option.{option_or}
+use Rattle.std.proofs.lemmas.Bool.{and_parts}
 use Rattle.std.proofs.lemmas.List.Folds.{list_any-append}
 use Rattle.std.proofs.lemmas.Slice.Eq.{bytes_eq-Decides}
 use mathlib.Core.Former.{Count}
@@ -16,7 +17,7 @@ use Rattle.p3_tree.specs.declared.term.Ref.{Ref}
 use Rattle.p3_syntax.specs.Reading.{◌>>=◌}
 use Rattle.p3_syntax.specs.Words.{word_in, parts_in, word_of, parts_of, begins_with_letter, name_of, only_part, Headed, headed_in, headed, is_word, headed_by, headed_among, each_of, is_among, single, at_most_one, exactly_one, reserved_words}
 use Rattle.p3_syntax.specs.Parts.{atom_of}
-use Rattle.p3_syntax.proofs.TinyLemmas.{along, both, IfSome-guard, weaker}
+use Rattle.p3_syntax.proofs.TinyLemmas.{along, IfSome-guard, weaker}
 
 -- what is read is what the grammar gives
 abbrev pub Agrees : {A : Type 0} → Option A → Option A → Type 0
@@ -49,7 +50,7 @@ among_same (word ∷ words) name = λ i. same_name-sym name word i || among_same
 passes_among : (test : Name → Bool) (words : List Name) (name : Name) → list_all test words ≡ true → is_among words name ≡ true → test name ≡ true
 passes_among test [] name all among = absurd (true≢false (sym among))
 passes_among test (word ∷ words) name all among =
-    let parts = both (test word) (list_all test words) all in
+    let parts = and_parts (test word) (list_all test words) all in
     by (same_name name word) refl among parts.0 (passes_among test words name parts.1)
   where
     by : (b : Bool) → same_name name word ≡ b → (b || is_among words name) ≡ true → test word ≡ true → (is_among words name ≡ true → test name ≡ true)
@@ -149,7 +150,7 @@ pub chosen_last : {F : Type 0} (test : Name → Bool) (word : Name) (forms : Lis
     → test word ≡ true → list_all (λ form. not (test form.0)) forms ≡ true → choose word forms other ≡ other
 chosen_last test word [] other passes none = refl
 chosen_last test word (form ∷ forms) other passes none =
-    let parts = both (not (test form.0)) (list_all (λ form. not (test form.0)) forms) none in
+    let parts = and_parts (not (test form.0)) (list_all (λ form. not (test form.0)) forms) none in
     by (same_name form.0 word) refl parts.0 (chosen_last test word forms other passes parts.1)
   where
     by : (b : Bool) → same_name form.0 word ≡ b → not (test form.0) ≡ true → choose word forms other ≡ other
@@ -245,7 +246,7 @@ all_allowed keywords words lists allowed among = ap (λ (b : Bool). if b then So
     all : (lists : List Headed) → are_among words lists ≡ true → list_all (λ section. has_name keywords section.word.name) (map the_section lists) ≡ true
     all [] among = refl
     all (list ∷ lists) among =
-        let parts = both (is_among words list.word.name) (are_among words lists) among in
+        let parts = and_parts (is_among words list.word.name) (are_among words lists) among in
         λ i. passes_among (has_name keywords) words list.word.name allowed parts.0 i && all lists parts.1 i
 
 named_are : (keyword : Name) (lists : List Headed)
@@ -264,7 +265,7 @@ pub none_named : (keyword : Name) (words : List Name) (lists : List Headed) → 
     → are_among words lists ≡ true → sections_named keyword (map the_section lists) ≡ []
 none_named keyword words [] others among = refl
 none_named keyword words (list ∷ lists) others among =
-    let parts = both (is_among words list.word.name) (are_among words lists) among in
+    let parts = and_parts (is_among words list.word.name) (are_among words lists) among in
     by (same_name list.word.name keyword) (passes_among (λ word. not (same_name word keyword)) words list.word.name others parts.0)
     (none_named keyword words lists others parts.1)
   where

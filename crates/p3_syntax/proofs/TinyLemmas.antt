@@ -2,7 +2,7 @@
 use Rattle.std.proofs.Common.{◌≡◌, ℕ, ◌+◌, ◌-◌, ◌*◌, ◌^◌, ◌<◌, ◌≤◌, Bool, true, false, ◌&&◌, if◌then◌else◌, List, [], ◌∷◌, length, fold, codes, Option, Some, None, IfSome, refl, ap, subst, arith}
 use Rattle.std.proofs.Math.Nat.{mul-le-mul_right, pow-suc, pow-le-pow_right}
 use Rattle.std.proofs.lemmas.Bool.Decides.{nat_tests}
-use Rattle.std.proofs.lemmas.Bool.{leb-true}
+use Rattle.std.proofs.lemmas.Bool.{and_parts, leb-true}
 use Rattle.std.specs.Prelude.{◌==◌, not, is_some, nat_le, nat_lt}
 use Rattle.std.specs.Char.{is_ascii_digit}
 use Rattle.std.specs.List.{list_all}
@@ -151,10 +151,6 @@ unfolding goal_among
 goal_is_wish sections =
     past (exactly_one (codes ":goal") sections) _ _ (λ list. past (only_part list.behind) _ _ (λ only. along (preference_of only) _ _ _ (preference_is_wish only) (λ pref is. is)))
 
-pub both : (a b : Bool) → (a && b) ≡ true → (a ≡ true) × (b ≡ true)
-both true b h = (refl, h)
-both false b h = absurd cc
-
 digit_below : (digit : ℕ) → is_ascii_digit digit ≡ true → digit - 48 ≤ 9
 digit_below digit is = grind (arith, nat_tests)
 
@@ -165,7 +161,7 @@ one_digit front digit power small = omega (arith, mul-le-mul_right power small)
 decimal_below : (digits : List ℕ) (front : ℕ) → list_all is_ascii_digit digits ≡ true → fold (λ value digit. value * 10 + (digit - 48)) front digits < (front + 1) * 10 ^ length digits
 decimal_below [] front all = omega arith
 decimal_below (digit ∷ digits) front all =
-    let parts = both (is_ascii_digit digit) (list_all is_ascii_digit digits) all in
+    let parts = and_parts (is_ascii_digit digit) (list_all is_ascii_digit digits) all in
     let later = decimal_below digits (front * 10 + (digit - 48)) parts.1 in
     rw (pow-suc 10 (length digits)) (omega (arith, later, one_digit front (digit - 48) (10 ^ length digits) (digit_below digit parts.0)))
 
@@ -180,8 +176,8 @@ numeral_is_short : (e : Expression) → IfSome (numeral_of e) IsShort
 unfolding numeral_of
 numeral_is_short e =
     past (word_of e) _ _ (λ word. IfSome-guard _ (is_short_number word.name) _ (λ fits.
-    let parts = both (not (length word.name == 0) && nat_le (length word.name) 15) (list_all is_ascii_digit word.name) fits in
-    let few : length word.name ≤ 15 = leb-true _ _ (both (not (length word.name == 0)) (nat_le (length word.name) 15) parts.0).1 in
+    let parts = and_parts (not (length word.name == 0) && nat_le (length word.name) 15) (list_all is_ascii_digit word.name) fits in
+    let few : length word.name ≤ 15 = leb-true _ _ (and_parts (not (length word.name == 0)) (nat_le (length word.name) 15) parts.0).1 in
     let power : 10 ^ length word.name ≤ 10 ^ 15 = pow-le-pow_right {n = 10} (omega arith) {i = length word.name} {j = 15} few in
     (refl, omega (arith, power, decimal_below word.name 0 parts.1))))
 
