@@ -4,6 +4,7 @@ use Rattle.std.specs.Prelude.{ℕ, flat_map}
 use Rattle.std.specs.List.{list_all}
 use Rattle.std.specs.Option.{option_map_or}
 use Rattle.std.specs.Str.{bytes_eq}
+use Rattle.std.proofs.lemmas.Bool.{or_parts, not-true}
 use Rattle.std.proofs.lemmas.Slice.Eq.{bytes_eq-Decides}
 use denote.Hole.Carrier.{out, shown}
 use mathlib.Core.Former.{none_left, one_more}
@@ -212,12 +213,8 @@ AreNew seen (header ∷ headers) = (has_name seen header.name.name ≡ false) ×
 still_new : (word : Ref) (seen : List Name) (headers : List Header) → is_declared headers word ≡ false → AreNew seen headers → AreNew (word.name ∷ seen) headers
 still_new word seen [] apart new = tt
 still_new word seen (header ∷ headers) apart new =
-    let both : (bytes_eq header.name.name word.name ≡ false) × (is_declared headers word ≡ false) = parts _ _ apart in
+    let both : (bytes_eq header.name.name word.name ≡ false) × (is_declared headers word ≡ false) = or_parts _ _ apart in
     ((λ i. same_turned header.name.name word.name both.0 i || new.0 i), still_new word seen headers both.1 new.1)
-  where
-    parts : (a b : Bool) → (a || b) ≡ false → (a ≡ false) × (b ≡ false)
-    parts true b e = absurd (cc)
-    parts false b e = (refl, e)
 
 none_seen : (headers : List Header) → AreNew [] headers
 none_seen [] = tt
@@ -227,11 +224,7 @@ once_after : (seen : List Name) (headers : List Header) → AreNew seen headers 
 once_after seen [] new distinct = refl
 once_after seen (header ∷ headers) new distinct =
     (λ i. unless (not (new.0 i)) header.name ++ repeated_after (header.name.name ∷ seen) (header_words headers))
-    ∙ once_after (header.name.name ∷ seen) headers (still_new header.name seen headers (untrue (is_declared headers header.name) (front_true _ (are_distinct headers) distinct)) new.1) (back_true (not (is_declared headers header.name)) _ distinct)
-  where
-    untrue : (test : Bool) → not test ≡ true → test ≡ false
-    untrue true e = absurd (cc)
-    untrue false e = refl
+    ∙ once_after (header.name.name ∷ seen) headers (still_new header.name seen headers (not-true (is_declared headers header.name) (front_true _ (are_distinct headers) distinct)) new.1) (back_true (not (is_declared headers header.name)) _ distinct)
 
 -- ---- a tiny task
 

@@ -3,6 +3,7 @@ use Rattle.std.proofs.Common.{◌≡◌, ◌∙◌, ℕ, Bool, true, not, List, 
 use Rattle.std.specs.Prelude.{if◌then◌else◌, codes}
 use Rattle.std.specs.Option.{option_or}
 use Rattle.std.specs.Fmt.{decimal}
+use Rattle.std.proofs.lemmas.Bool.{and_parts, not-true}
 use Rattle.p3_tree.specs.Names.{Name, same_name}
 use Rattle.p3_tree.specs.Erased.{erased_effect, erased_goal, erased_header, erased_init}
 use Rattle.p3_tree.specs.Grammar.Words.{◌>>=◌, all_trees, predicate_place, choose, digits_value, numeral_place}
@@ -23,7 +24,6 @@ use Rattle.p3_tree.specs.declared.goal.PreGoal.TheVariants as goal
 use Rattle.p3_tree.specs.declared.task.Init.TheVariants as init
 use Rattle.p3_tree.specs.declared.term.Ref.{Ref}
 use Rattle.p3_compile.specs.Written as w
-use Rattle.p3_cli.proofs.Texts.Words.{both_true, not_true}
 use Rattle.p3_cli.proofs.Texts.Symbols.{heads_none, Symbol, Number}
 
 -- what was found is the tree, but for offsets
@@ -49,8 +49,8 @@ given_more erase reads x xs tree trees first others = record {
 choose_other : {F : Type 0} (name : Name) (forms : List (Name × F)) (other : F) → heads_none name forms ≡ true → choose name forms other ≡ other
 choose_other name [] other e = refl
 choose_other name (form ∷ forms) other e =
-    let both = both_true (not (same_name form.0 name)) (heads_none name forms) e in
-    ap (λ same. if same then form.1 else choose name forms other) (not_true (same_name form.0 name) both.0) ∙ choose_other name forms other both.1
+    let both = and_parts (not (same_name form.0 name)) (heads_none name forms) e in
+    ap (λ same. if same then form.1 else choose name forms other) (not-true (same_name form.0 name) both.0) ∙ choose_other name forms other both.1
 
 abbrev pub at_offset : Name → ℕ → Ref
 at_offset name at = record { name = name; at = at }

@@ -8,6 +8,7 @@ use Rattle.std.specs.Str.Parse.{AllDigits, digits_value_after}
 use Rattle.std.proofs.lemmas.Fmt.{decimal_is_IsNumeral}
 use Rattle.std.proofs.lemmas.Str.Parse.{digit_from_value}
 use Rattle.std.proofs.lemmas.Str.{digit_value_digit}
+use Rattle.std.proofs.lemmas.Bool.{and_parts}
 use Rattle.std.proofs.lemmas.Bool.Decides.{nat_tests}
 use Rattle.p3_tree.specs.Names.{Name, same_name, has_name, total_cost}
 use Rattle.p3_tree.specs.Grammar.Words.{is_name, is_digit, is_number, reserved_words, digits_value}
@@ -16,7 +17,7 @@ use Rattle.p3_tree.specs.Grammar.Effects.{effect_forms}
 use Rattle.p3_tree.specs.Grammar.Goals.{goal_forms}
 use Rattle.p3_tree.specs.Grammar.Halves.{init_forms}
 use Rattle.p3_compile.specs.Written.{source_atom}
-use Rattle.p3_cli.proofs.Texts.Words.{is_lowered, IsWord, both_true}
+use Rattle.p3_cli.proofs.Texts.Words.{is_lowered, IsWord}
 
 -- no form begins with the name
 abbrev pub heads_none : {F : Type 0} → Name → List (Name × F) → Bool
@@ -67,7 +68,7 @@ digit_lowered digit e = grind (arith, nat_tests, e)
 pub digits_lowered : (text : Name) → list_all is_digit text ≡ true → list_all is_lowered text ≡ true
 digits_lowered [] e = refl
 digits_lowered (digit ∷ text) e =
-    let both = both_true (is_digit digit) (list_all is_digit text) e in
+    let both = and_parts (is_digit digit) (list_all is_digit text) e in
     λ i. digit_lowered digit both.0 i && digits_lowered text both.1 i
 
 -- ---- source atoms
@@ -76,7 +77,7 @@ digits_lowered (digit ∷ text) e =
 pub no_forall : (text : Name) → list_all is_digit text ≡ true → bytes_eq (codes "orall") text ≡ false
 no_forall [] e = refl
 no_forall (digit ∷ text) e =
-    let differ : (111 == digit) ≡ false = grind (arith, nat_tests, (both_true (is_digit digit) (list_all is_digit text) e).0) in
+    let differ : (111 == digit) ≡ false = grind (arith, nat_tests, (and_parts (is_digit digit) (list_all is_digit text) e).0) in
     ap (λ same. same && bytes_eq (codes "rall") text) differ
 
 abbrev pub source : ℕ → Symbol

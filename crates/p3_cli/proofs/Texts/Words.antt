@@ -3,6 +3,7 @@ use Rattle.std.proofs.Common.{◌≡◌, ◌∙◌, ℕ, ◌+◌, Bool, true, fa
 use Rattle.std.specs.Prelude.{◌==◌, nat_le, if◌then◌else◌}
 use Rattle.std.specs.List.{list_all}
 use Rattle.std.specs.Char.{to_ascii_lowercase}
+use Rattle.std.proofs.lemmas.Bool.{and_parts, not-true}
 use Rattle.std.proofs.lemmas.Bool.Decides.{nat_tests}
 use Rattle.p3_tree.specs.Names.{Name}
 use Rattle.p3_tree.specs.Tokens.{Token, Open, Close, Word, Tokens, is_blank, is_of_word, is_comment_after, before, joined, with_byte, tokens_from}
@@ -27,14 +28,6 @@ is_apart (byte ∷ bytes) = not (is_of_word byte)
 abbrev pub past : ℕ → Name → ℕ
 past at [] = at
 past at (byte ∷ bytes) = past (at + 1) bytes
-
-pub both_true : (first second : Bool) → (first && second) ≡ true → (first ≡ true) × (second ≡ true)
-both_true true second e = (refl, e)
-both_true false second e = absurd (cc)
-
-pub not_true : (test : Bool) → not test ≡ true → test ≡ false
-not_true true e = absurd (cc)
-not_true false e = refl
 
 -- ---- bytes, by the tests of them
 
@@ -102,7 +95,7 @@ from_next : (at : ℕ) (rest : List ℕ) → is_apart rest ≡ true → is_from 
 unfolding tokens_from
 from_next at [] apart = refl
 from_next at (byte ∷ bytes) apart =
-    let ends : is_of_word byte ≡ false = not_true (is_of_word byte) apart in
+    let ends : is_of_word byte ≡ false = not-true (is_of_word byte) apart in
     with_byte_from (at + 1) at byte _ (λ goes_on. absurd (cc)) (from_here bytes (is_comment_after false byte) (at + 1))
 
 -- ---- words
@@ -129,7 +122,7 @@ lowered byte e = record {
   opens = grind (arith, nat_tests, e);
   closes = grind (arith, nat_tests, e);
   comments = grind (arith, nat_tests, e);
-  goes_on = (both_true _ _ e).0;
+  goes_on = (and_parts _ _ e).0;
   same = grind (arith, nat_tests, e);
 }
 
@@ -144,13 +137,13 @@ pub word_read : (text : Name) → IsWord text → (at : ℕ) (rest : List ℕ) �
     → tokens_from false at (text ++ rest) ≡ before (Word at text) (tokens_from false (past at text) rest)
 word_read [] fits at rest apart = absurd (cc)
 word_read (byte ∷ []) fits at rest apart =
-    let own : Lowered byte = lowered byte (both_true _ _ fits).0 in
+    let own : Lowered byte = lowered byte (and_parts _ _ fits).0 in
     let later : Tokens = tokens_from false (at + 1) rest in
     byte_read at byte rest own
     ∙ (λ i. record { tokens = alone at byte later.tokens (from_next (at + 1) rest apart) i; foreign = later.foreign })
     ∙ (λ i. before (Word at (own.same i ∷ [])) later)
 word_read (byte ∷ next ∷ bytes) fits at rest apart =
-    let both : (is_lowered byte ≡ true) × (list_all is_lowered (next ∷ bytes) ≡ true) = both_true _ _ fits in
+    let both : (is_lowered byte ≡ true) × (list_all is_lowered (next ∷ bytes) ≡ true) = and_parts _ _ fits in
     let own : Lowered byte = lowered byte both.0 in
     let later : Tokens = tokens_from false (past (at + 1) (next ∷ bytes)) rest in
     let follows : (at + 1 == at + 1) ≡ true = grind (arith, nat_tests) in
