@@ -4,7 +4,7 @@ use Rattle.std.specs.Prelude.{ℕ, flat_map}
 use Rattle.std.specs.List.{list_all}
 use Rattle.std.specs.Option.{option_map_or}
 use Rattle.std.specs.Str.{bytes_eq}
-use Rattle.std.proofs.lemmas.Bool.{or_parts, not-true}
+use Rattle.std.proofs.lemmas.Bool.{and_parts, or_parts, not-true}
 use Rattle.std.proofs.lemmas.Slice.Eq.{bytes_eq-Decides}
 use denote.Hole.Carrier.{out, shown}
 use mathlib.Core.Former.{none_left, one_more}
@@ -14,7 +14,7 @@ use Rattle.p3_tree.specs.Offences.{unless, repeated_after, repeated, repeated_va
 use Rattle.p3_tree.specs.Tiny.{is_empty, Literal, Wish, Summand, is_plain_header, are_distinct, is_declared, has_declared_effect, has_declared_entry, has_declared_wish, is_atom_entry, literal_without, atom_in, literal_of_formula, literal_of_effect, named_wish, wish_of, weighted, product_of, summand_of, declares_all, is_well_formed_domain, is_tiny_domain, is_tiny_problem, is_tiny_task, IsTinyTask}
 use Rattle.p3_tree.proofs.Computes.{trees_compute}
 use Rattle.p3_tree.proofs.ShapeLemmas.{num_uses-Product}
-use Rattle.p3_tree.proofs.TinyParts.{front_true, back_true, DomainParts, ProblemParts, domain_parts, problem_parts, the_action, the_preference}
+use Rattle.p3_tree.proofs.TinyParts.{DomainParts, ProblemParts, domain_parts, problem_parts, the_action, the_preference}
 use Rattle.p3_tree.proofs.TinyReading.{OneAction, OnePreference}
 use Rattle.p3_tree.specs.declared.term.Ref.{Ref}
 use Rattle.p3_tree.specs.declared.term.Term.{Term}
@@ -174,8 +174,8 @@ no_clashing T _ (IsCounted name known) = refl
 plain_headers : (T : Task) (headers : List Header) → list_all is_plain_header headers ≡ true → AllFine T (flat_map header_uses headers)
 plain_headers T [] plain = tt
 plain_headers T (header ∷ headers) plain =
-    let none : header.params ≡ [] = none_in header.params (front_true (is_empty header.params) (list_all is_plain_header headers) plain) in
-    (subst (λ params. IsFine T (Variables params)) (sym none) NoVariables, plain_headers T headers (back_true (is_empty header.params) (list_all is_plain_header headers) plain))
+    let none : header.params ≡ [] = none_in header.params (and_parts (is_empty header.params) (list_all is_plain_header headers) plain).0 in
+    (subst (λ params. IsFine T (Variables params)) (sym none) NoVariables, plain_headers T headers (and_parts (is_empty header.params) (list_all is_plain_header headers) plain).1)
 
 entry_fine : (T : Task) (entry : Init) → is_atom_entry entry ≡ true → has_declared_entry T.domain.predicates entry ≡ true → AllFine T (init_uses entry)
 entry_fine T (init.True pred []) atom declared = (IsAtom pred [] declared, tt)
@@ -187,12 +187,12 @@ entries_fine : (T : Task) (entries : List Init) → list_all is_atom_entry entri
 entries_fine T [] atoms declared = tt
 entries_fine T (entry ∷ entries) atoms declared =
     fine_append T (init_uses entry) (flat_map init_uses entries)
-    (entry_fine T entry (front_true _ (list_all is_atom_entry entries) atoms) (front_true _ (list_all (has_declared_entry T.domain.predicates) entries) declared))
-    (entries_fine T entries (back_true (is_atom_entry entry) _ atoms) (back_true (has_declared_entry T.domain.predicates entry) _ declared))
+    (entry_fine T entry (and_parts _ (list_all is_atom_entry entries) atoms).0 (and_parts _ (list_all (has_declared_entry T.domain.predicates) entries) declared).0)
+    (entries_fine T entries (and_parts (is_atom_entry entry) _ atoms).1 (and_parts (has_declared_entry T.domain.predicates entry) _ declared).1)
 
 no_values : (seen entries : List Init) → list_all is_atom_entry entries ≡ true → repeated_values seen entries ≡ []
 no_values seen [] atoms = refl
-no_values seen (init.True pred args ∷ entries) atoms = no_values (init.True pred args ∷ seen) entries (back_true (is_atom_entry (init.True pred args)) _ atoms)
+no_values seen (init.True pred args ∷ entries) atoms = no_values (init.True pred args ∷ seen) entries (and_parts (is_atom_entry (init.True pred args)) _ atoms).1
 no_values seen (init.False pred args ∷ entries) atoms = absurd (cc)
 no_values seen (init.Value function args number ∷ entries) atoms = absurd (cc)
 
@@ -224,7 +224,7 @@ once_after : (seen : List Name) (headers : List Header) → AreNew seen headers 
 once_after seen [] new distinct = refl
 once_after seen (header ∷ headers) new distinct =
     (λ i. unless (not (new.0 i)) header.name ++ repeated_after (header.name.name ∷ seen) (header_words headers))
-    ∙ once_after (header.name.name ∷ seen) headers (still_new header.name seen headers (not-true (is_declared headers header.name) (front_true _ (are_distinct headers) distinct)) new.1) (back_true (not (is_declared headers header.name)) _ distinct)
+    ∙ once_after (header.name.name ∷ seen) headers (still_new header.name seen headers (not-true (is_declared headers header.name) (and_parts _ (are_distinct headers) distinct).0) new.1) (and_parts (not (is_declared headers header.name)) _ distinct).1
 
 -- ---- a tiny task
 
@@ -240,27 +240,27 @@ module _ (T : Task) (tiny : IsTinyTask T) where
 
   well_formed_domain : is_well_formed_domain T.domain ≡ true
   unfolding is_tiny_task is_tiny_domain
-  well_formed_domain = back_true _ (is_well_formed_domain T.domain) (front_true (is_tiny_domain T.domain) (is_tiny_problem T.problem) (front_true _ (declares_all T.domain T.problem) tiny))
+  well_formed_domain = (and_parts _ (is_well_formed_domain T.domain) (and_parts (is_tiny_domain T.domain) (is_tiny_problem T.problem) (and_parts _ (declares_all T.domain T.problem) tiny).0).0).1
 
   distinct : are_distinct T.domain.predicates ≡ true
   unfolding is_well_formed_domain
-  distinct = front_true (are_distinct T.domain.predicates) _ well_formed_domain
+  distinct = (and_parts (are_distinct T.domain.predicates) _ well_formed_domain).0
 
   effects_declared : list_all (has_declared_effect T.domain.predicates) T.domain.actions ≡ true
   unfolding is_well_formed_domain
-  effects_declared = back_true (are_distinct T.domain.predicates) _ well_formed_domain
+  effects_declared = (and_parts (are_distinct T.domain.predicates) _ well_formed_domain).1
 
   all_declared : declares_all T.domain T.problem ≡ true
   unfolding is_tiny_task
-  all_declared = back_true (is_tiny_domain T.domain && is_tiny_problem T.problem) _ tiny
+  all_declared = (and_parts (is_tiny_domain T.domain && is_tiny_problem T.problem) _ tiny).1
 
   entries_declared : list_all (has_declared_entry T.domain.predicates) T.problem.init ≡ true
   unfolding declares_all
-  entries_declared = front_true _ (has_declared_wish T.domain.predicates (wish_of T.problem.goal.body)) all_declared
+  entries_declared = (and_parts _ (has_declared_wish T.domain.predicates (wish_of T.problem.goal.body)) all_declared).0
 
   wish_declared : declares T.domain.predicates one.wish.literal.pred.name ≡ true
   unfolding declares_all
-  wish_declared = subst (λ wish. has_declared_wish T.domain.predicates wish ≡ true) one.wished (back_true (list_all (has_declared_entry T.domain.predicates) T.problem.init) _ all_declared)
+  wish_declared = subst (λ wish. has_declared_wish T.domain.predicates wish ≡ true) one.wished (and_parts (list_all (has_declared_entry T.domain.predicates) T.problem.init) _ all_declared).1
 
   -- ---- the domain
 
@@ -271,7 +271,7 @@ module _ (T : Task) (tiny : IsTinyTask T) where
     where
       declared : declares T.domain.predicates act.literal.pred.name ≡ true
       declared = subst (λ literal. option_map_or (λ (l : Literal). is_declared T.domain.predicates l.pred) literal true ≡ true) act.changes
-          (front_true (has_declared_effect T.domain.predicates act.action) true (subst (λ actions. list_all (has_declared_effect T.domain.predicates) actions ≡ true) act.only effects_declared))
+          (and_parts (has_declared_effect T.domain.predicates act.action) true (subst (λ actions. list_all (has_declared_effect T.domain.predicates) actions ≡ true) act.only effects_declared)).0
 
       uses : flat_map action_uses (act.action ∷ []) ≡ Variables [] ∷ AtomUse act.literal.pred [] [] ∷ []
       uses = (λ i. Variables (act.no_params i) ∷ (goal_uses (act.no_condition i) (scope_of (act.no_params i)) ++ effect_uses act.action.effect.body (scope_of (act.no_params i))) ++ [])

@@ -4,6 +4,7 @@ use Rattle.std.specs.Prelude.{codes, filter_map, flat_map, option_map}
 use Rattle.std.specs.List.{list_any, list_all}
 use Rattle.std.specs.Option.{option_and_then, option_map_or}
 use Rattle.std.proofs.Math.Bool.{or-true, or-false}
+use Rattle.std.proofs.lemmas.Bool.{and_parts}
 use Rattle.std.proofs.lemmas.List.Elements.{filter_map-append}
 use Rattle.std.proofs.lemmas.List.Folds.{list_any-append}
 use Rattle.std.proofs.lemmas.Slice.Eq.{bytes_eq-Decides}
@@ -16,7 +17,7 @@ use Rattle.p3_tree.specs.Tiny.{Literal, IsTinyTask, is_tiny_task, is_tiny_domain
 use Rattle.p3_tree.proofs.OneInstance.{Words, Running, one_instance_faithful}
 use Rattle.p3_tree.proofs.TinyMeaning.{truth, signed_by, fact_of_literal}
 use Rattle.p3_tree.proofs.TinyReading.{OneAction, OnePreference, the_step, reading_with_action, reading_without_action}
-use Rattle.p3_tree.proofs.TinyParts.{the_action, the_preference, front_true, back_true}
+use Rattle.p3_tree.proofs.TinyParts.{the_action, the_preference}
 use Rattle.p3_tree.specs.declared.metric.Metric.{Metric}
 use Rattle.p3_tree.specs.declared.task.Header.{Header}
 use Rattle.p3_tree.specs.declared.task.Step.{Step}
@@ -177,13 +178,13 @@ module _ (T : Task) (one : OnePreference T) (small : length T.domain.predicates 
 wish_declared : (T : Task) → IsTinyTask T → (one : OnePreference T) → list_any (λ header. same_name header.name.name one.wish.literal.pred.name) T.domain.predicates ≡ true
 unfolding is_tiny_task declares_all
 wish_declared T tiny one =
-    sym (ap (λ wish. has_declared_wish T.domain.predicates wish) one.wished) ∙ back_true (list_all (has_declared_entry T.domain.predicates) T.problem.init) _ (back_true (is_tiny_domain T.domain && is_tiny_problem T.problem) (declares_all T.domain T.problem) tiny)
+    sym (ap (λ wish. has_declared_wish T.domain.predicates wish) one.wished) ∙ (and_parts (list_all (has_declared_entry T.domain.predicates) T.problem.init) _ (and_parts (is_tiny_domain T.domain && is_tiny_problem T.problem) (declares_all T.domain T.problem) tiny).1).1
 
 effect_declared : (T : Task) → IsTinyTask T → (act : OneAction T) → list_any (λ header. same_name header.name.name act.literal.pred.name) T.domain.predicates ≡ true
 unfolding is_tiny_task is_tiny_domain is_well_formed_domain
 effect_declared T tiny act =
-    let domain : is_tiny_domain T.domain ≡ true = front_true (is_tiny_domain T.domain) (is_tiny_problem T.problem) (front_true (is_tiny_domain T.domain && is_tiny_problem T.problem) (declares_all T.domain T.problem) tiny) in
-    let effects : list_all (has_declared_effect T.domain.predicates) T.domain.actions ≡ true = back_true _ _ (back_true (has_tiny_domain_shape T.domain) (is_well_formed_domain T.domain) domain) in
+    let domain : is_tiny_domain T.domain ≡ true = (and_parts (is_tiny_domain T.domain) (is_tiny_problem T.problem) (and_parts (is_tiny_domain T.domain && is_tiny_problem T.problem) (declares_all T.domain T.problem) tiny).0).0 in
+    let effects : list_all (has_declared_effect T.domain.predicates) T.domain.actions ≡ true = (and_parts _ _ (and_parts (has_tiny_domain_shape T.domain) (is_well_formed_domain T.domain) domain).1).1 in
     sym (ap (list_all (has_declared_effect T.domain.predicates)) act.only ∙ ap (λ found. option_map_or (λ (literal : Literal). is_declared T.domain.predicates literal.pred) found true && true) act.changes ∙ and_yes _) ∙ effects
   where
     and_yes : (test : Bool) → (test && true) ≡ test

@@ -1,7 +1,8 @@
 -- What a tiny task has.
-use Rattle.std.proofs.Common.{◌≡◌, ◌⊎◌, inl, inr, refl, Bool, true, false, ◌&&◌, List, [], ◌∷◌, Option, Some, None, is_some}
+use Rattle.std.proofs.Common.{◌≡◌, ◌⊎◌, inl, inr, refl, true, false, List, [], ◌∷◌, Option, Some, None, is_some}
 use Rattle.std.specs.List.{list_all}
 use Rattle.std.specs.Option.{option_map_or, option_and_then}
+use Rattle.std.proofs.lemmas.Bool.{and_parts}
 use Rattle.std.proofs.lemmas.Slice.Eq.{bytes_eq-Decides}
 use Rattle.p3_base.specs.declared.refusal.Direction.{Direction}
 use Rattle.p3_base.specs.declared.refusal.Direction.TheVariants.{Minimize, Maximize}
@@ -15,14 +16,6 @@ use Rattle.p3_tree.specs.declared.task.Action.{Action}
 use Rattle.p3_tree.specs.declared.task.Domain.{Domain}
 use Rattle.p3_tree.specs.declared.task.Problem.{Problem}
 use Rattle.p3_tree.specs.declared.task.Task.{Task}
-
-pub front_true : (a b : Bool) → (a && b) ≡ true → a ≡ true
-front_true true b e = refl
-front_true false b e = e
-
-pub back_true : (a b : Bool) → (a && b) ≡ true → b ≡ true
-back_true true b e = e
-back_true false b e = absurd (cc)
 
 -- ---- the parts of the tests
 
@@ -38,13 +31,13 @@ pub record DomainParts (D : Domain) : Type 0 where
 pub domain_parts : (T : Task) → IsTinyTask T → DomainParts T.domain
 unfolding is_tiny_task is_tiny_domain
 domain_parts T tiny =
-    let shape : has_tiny_domain_shape T.domain ≡ true = front_true (has_tiny_domain_shape T.domain) (is_well_formed_domain T.domain) (front_true (is_tiny_domain T.domain) (is_tiny_problem T.problem) (front_true _ (declares_all T.domain T.problem) tiny)) in
-    let six : _ ≡ true = front_true _ _ shape in
-    let five : _ ≡ true = front_true _ _ six in
-    let four : _ ≡ true = front_true _ _ five in
-    let three : _ ≡ true = front_true _ _ four in
-    let two : _ ≡ true = front_true _ _ three in
-    record { kinds = front_true _ _ two; constants = back_true _ _ two; functions = back_true _ _ three; constraints = back_true _ _ four; predicates = back_true _ _ five; one_at_most = back_true _ _ six; actions = back_true _ _ shape }
+    let shape : has_tiny_domain_shape T.domain ≡ true = (and_parts (has_tiny_domain_shape T.domain) (is_well_formed_domain T.domain) (and_parts (is_tiny_domain T.domain) (is_tiny_problem T.problem) (and_parts _ (declares_all T.domain T.problem) tiny).0).0).0 in
+    let six : _ ≡ true = (and_parts _ _ shape).0 in
+    let five : _ ≡ true = (and_parts _ _ six).0 in
+    let four : _ ≡ true = (and_parts _ _ five).0 in
+    let three : _ ≡ true = (and_parts _ _ four).0 in
+    let two : _ ≡ true = (and_parts _ _ three).0 in
+    record { kinds = (and_parts _ _ two).0; constants = (and_parts _ _ two).1; functions = (and_parts _ _ three).1; constraints = (and_parts _ _ four).1; predicates = (and_parts _ _ five).1; one_at_most = (and_parts _ _ six).1; actions = (and_parts _ _ shape).1 }
 
 pub record ProblemParts (P : Problem) : Type 0 where
   pub objects : is_empty P.objects ≡ true
@@ -57,21 +50,21 @@ pub record ProblemParts (P : Problem) : Type 0 where
 pub problem_parts : (T : Task) → IsTinyTask T → ProblemParts T.problem
 unfolding is_tiny_task is_tiny_problem is_well_formed_problem
 problem_parts T tiny =
-    let both : _ ≡ true = back_true (is_tiny_domain T.domain) (is_tiny_problem T.problem) (front_true _ (declares_all T.domain T.problem) tiny) in
-    let shape : has_tiny_problem_shape T.problem ≡ true = front_true (has_tiny_problem_shape T.problem) _ both in
-    let four : _ ≡ true = front_true _ _ shape in
-    let three : _ ≡ true = front_true _ _ four in
-    let two : _ ≡ true = front_true _ _ three in
-    record { objects = front_true _ _ two; init = back_true _ _ two; wish = back_true _ _ three; constraints = back_true _ _ four; metric = back_true _ _ shape; counted = back_true (has_tiny_problem_shape T.problem) _ both }
+    let both : _ ≡ true = (and_parts (is_tiny_domain T.domain) (is_tiny_problem T.problem) (and_parts _ (declares_all T.domain T.problem) tiny).0).1 in
+    let shape : has_tiny_problem_shape T.problem ≡ true = (and_parts (has_tiny_problem_shape T.problem) _ both).0 in
+    let four : _ ≡ true = (and_parts _ _ shape).0 in
+    let three : _ ≡ true = (and_parts _ _ four).0 in
+    let two : _ ≡ true = (and_parts _ _ three).0 in
+    record { objects = (and_parts _ _ two).0; init = (and_parts _ _ two).1; wish = (and_parts _ _ three).1; constraints = (and_parts _ _ four).1; metric = (and_parts _ _ shape).1; counted = (and_parts (has_tiny_problem_shape T.problem) _ both).1 }
 
 -- ---- the action
 
 one_action : (T : Task) (actions : List Action) → T.domain.actions ≡ actions → has_one_at_most actions ≡ true → list_all is_tiny_action actions ≡ true → OneAction T ⊎ (T.domain.actions ≡ [])
 one_action T [] is one tiny = inr is
 one_action T (action ∷ []) is one tiny =
-    let own : is_tiny_action action ≡ true = front_true _ _ tiny in
-    let two : _ ≡ true = front_true _ _ own in
-    inl (with_literal (literal_of_effect action.effect.body) refl (back_true _ _ own) (no_items action.params (front_true _ _ two)) (nothing_is action.pre.body (back_true _ _ two)))
+    let own : is_tiny_action action ≡ true = (and_parts _ _ tiny).0 in
+    let two : _ ≡ true = (and_parts _ _ own).0 in
+    inl (with_literal (literal_of_effect action.effect.body) refl (and_parts _ _ own).1 (no_items action.params (and_parts _ _ two).0) (nothing_is action.pre.body (and_parts _ _ two).1))
   where
     no_items : {A : Type 0} (items : List A) → is_empty items ≡ true → items ≡ []
     no_items [] e = refl
@@ -108,7 +101,7 @@ preference_of T parts free (Some wish) (Some metric) wished given tiny same = wi
       wished = wished;
       metric = metric;
       given = given;
-      minimal = minimal_of metric.direction (front_true _ _ tiny);
+      minimal = minimal_of metric.direction (and_parts _ _ tiny).0;
       summand = summand;
       summed = e;
       counted = (bytes_eq-Decides wish.name.name summand.name.name).0 same_name;
