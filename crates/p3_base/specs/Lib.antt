@@ -1,4 +1,5 @@
 pub mod Memory
 pub mod Outside
 pub mod Place
+pub mod Words
 pub mod formers

@@ -38,7 +38,7 @@ module _ (state : State) (effects : List Change) where
   is_set-after atom within = get_or-map-range_with_len (is_set_after state effects) 0 (length state) atom atom false within (omega arith)
 
   -- an atom beyond the state stays unset
-  is_set-beyond : (atom : ℕ) → length state ≤ atom → is_set (after state effects) atom ≡ is_set state atom
+  pub is_set-beyond : (atom : ℕ) → length state ≤ atom → is_set (after state effects) atom ≡ is_set state atom
   is_set-beyond atom beyond =
       get_or-eq_default (after state effects) false (let e = length-after in omega arith) ∙ sym (get_or-eq_default state false beyond)
 

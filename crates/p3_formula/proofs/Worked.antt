@@ -1,5 +1,5 @@
 -- The smallest useful task: one step that sets an atom, and a preference of weight 5 on it at the end.
-use Rattle.std.proofs.Common.{◌≡◌, refl, ℕ, true, false, List, [], ◌∷◌, Some, None, pos}
+use Rattle.std.proofs.Common.{◌≡◌, refl, ℕ, true, false, List, [], ◌∷◌, Some, pos}
 use Rattle.std.specs.Prelude.{codes}
 use Rattle.std.specs.Fmt.{digits}
 use Rattle.p3_base.specs.declared.refusal.Direction.TheVariants.{Minimize}
@@ -8,14 +8,12 @@ use Rattle.p3_formula.specs.Forms.{truth}
 use Rattle.p3_formula.specs.Next.{after}
 use Rattle.p3_formula.specs.GroundSat.{ground_sat}
 use Rattle.p3_formula.specs.GroundPlans.{visited_from, is_ground_valid, ground_violated, ground_cost, ground_loss}
-use Rattle.p3_formula.specs.Targets.{reaches_goal, target_cost, ground_lift}
+use Rattle.p3_formula.specs.Targets.{IsNamed, reaches_goal, target_cost, ground_lift}
 use Rattle.p3_formula.specs.declared.form.Change.{Change}
-use Rattle.p3_formula.specs.declared.form.Form.{Form}
 use Rattle.p3_formula.specs.declared.form.Form.TheBlock.{hidden-the_row-Form-0, hidden-the_row-Form-1, shape-the_row-Form-0, shape-the_row-Form-1}
 use Rattle.p3_formula.specs.declared.form.Form.TheVariants.{True, Atom, Not, And}
 use Rattle.p3_formula.specs.declared.modal.GroundModal.TheVariants.{AtEnd}
 use Rattle.p3_formula.specs.declared.target.Target.{Target}
-use Rattle.p3_formula.specs.declared.target.TargetAction.{TargetAction}
 use Rattle.p3_formula.specs.declared.target.Weights.{Weights}
 use Rattle.p3_formula.specs.declared.task.GroundTask.{GroundTask}
 
@@ -92,3 +90,8 @@ collected = (refl, refl, refl)
 pub not_forgone : reaches_goal target (target.initial) (codes "s0v" ∷ codes "finish" ∷ codes "forgo0" ∷ []) ≡ false
 unfolding computes
 not_forgone = refl
+
+-- its names are names of the grammar, and differ
+pub target_named : IsNamed target
+unfolding computes
+target_named = record { predicates = refl; actions = refl; endings = refl }

@@ -4,7 +4,6 @@ use Rattle.std.specs.List.{list_all, range_with_len}
 use Rattle.p3_formula.specs.Forms.{State, truth}
 use Rattle.p3_formula.specs.Next.{after}
 use Rattle.p3_formula.specs.GroundSat.{ground_sat}
-use Rattle.p3_formula.specs.declared.modal.GroundModal.{GroundModal}
 use Rattle.p3_formula.specs.declared.modal.GroundPref.{GroundPref}
 use Rattle.p3_formula.specs.declared.modal.GroundSoft.{GroundSoft}
 use Rattle.p3_formula.specs.declared.target.Weights.{Weights}

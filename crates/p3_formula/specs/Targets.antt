@@ -1,19 +1,16 @@
 -- The plans of a target, how they lift to ground plans, and what it is that a target is a compiled ground task (Keyder and Geffner's end phase; names of steps are this project's profile).
-use Rattle.std.specs.Prelude.{◌≡◌, ℕ, ◌+◌, ◌-◌, ◌==◌, nat_lt, Bool, true, false, not, ◌&&◌, ◌||◌, List, [], ◌∷◌, ◌++◌, length, find, filter_map, sum_by, slice_index_or, codes, Option, Some, None, is_none, IsTrue, Contains, bytes_eq}
+use Rattle.std.specs.Prelude.{◌≡◌, ℕ, ◌+◌, ◌==◌, nat_lt, Bool, true, false, not, ◌&&◌, ◌||◌, List, [], ◌∷◌, ◌++◌, length, map, find, filter_map, sum_by, codes, Option, Some, None, IsTrue, Contains, bytes_eq}
 use Rattle.std.specs.List.{list_all, range_with_len, starts_with}
 use Rattle.std.specs.Fmt.{decimal}
+use Rattle.p3_base.specs.Words.{Name, has_name, is_name, is_number, is_predicate_name}
 use Rattle.p3_formula.specs.Forms.{State, truth, has_atoms}
 use Rattle.p3_formula.specs.Next.{after}
-use Rattle.p3_formula.specs.GroundPlans.{GroundPlan, GroundValid, ground_loss, last_of}
+use Rattle.p3_formula.specs.GroundPlans.{GroundPlan, GroundValid, ground_loss}
 use Rattle.p3_formula.specs.declared.form.Change.{Change}
-use Rattle.p3_formula.specs.declared.form.Form.{Form}
 use Rattle.p3_formula.specs.declared.target.Target.{Target}
 use Rattle.p3_formula.specs.declared.target.TargetAction.{TargetAction}
 use Rattle.p3_formula.specs.declared.target.Weights.{Weights}
 use Rattle.p3_formula.specs.declared.task.GroundTask.{GroundTask}
-
-abbrev pub Name : Type 0
-Name = List ℕ
 
 -- the names of its actions
 abbrev pub TargetPlan : Type 0
@@ -74,6 +71,25 @@ pub record IsSized (X : Target) : Type 0 where
   pub goal : IsTrue (has_atoms (λ atom. nat_lt atom (length X.predicates)) X.goal)
   pub actions : IsTrue (list_all (is_sized_action (length X.predicates)) X.actions)
 
+-- no two of the names are the same
+abbrev pub are_different : List Name → Bool
+are_different [] = true
+are_different (name ∷ names) = not (has_name names name) && are_different names
+
+-- it ends with the letter `c` and a number
+abbrev pub ends_with_c_number : Name → Bool
+ends_with_c_number [] = false
+ends_with_c_number (byte ∷ bytes) = (byte == 99) && is_number bytes || ends_with_c_number bytes
+
+abbrev pub action_names : Target → List Name
+action_names X = map (λ (action : TargetAction). action.name) X.actions
+
+-- its names are names of the grammar, no two predicates and no two actions have the same, and no action's name ends with `c` and a number
+pub record IsNamed (X : Target) : Type 0 where
+  pub predicates : IsTrue (list_all is_predicate_name X.predicates && are_different X.predicates)
+  pub actions : IsTrue (list_all is_name (action_names X) && are_different (action_names X))
+  pub endings : IsTrue (list_all (λ name. not (ends_with_c_number name)) (action_names X))
+
 -- the states that actions lead to from one on
 pub data Leads (X : Target) (from : State) : State → Type 0 where
   Here : Leads X from from
@@ -112,5 +128,6 @@ pub record Compiled (G : GroundTask) (weights : Weights) (X : Target) : Type 0 w
   pub sound : (q : TargetPlan) → TargetValid X q → IsSoundFor G weights X q
   pub one_to_one : (p : GroundPlan) → GroundValid G p → HasOneOrigin G X p
   pub length : (q : TargetPlan) → TargetValid X q → length q ≡ length (ground_lift G q) + 1 + length G.soft
+  pub named : IsNamed X
   pub sized : IsSized X
   pub led : IsLed G X

@@ -1,7 +1,8 @@
 -- Words and lists of words, as every production names them.
-use Rattle.std.specs.Prelude.{ℕ, Bool, false, if◌then◌else◌, nat_le, ◌&&◌, List, [], ◌∷◌, filter, Option, Some, None, codes}
+use Rattle.std.specs.Prelude.{ℕ, Bool, false, if◌then◌else◌, List, [], ◌∷◌, filter, Option, Some, None, codes}
 use Rattle.std.specs.List.{list_any}
 use Rattle.std.specs.Str.{bytes_eq}
+use Rattle.p3_base.specs.Words.{is_letter}
 use Rattle.p3_tree.specs.declared.expression.Expression.{Expression, out-Expression}
 use Rattle.p3_tree.specs.declared.expression.Expression.TheOpen.{Expression-F}
 use Rattle.p3_tree.specs.declared.term.Ref.{Ref}
@@ -22,9 +23,6 @@ word_of e = word_in (out-Expression e)
 -- the parts of a list
 unfoldable pub parts_of : Expression → Option (List Expression)
 parts_of e = parts_in (out-Expression e)
-
-abbrev pub is_letter : ℕ → Bool
-is_letter byte = nat_le 97 byte && nat_le byte 122
 
 -- a name begins with a letter
 abbrev pub begins_with_letter : List ℕ → Bool

@@ -7,7 +7,7 @@ use Rattle.p3_base.specs.declared.refusal.Refusal.{Refusal}
 use Rattle.p3_base.specs.declared.refusal.Role.TheVariants.{Plan}
 use Rattle.p3_tree.specs.Names.{Name}
 use Rattle.p3_tree.specs.Plans as plans
-use Rattle.p3_tree.specs.Tokens.{Token, Tokens, Open, Close, Word, tokens_of}
+use Rattle.p3_tree.specs.Tokens.{Token, Open, Close, Word, tokens_of}
 use Rattle.p3_tree.specs.declared.task.Step.{Step}
 
 -- ---- the text of a plan

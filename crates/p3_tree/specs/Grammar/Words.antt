@@ -1,8 +1,8 @@
 -- Words, lists and places of the grammar. A place gives the tree of each of its texts, so that a text has one tree at most.
-use Rattle.std.specs.Prelude.{◌≡◌, ℕ, ◌+◌, ◌-◌, ◌*◌, ◌==◌, nat_le, Bool, false, not, ◌&&◌, List, [], ◌∷◌, map, fold, length, codes, if◌then◌else◌, Option, Some, None}
-use Rattle.std.specs.List.{list_all}
+use Rattle.std.specs.Prelude.{◌≡◌, ℕ, ◌+◌, ◌-◌, ◌*◌, Bool, List, [], ◌∷◌, map, fold, length, if◌then◌else◌, Option, Some, None}
 use mathlib.Core.Former.{Count}
-use Rattle.p3_tree.specs.Names.{Name, same_name, has_name, total_cost}
+pub use Rattle.p3_base.specs.Words.{is_digit, is_name, is_variable, is_number, reserved_words, is_function_name, is_predicate_name}
+use Rattle.p3_tree.specs.Names.{Name, same_name}
 use Rattle.p3_tree.specs.declared.expression.Expression.{Expression, Word, Group', Row_of-Expression, end_of-Expression, more_of-Expression}
 use Rattle.p3_tree.specs.declared.term.Ref.{Ref}
 use Rattle.p3_tree.specs.declared.effect.Numeral.{Numeral}
@@ -73,33 +73,6 @@ abbrev pub parts_place : Place (List Expression)
 parts_place (Word at text) = None
 parts_place (Group' at shape parts) = Some (expressions parts)
 
-abbrev pub is_letter : ℕ → Bool
-is_letter byte = nat_le 97 byte && nat_le byte 122
-
-abbrev pub is_digit : ℕ → Bool
-is_digit byte = nat_le 48 byte && nat_le byte 57
-
--- a name begins with a letter
-abbrev pub is_name : Name → Bool
-is_name [] = false
-is_name (byte ∷ bytes) = is_letter byte
-
--- a variable is `?` and at least one further byte
-abbrev pub is_variable : Name → Bool
-is_variable (byte ∷ next ∷ bytes) = byte == 63
-is_variable _ = false
-
--- a number is digits only
-abbrev pub is_number : Name → Bool
-is_number [] = false
-is_number (byte ∷ bytes) = list_all is_digit (byte ∷ bytes)
-
--- no predicate or function has these names
-abbrev pub reserved_words : List Name
-reserved_words = map codes ("and" ∷ "or" ∷ "not" ∷ "imply" ∷ "exists" ∷ "forall" ∷ "when" ∷ "preference" ∷ "increase" ∷ "either" ∷ "define" ∷ "is-violated" ∷ "total-time"
-    ∷ "always" ∷ "sometime" ∷ "at-most-once" ∷ "sometime-after" ∷ "sometime-before" ∷ "within" ∷ "always-within" ∷ "hold-during" ∷ "hold-after"
-    ∷ "assign" ∷ "decrease" ∷ "scale-up" ∷ "scale-down" ∷ [])
-
 -- a word that passes a test
 abbrev pub word_if : (Name → Bool) → Place Ref
 word_if test e = do
@@ -114,10 +87,10 @@ variable_place = word_if is_variable
 
 -- the name of a function, and of a predicate, which `total-cost` is not
 abbrev pub function_place : Place Ref
-function_place = word_if (λ name. is_name name && not (has_name reserved_words name))
+function_place = word_if is_function_name
 
 abbrev pub predicate_place : Place Ref
-predicate_place = word_if (λ name. is_name name && not (has_name reserved_words name) && not (same_name name total_cost))
+predicate_place = word_if is_predicate_name
 
 abbrev pub digits_value : Name → ℕ
 digits_value digits = fold (λ value digit. value * 10 + (digit - 48)) 0 digits
