@@ -1,0 +1,134 @@
+-- The changes of a monitor beside those of a step and of others.
+use Rattle.std.proofs.Common.{◌≡◌, ◌∙◌, ℕ, ◌+◌, ◌<◌, ◌≤◌, nat_lt, nat_le, ◌==◌, Bool, true, false, not, ◌&&◌, ◌||◌, List, [], ◌∷◌, ◌++◌, length, refl, sym, ap, arith}
+use Rattle.std.specs.List.{list_any}
+use Rattle.std.proofs.lemmas.Bool.{and_parts, or_from, true≢false, lt-ltb, le-leb}
+use Rattle.std.proofs.lemmas.Bool.Decides.{nat_tests}
+use Rattle.std.proofs.lemmas.List.Folds.{list_any-append}
+use Rattle.p3_formula.specs.Forms.{State, is_set, truth, has_atoms}
+use Rattle.p3_formula.specs.GroundPlans.{last_of}
+use Rattle.p3_formula.specs.Next.{is_set_after, after}
+use Rattle.p3_formula.specs.declared.form.Change.{Change}
+use Rattle.p3_formula.specs.declared.form.Form.{Form}
+use Rattle.p3_formula.specs.declared.modal.GroundModal.{GroundModal}
+use Rattle.p3_formula.proofs.NextLaws.{length-after, is_set-after, is_set-beyond, is_set_after-front, is_set_after-back, truth-agree}
+use Rattle.p3_regress.specs.Regressed.{IsTrueBefore}
+use Rattle.p3_monitors.specs.Kept.{is_read, is_own, atom_count, watched, IsModalBelow, Agree, AreAt, Kept, HasNone, AreOwn, AreOthers}
+use Rattle.p3_monitors.specs.Updates.{change}
+use Rattle.p3_monitors.proofs.ReadAtoms.{same_number, has_more, read_below}
+use Rattle.p3_monitors.proofs.WatchedLaws.{length-watched, last-next}
+
+-- ---- atoms that no change names
+
+none_head : (atoms : ℕ → Bool) (one atom : ℕ) → not (atoms one) ≡ true → atoms atom ≡ true → (one == atom) ≡ false
+none_head atoms one atom free at = by (one == atom) refl where
+  by : (b : Bool) → (one == atom) ≡ b → (one == atom) ≡ false
+  by false e = e
+  by true e = let same : one ≡ atom = grind (arith, nat_tests) in absurd (true≢false (sym free ∙ ap (λ a. not (atoms a)) same ∙ ap not at))
+
+pub none_named : (atoms : ℕ → Bool) (atom : ℕ) (effects : List Change) → HasNone atoms effects → atoms atom ≡ true → list_any (λ change. change.atom == atom) effects ≡ false
+none_named atoms atom [] free at = refl
+none_named atoms atom (change ∷ rest) free at =
+    let parts = and_parts (not (atoms change.atom)) _ free in
+    or_from (change.atom == atom) _ (none_head atoms change.atom atom parts.0 at) (none_named atoms atom rest parts.1 at)
+
+twice : (b : Bool) → not (not b) ≡ b
+twice true = refl
+twice false = refl
+
+pub own_named : (base : ℕ) (modal : GroundModal) (atom : ℕ) (effects : List Change) → AreOwn base modal effects → is_own base modal atom ≡ false → list_any (λ change. change.atom == atom) effects ≡ false
+own_named base modal atom [] own outside = refl
+own_named base modal atom (change ∷ rest) own outside =
+    let parts = and_parts (is_own base modal change.atom) _ own in
+    or_from (change.atom == atom) _
+    (none_head (λ a. not (is_own base modal a)) change.atom atom (twice (is_own base modal change.atom) ∙ parts.0) (ap not outside))
+    (own_named base modal atom rest parts.1 outside)
+
+pub own_from : (base : ℕ) (modal : GroundModal) (atom : ℕ) → base ≤ atom → atom < base + atom_count modal → is_own base modal atom ≡ true
+own_from base modal atom from below = ap (λ b. b && nat_lt atom (base + atom_count modal)) (le-leb base atom from) ∙ lt-ltb atom (base + atom_count modal) below
+
+lower_outside : (base : ℕ) (modal : GroundModal) (atom : ℕ) → atom < base → is_own base modal atom ≡ false
+lower_outside base modal atom lt = let low : nat_le base atom ≡ false = grind (arith, nat_tests) in ap (λ b. b && nat_lt atom (base + atom_count modal)) low
+
+-- atoms that are not the monitor's are as without its changes
+pub others_stay : (base : ℕ) (modal : GroundModal) (step effects : List Change) → AreOwn base modal effects → (state : State) (atom : ℕ) → is_own base modal atom ≡ false
+    → is_set (after state (step ++ effects)) atom ≡ is_set (after state step) atom
+others_stay base modal step effects own state atom outside = by (nat_lt atom (length state)) refl where
+  none : list_any (λ change. change.atom == atom) effects ≡ false
+  none = own_named base modal atom effects own outside
+
+  by : (b : Bool) → nat_lt atom (length state) ≡ b → is_set (after state (step ++ effects)) atom ≡ is_set (after state step) atom
+  by true lt =
+      let within : atom < length state = grind (arith, nat_tests) in
+      is_set-after state (step ++ effects) atom within ∙ is_set_after-front state step effects atom none ∙ sym (is_set-after state step atom within)
+  by false ge =
+      let beyond : length state ≤ atom = grind (arith, nat_tests) in
+      is_set-beyond state (step ++ effects) atom beyond ∙ sym (is_set-beyond state step atom beyond)
+
+-- ---- a step with the changes of the monitor and others
+
+module _ (base : ℕ) (modal : GroundModal) (step effects : List Change) (below : IsModalBelow base modal) (free : HasNone (is_own base modal) step) (own : AreOwn base modal effects) where
+  module _ (W : List State) (state next : State) (others : List Change) (kept : Kept base modal W state) (apart : AreOthers base modal others) (agree : Agree modal (after state (step ++ (effects ++ others))) next) where
+    inside : base + atom_count modal ≤ length state
+    inside = let l = length-watched W modal in let room = kept.room in omega arith
+
+    -- an atom of the constraint is as after the step alone
+    read_after : (atom : ℕ) → is_read modal atom ≡ true → is_set (after state (step ++ (effects ++ others))) atom ≡ is_set (after state step) atom
+    read_after atom read =
+        let lt = read_below base modal below atom read in
+        let room = inside in
+        let within : atom < length state = omega arith in
+        let none = list_any-append (λ change. change.atom == atom) effects others ∙ or_from _ _ (own_named base modal atom effects own (lower_outside base modal atom lt)) (none_named (is_read modal) atom others apart.read read) in
+        is_set-after state (step ++ (effects ++ others)) atom within
+        ∙ is_set_after-front state step (effects ++ others) atom none
+        ∙ sym (is_set-after state step atom within)
+
+    -- an atom of the monitor is as after its changes alone
+    pub own_after : (atom : ℕ) → base ≤ atom → atom < base + atom_count modal → is_set (after state (step ++ (effects ++ others))) atom ≡ is_set_after state effects atom
+    own_after atom from lt =
+        let room = inside in
+        let mine = own_from base modal atom from lt in
+        is_set-after state (step ++ (effects ++ others)) atom (omega arith)
+        ∙ is_set_after-back state step (effects ++ others) atom (none_named (is_own base modal) atom step free mine)
+        ∙ is_set_after-front state effects others atom (none_named (is_own base modal) atom others apart.own mine)
+
+    module _ (form : Form) (reads : has_atoms (is_read modal) form ≡ true) where
+      -- a form of the constraint, before the step
+      pub truth_now : truth state form ≡ truth (last_of W) form
+      truth_now = truth-agree state (last_of W) (is_read modal) kept.agrees form reads
+
+      -- and after it, as its regressed form tells before it
+      pub truth_later : (before : Form) → IsTrueBefore step form before → truth state before ≡ truth next form
+      truth_later before regressed =
+          let room = inside in
+          regressed state (has_more (is_read modal) (λ atom. nat_lt atom (length state)) (λ atom read. let lt = read_below base modal below atom read in lt-ltb atom (length state) (omega arith)) form reads)
+          ∙ truth-agree (after state step) (after state (step ++ (effects ++ others))) (is_read modal) (λ atom read. sym (read_after atom read)) form reads
+          ∙ truth-agree (after state (step ++ (effects ++ others))) next (is_read modal) agree form reads
+
+    -- with the right bits, the monitor is kept
+    pub keeps : AreAt base (watched (W ++ next ∷ []) modal) (after state (step ++ (effects ++ others))) → Kept base modal (W ++ next ∷ []) (after state (step ++ (effects ++ others)))
+    keeps bits = record {
+      agrees = λ atom read. agree atom read ∙ ap (λ s. is_set s atom) (sym (last-next W next));
+      room = let l = length-watched (W ++ next ∷ []) modal in let a = length-after state (step ++ (effects ++ others)) in let room = inside in omega arith;
+      stand = bits;
+    }
+
+-- ---- what one change does to its atom
+
+module _ (state : State) (atom : ℕ) where
+  adds : (a b : Bool) (test : Bool) → test ≡ true → ((test && true && a || false) || (b && not (test && false && a || false))) ≡ (b || a)
+  adds true true test e = ap (λ t. (t && true && true || false) || (true && not (t && false && true || false))) e
+  adds true false test e = ap (λ t. (t && true && true || false) || (false && not (t && false && true || false))) e
+  adds false true test e = ap (λ t. (t && true && false || false) || (true && not (t && false && false || false))) e
+  adds false false test e = ap (λ t. (t && true && false || false) || (false && not (t && false && false || false))) e
+
+  pub set_by : (cond : Form) → is_set_after state (change true atom cond ∷ []) atom ≡ (is_set state atom || truth state cond)
+  set_by cond = adds (truth state cond) (is_set state atom) (atom == atom) (same_number atom)
+
+  clears : (a b : Bool) (test : Bool) → test ≡ true → ((test && false && a || false) || (b && not (test && true && a || false))) ≡ (b && not a)
+  clears true true test e = ap (λ t. (t && false && true || false) || (true && not (t && true && true || false))) e
+  clears true false test e = ap (λ t. (t && false && true || false) || (false && not (t && true && true || false))) e
+  clears false true test e = ap (λ t. (t && false && false || false) || (true && not (t && true && false || false))) e
+  clears false false test e = ap (λ t. (t && false && false || false) || (false && not (t && true && false || false))) e
+
+  pub cleared_by : (cond : Form) → is_set_after state (change false atom cond ∷ []) atom ≡ (is_set state atom && not (truth state cond))
+  cleared_by cond = clears (truth state cond) (is_set state atom) (atom == atom) (same_number atom)

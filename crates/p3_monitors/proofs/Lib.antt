@@ -1,0 +1,6 @@
+pub mod Places
+pub mod ReadAtoms
+pub mod WatchedLaws
+pub mod ChangeLaws
+pub mod UpdateLaws
+pub mod AcceptLaws

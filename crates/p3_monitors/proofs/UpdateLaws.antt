@@ -1,0 +1,274 @@
+-- The changes of each operator's monitor are what they are to be.
+use Rattle.std.proofs.Common.{◌≡◌, ◌∙◌, ℕ, ◌+◌, ◌≤◌, ◌<◌, ◌==◌, Bool, true, false, not, ◌&&◌, ◌||◌, List, [], ◌∷◌, sum_by, Result, refl, sym, ap, subst, arith}
+use Rattle.std.specs.Prelude.{IfOk}
+use Rattle.std.proofs.lemmas.Bool.{and_parts, and_from}
+use Rattle.std.proofs.lemmas.Bool.Decides.{nat_tests}
+use Rattle.std.proofs.lemmas.List.Sums.{sum_by-cons}
+use Rattle.std.proofs.lemmas.Result.{IfOk-weaker}
+use Rattle.std.proofs.Math.Bool.{and-true, or-false}
+use Rattle.p3_formula.specs.Forms.{State, is_set, truth, has_atoms, nodes}
+use Rattle.p3_formula.specs.GroundSat.{each_place, holds_at}
+use Rattle.p3_formula.specs.Next.{is_set_after}
+use Rattle.p3_formula.specs.declared.form.Change.{Change}
+use Rattle.p3_formula.specs.declared.form.Form.{Form}
+use Rattle.p3_formula.specs.declared.form.Form.TheVariants.{Atom, Not}
+use Rattle.p3_formula.specs.declared.modal.GroundModal.{GroundModal}
+use Rattle.p3_formula.specs.declared.modal.GroundModal.TheVariants as modal
+use Rattle.p3_formula.proofs.FormLemmas.{truth-Atom, truth-Not, truth-And, has_atoms-Atom, has_atoms-Not, has_atoms-And, nodes-Atom, nodes-Not, nodes-And}
+use Rattle.p3_formula.proofs.NextLaws.{is_set_after-front, is_set_after-back}
+use Rattle.p3_regress.specs.Regressed.{IsTrueBefore, HasAtomsOfBoth, growth}
+use Rattle.p3_monitors.specs.Kept.{IsModalBelow, came_back, is_awaited, came_early, is_own, AreOwn, condition_nodes}
+use Rattle.p3_monitors.specs.Updates.{IsUpdate, change, both, always, sometime, at_most_once, sometime_after, sometime_before}
+use Rattle.p3_monitors.proofs.ReadAtoms.{same_number, reads}
+use Rattle.p3_monitors.proofs.WatchedLaws.{each-next, some-next, came-next, awaited-next, early-next}
+use Rattle.p3_monitors.proofs.ChangeLaws.{own_from, own_after, truth_now, truth_later, keeps, set_by, cleared_by}
+
+truth-both : (state : State) (first second : Form) → truth state (both first second) ≡ (truth state first && truth state second)
+truth-both state first second = truth-And state (first ∷ second ∷ []) ∙ ap (λ b. truth state first && b) (and-true (truth state second))
+
+atoms-both : (allowed : ℕ → Bool) (first second : Form) → has_atoms allowed first ≡ true → has_atoms allowed second ≡ true → has_atoms allowed (both first second) ≡ true
+atoms-both allowed first second f s = has_atoms-And allowed (first ∷ second ∷ []) ∙ and_from (has_atoms allowed first) _ f (and_from (has_atoms allowed second) true s refl)
+
+nodes-both : (first second : Form) → nodes (both first second) ≡ 1 + (nodes first + nodes second)
+nodes-both first second =
+    let h = nodes-And (first ∷ second ∷ []) in
+    let p = sum_by-cons nodes first (second ∷ []) in
+    let q = sum_by-cons nodes second [] in
+    omega arith
+
+module _ {A : Type 0} (size : A → ℕ) where
+  one_sum : (one : A) → sum_by size (one ∷ []) ≡ size one
+  one_sum one = let h = sum_by-cons size one [] in omega arith
+
+  two_sum : (one other : A) → sum_by size (one ∷ other ∷ []) ≡ size one + size other
+  two_sum one other = let h = sum_by-cons size one (other ∷ []) in let k = sum_by-cons size other [] in omega arith
+
+at_base : (base : ℕ) → base ≤ base
+at_base base = omega arith
+
+past_base : (base : ℕ) → base ≤ base + 1
+past_base base = omega arith
+
+in_one : (base : ℕ) → base < base + 1
+in_one base = omega arith
+
+in_two : (base : ℕ) → base < base + 2
+in_two base = omega arith
+
+next_in_two : (base : ℕ) → base + 1 < base + 2
+next_in_two base = omega arith
+
+one_atom : (base : ℕ) → (base == (base + 1)) ≡ false
+one_atom base = grind (arith, nat_tests)
+
+next_atom : (base : ℕ) → ((base + 1) == base) ≡ false
+next_atom base = grind (arith, nat_tests)
+
+-- of two changes of the base and of the next atom, each minds its own
+module _ (state : State) (base : ℕ) (first second : Form) where
+  first_set : is_set_after state (change true base first ∷ change true (base + 1) second ∷ []) base ≡ (is_set state base || truth state first)
+  first_set = is_set_after-front state (change true base first ∷ []) (change true (base + 1) second ∷ []) base (or-false _ ∙ next_atom base) ∙ set_by state base first
+
+  second_set : is_set_after state (change true base first ∷ change true (base + 1) second ∷ []) (base + 1) ≡ (is_set state (base + 1) || truth state second)
+  second_set = is_set_after-back state (change true base first ∷ []) (change true (base + 1) second ∷ []) (base + 1) (or-false _ ∙ one_atom base) ∙ set_by state (base + 1) second
+
+  -- an atom that is cleared where the first holds, and set where the second does
+  switched : (a b old test : Bool) → test ≡ true → ((test && false && a || (test && true && b || false)) || (old && not (test && true && a || (test && false && b || false)))) ≡ (b || (old && not a))
+  switched a b old test e = ap (λ t. (t && false && a || (t && true && b || false)) || (old && not (t && true && a || (t && false && b || false)))) e ∙ by a b old where
+    by : (a b old : Bool) → ((true && false && a || (true && true && b || false)) || (old && not (true && true && a || (true && false && b || false)))) ≡ (b || (old && not a))
+    by true true old = refl
+    by true false true = refl
+    by true false false = refl
+    by false true old = refl
+    by false false true = refl
+    by false false false = refl
+
+  switched_by : is_set_after state (change false base first ∷ change true base second ∷ []) base ≡ (truth state second || (is_set state base && not (truth state first)))
+  switched_by = switched (truth state first) (truth state second) (is_set state base) (base == base) (same_number base)
+
+  both_own : (modal : GroundModal) → is_own base modal base ≡ true → is_own base modal (base + 1) ≡ true → AreOwn base modal (change true base first ∷ change true (base + 1) second ∷ [])
+  both_own modal h k = and_from (is_own base modal base) _ h (and_from (is_own base modal (base + 1)) true k refl)
+
+not-not : (b : Bool) → not (not b) ≡ b
+not-not true = refl
+not-not false = refl
+
+-- waiting goes on where the answer does not come, and begins so
+awaiting : (old now answer : Bool) → (now && not answer || (old && not answer)) ≡ ((old || now) && not answer)
+awaiting true true true = refl
+awaiting true true false = refl
+awaiting true false true = refl
+awaiting true false false = refl
+awaiting false true true = refl
+awaiting false true false = refl
+awaiting false false true = refl
+awaiting false false false = refl
+
+module _ (base : ℕ) (step : List Change) where
+  pub at_end_update : (f : Form) → IsModalBelow base (modal.AtEnd f) → IsUpdate base (modal.AtEnd f) step []
+  at_end_update f below = record {
+    kept = λ free W state next others kept apart agree. keeps base (modal.AtEnd f) step [] below free refl W state next others kept apart agree tt;
+    own = refl;
+    atoms = λ allowed of own conds. refl;
+    few = omega arith;
+    size = omega arith;
+  }
+
+  module _ (f : Form) (later : Form) (regressed : IsTrueBefore step f later) (of_both : HasAtomsOfBoth step f later) (small : nodes later ≤ nodes f + growth step f) where
+    pub always_update : IsModalBelow base (modal.Always f) → IsUpdate base (modal.Always f) step (always base later)
+    always_update below = record {
+      kept = λ free W state next others kept apart agree.
+          keeps base (modal.Always f) step (always base later) below free mine W state next others kept apart agree (
+            own_after base (modal.Always f) step (always base later) below free mine W state next others kept apart agree base (at_base base) (in_one base)
+                ∙ cleared_by state base (Not later)
+                ∙ (λ i. kept.stand.0 i && not (truth-Not state later i))
+                ∙ ap (λ b. each_place W (holds_at W f) && b) (not-not (truth state later) ∙ truth_later base (modal.Always f) step (always base later) below free mine W state next others kept apart agree f (and_parts _ _ (reads (modal.Always f))).0 later regressed)
+                ∙ sym (each-next W next f),
+            tt,
+          );
+      own = mine;
+      atoms = λ allowed of own conds. and_from (has_atoms allowed (Not later)) true (has_atoms-Not allowed later ∙ of_both allowed (and_parts _ _ of).0 conds) refl;
+      few = omega arith;
+      size = let n = nodes-Not later in let c : condition_nodes (always base later) ≡ nodes (Not later) = one_sum (λ c. nodes c.cond) (change false base (Not later)) in let m = one_sum nodes f in let g = one_sum (growth step) f in omega arith;
+    } where
+      mine : AreOwn base (modal.Always f) (always base later)
+      mine = and_from (is_own base (modal.Always f) base) true (own_from base (modal.Always f) base (omega arith) (omega arith)) refl
+
+    pub sometime_update : IsModalBelow base (modal.Sometime f) → IsUpdate base (modal.Sometime f) step (sometime base later)
+    sometime_update below = record {
+      kept = λ free W state next others kept apart agree.
+          keeps base (modal.Sometime f) step (sometime base later) below free mine W state next others kept apart agree (
+            own_after base (modal.Sometime f) step (sometime base later) below free mine W state next others kept apart agree base (at_base base) (in_one base)
+                ∙ set_by state base later
+                ∙ (λ i. kept.stand.0 i || truth_later base (modal.Sometime f) step (sometime base later) below free mine W state next others kept apart agree f (and_parts _ _ (reads (modal.Sometime f))).0 later regressed i)
+                ∙ sym (some-next W next f),
+            tt,
+          );
+      own = mine;
+      atoms = λ allowed of own conds. and_from (has_atoms allowed later) true (of_both allowed (and_parts _ _ of).0 conds) refl;
+      few = omega arith;
+      size = let c : condition_nodes (sometime base later) ≡ nodes later = one_sum (λ c. nodes c.cond) (change true base later) in let m = one_sum nodes f in let g = one_sum (growth step) f in omega arith;
+    } where
+      mine : AreOwn base (modal.Sometime f) (sometime base later)
+      mine = and_from (is_own base (modal.Sometime f) base) true (own_from base (modal.Sometime f) base (omega arith) (omega arith)) refl
+
+    pub at_most_once_update : IsModalBelow base (modal.AtMostOnce f) → IsUpdate base (modal.AtMostOnce f) step (at_most_once base f later)
+    at_most_once_update below = record {
+      kept = λ free W state next others kept apart agree.
+          let after_it = own_after base (modal.AtMostOnce f) step (at_most_once base f later) below free mine W state next others kept apart agree in
+          let comes = truth_later base (modal.AtMostOnce f) step (at_most_once base f later) below free mine W state next others kept apart agree f (and_parts _ _ (reads (modal.AtMostOnce f))).0 later regressed in
+          let was = truth_now base (modal.AtMostOnce f) step (at_most_once base f later) below free mine W state next others kept apart agree f (and_parts _ _ (reads (modal.AtMostOnce f))).0 in
+          keeps base (modal.AtMostOnce f) step (at_most_once base f later) below free mine W state next others kept apart agree (
+            after_it base (at_base base) (in_two base)
+                ∙ first_set state base later back
+                ∙ (λ i. kept.stand.0 i || comes i)
+                ∙ sym (some-next W next f),
+            (
+              after_it (base + 1) (past_base base) (next_in_two base)
+                  ∙ second_set state base later back
+                  ∙ (λ i. kept.stand.1.0 i || back_truth state i)
+                  ∙ (λ i. came_back W f || ((kept.stand.0 i && not (was i)) && comes i))
+                  ∙ sym (came-next W next f),
+              tt,
+            ),
+          );
+      own = mine;
+      atoms = λ allowed of own conds.
+          let now = of_both allowed (and_parts _ _ of).0 conds in
+          let held = has_atoms-Atom allowed base ∙ own base first_own in
+          and_from (has_atoms allowed later) _ now
+          (and_from (has_atoms allowed back) true (atoms-both allowed _ later (atoms-both allowed (Atom base) (Not f) held (has_atoms-Not allowed f ∙ (and_parts _ _ of).0)) now) refl);
+      few = omega arith;
+      size = let b = nodes-both (both (Atom base) (Not f)) later in let i = nodes-both (Atom base) (Not f) in let a = nodes-Atom base in let n = nodes-Not f in let c : condition_nodes (at_most_once base f later) ≡ nodes later + nodes back = two_sum (λ c. nodes c.cond) (change true base later) (change true (base + 1) back) in let m = one_sum nodes f in let g = one_sum (growth step) f in omega arith;
+    } where
+      back : Form
+      back = both (both (Atom base) (Not f)) later
+
+      first_own : is_own base (modal.AtMostOnce f) base ≡ true
+      first_own = own_from base (modal.AtMostOnce f) base (omega arith) (omega arith)
+
+      mine : AreOwn base (modal.AtMostOnce f) (at_most_once base f later)
+      mine = and_from (is_own base (modal.AtMostOnce f) base) _ first_own (and_from (is_own base (modal.AtMostOnce f) (base + 1)) true (own_from base (modal.AtMostOnce f) (base + 1) (omega arith) (omega arith)) refl)
+
+      back_truth : (state : State) → truth state back ≡ ((is_set state base && not (truth state f)) && truth state later)
+      back_truth state = truth-both state (both (Atom base) (Not f)) later ∙ ap (λ b. b && truth state later) (truth-both state (Atom base) (Not f) ∙ (λ i. truth-Atom state base i && truth-Not state f i))
+
+  module _ (f g : Form) (later answer : Form) (regressed : IsTrueBefore step f later) (of_both : HasAtomsOfBoth step f later) (other_regressed : IsTrueBefore step g answer) (other_of_both : HasAtomsOfBoth step g answer)
+      (small : nodes later ≤ nodes f + growth step f) (other_small : nodes answer ≤ nodes g + growth step g) where
+    pub sometime_after_update : IsModalBelow base (modal.SometimeAfter f g) → IsUpdate base (modal.SometimeAfter f g) step (sometime_after base later answer)
+    sometime_after_update below = record {
+      kept = λ free W state next others kept apart agree.
+          let comes = truth_later base (modal.SometimeAfter f g) step (sometime_after base later answer) below free mine W state next others kept apart agree f (and_parts _ _ (reads (modal.SometimeAfter f g))).0 later regressed in
+          let answers = truth_later base (modal.SometimeAfter f g) step (sometime_after base later answer) below free mine W state next others kept apart agree g (and_parts _ _ (and_parts _ _ (reads (modal.SometimeAfter f g))).1).0 answer other_regressed in
+          keeps base (modal.SometimeAfter f g) step (sometime_after base later answer) below free mine W state next others kept apart agree (
+            own_after base (modal.SometimeAfter f g) step (sometime_after base later answer) below free mine W state next others kept apart agree base (at_base base) (in_one base)
+                ∙ switched_by state base answer (both later (Not answer))
+                ∙ (λ i. (truth-both state later (Not answer) i) || (kept.stand.0 i && not (answers i)))
+                ∙ (λ i. (comes i && (truth-Not state answer ∙ ap not answers) i) || (is_awaited W f g && not (truth next g)))
+                ∙ awaiting (is_awaited W f g) (truth next f) (truth next g)
+                ∙ sym (awaited-next W next f g),
+            tt,
+          );
+      own = mine;
+      atoms = λ allowed of own conds.
+          let parts = and_parts (has_atoms allowed f) _ of in
+          let first = of_both allowed parts.0 conds in
+          let second = other_of_both allowed (and_parts _ _ parts.1).0 conds in
+          and_from (has_atoms allowed answer) _ second (and_from (has_atoms allowed (both later (Not answer))) true (atoms-both allowed later (Not answer) first (has_atoms-Not allowed answer ∙ second)) refl);
+      few = omega arith;
+      size = let b = nodes-both later (Not answer) in let n = nodes-Not answer in let c : condition_nodes (sometime_after base later answer) ≡ nodes answer + nodes (both later (Not answer)) = two_sum (λ c. nodes c.cond) (change false base answer) (change true base (both later (Not answer))) in let m = two_sum nodes f g in let h = two_sum (growth step) f g in omega arith;
+    } where
+      mine : AreOwn base (modal.SometimeAfter f g) (sometime_after base later answer)
+      mine =
+          let h = own_from base (modal.SometimeAfter f g) base (omega arith) (omega arith) in
+          and_from (is_own base (modal.SometimeAfter f g) base) _ h (and_from (is_own base (modal.SometimeAfter f g) base) true h refl)
+
+    pub sometime_before_update : IsModalBelow base (modal.SometimeBefore f g) → IsUpdate base (modal.SometimeBefore f g) step (sometime_before base later answer)
+    sometime_before_update below = record {
+      kept = λ free W state next others kept apart agree.
+          let after_it = own_after base (modal.SometimeBefore f g) step (sometime_before base later answer) below free mine W state next others kept apart agree in
+          let comes = truth_later base (modal.SometimeBefore f g) step (sometime_before base later answer) below free mine W state next others kept apart agree f (and_parts _ _ (reads (modal.SometimeBefore f g))).0 later regressed in
+          let answers = truth_later base (modal.SometimeBefore f g) step (sometime_before base later answer) below free mine W state next others kept apart agree g (and_parts _ _ (and_parts _ _ (reads (modal.SometimeBefore f g))).1).0 answer other_regressed in
+          keeps base (modal.SometimeBefore f g) step (sometime_before base later answer) below free mine W state next others kept apart agree (
+            after_it base (at_base base) (in_two base)
+                ∙ first_set state base answer soon
+                ∙ (λ i. kept.stand.0 i || answers i)
+                ∙ sym (some-next W next g),
+            (
+              after_it (base + 1) (past_base base) (next_in_two base)
+                  ∙ second_set state base answer soon
+                  ∙ (λ i. kept.stand.1.0 i || soon_truth state i)
+                  ∙ (λ i. came_early W f g || (comes i && not (kept.stand.0 i)))
+                  ∙ sym (early-next W next f g),
+              tt,
+            ),
+          );
+      own = mine;
+      atoms = λ allowed of own conds.
+          let parts = and_parts (has_atoms allowed f) _ of in
+          let first = of_both allowed parts.0 conds in
+          let second = other_of_both allowed (and_parts _ _ parts.1).0 conds in
+          let held = has_atoms-Not allowed (Atom base) ∙ has_atoms-Atom allowed base ∙ own base first_own in
+          and_from (has_atoms allowed answer) _ second (and_from (has_atoms allowed soon) true (atoms-both allowed later (Not (Atom base)) first held) refl);
+      few = omega arith;
+      size = let b = nodes-both later (Not (Atom base)) in let n = nodes-Not (Atom base) in let a = nodes-Atom base in let c : condition_nodes (sometime_before base later answer) ≡ nodes answer + nodes soon = two_sum (λ c. nodes c.cond) (change true base answer) (change true (base + 1) soon) in let m = two_sum nodes f g in let h = two_sum (growth step) f g in omega arith;
+    } where
+      soon : Form
+      soon = both later (Not (Atom base))
+
+      first_own : is_own base (modal.SometimeBefore f g) base ≡ true
+      first_own = own_from base (modal.SometimeBefore f g) base (omega arith) (omega arith)
+
+      mine : AreOwn base (modal.SometimeBefore f g) (sometime_before base later answer)
+      mine = and_from (is_own base (modal.SometimeBefore f g) base) _ first_own (and_from (is_own base (modal.SometimeBefore f g) (base + 1)) true (own_from base (modal.SometimeBefore f g) (base + 1) (omega arith) (omega arith)) refl)
+
+      soon_truth : (state : State) → truth state soon ≡ (truth state later && not (is_set state base))
+      soon_truth state = truth-both state later (Not (Atom base)) ∙ ap (λ b. truth state later && b) (truth-Not state (Atom base) ∙ ap not (truth-Atom state base))
+
+-- what is made for the operator of a constraint is made for the constraint
+pub updated : {E : Type 0} (base : ℕ) (step made : List Change) (modal operator : GroundModal) (result : Result (List Change) E)
+    → modal ≡ operator → IsModalBelow base modal → (IsModalBelow base operator → IsUpdate base operator step made) → IfOk result (λ effects. effects ≡ made) → IfOk result (IsUpdate base modal step)
+updated base step made modal operator result is below update ok =
+    IfOk-weaker result _ _
+    (λ effects same. subst (λ m. IsUpdate base m step effects) (sym is) (subst (IsUpdate base operator step) (sym same) (update (subst (IsModalBelow base) is below))))
+    ok

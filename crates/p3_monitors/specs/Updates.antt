@@ -1,0 +1,48 @@
+-- The changes that a monitor makes, from the forms as they will be after the step.
+use Rattle.std.specs.Prelude.{ℕ, ◌+◌, ◌*◌, ◌≤◌, Bool, true, false, List, [], ◌∷◌, length}
+use Rattle.p3_formula.specs.declared.form.Change.{Change}
+use Rattle.p3_formula.specs.declared.form.Form.{Form}
+use Rattle.p3_formula.specs.declared.form.Form.TheVariants.{Atom, Not, And}
+use Rattle.p3_formula.specs.declared.modal.GroundModal.{GroundModal}
+use Rattle.p3_formula.specs.declared.modal.GroundModal.TheVariants as modal
+use Rattle.p3_monitors.specs.Kept.{is_own, HasNone, AreOwn, KeepsOn, HasConditions, modal_nodes, modal_growth, condition_nodes}
+
+-- the atom is set, or else cleared, where the condition holds
+abbrev pub change : Bool → ℕ → Form → Change
+change add atom cond = record { cond = cond; atom = atom; add = add }
+
+-- the form and the other one, which comes first
+abbrev pub both : Form → Form → Form
+both first second = And (first ∷ second ∷ [])
+
+abbrev pub always : ℕ → Form → List Change
+always base later = change false base (Not later) ∷ []
+
+abbrev pub sometime : ℕ → Form → List Change
+sometime base later = change true base later ∷ []
+
+abbrev pub at_most_once : ℕ → Form → Form → List Change
+at_most_once base now later = change true base later ∷ change true (base + 1) (both (both (Atom base) (Not now)) later) ∷ []
+
+abbrev pub sometime_after : ℕ → Form → Form → List Change
+sometime_after base first second = change false base second ∷ change true base (both first (Not second)) ∷ []
+
+abbrev pub sometime_before : ℕ → Form → Form → List Change
+sometime_before base first second = change true base second ∷ change true (base + 1) (both first (Not (Atom base))) ∷ []
+
+-- the form that holds where the monitor accepts
+abbrev pub accept_form : ℕ → GroundModal → Form
+accept_form base (modal.AtEnd f) = f
+accept_form base (modal.Always f) = Atom base
+accept_form base (modal.Sometime f) = Atom base
+accept_form base (modal.AtMostOnce f) = Not (Atom (base + 1))
+accept_form base (modal.SometimeAfter f g) = Not (Atom base)
+accept_form base (modal.SometimeBefore f g) = Not (Atom (base + 1))
+
+-- what the changes of a monitor are to be
+pub record IsUpdate (base : ℕ) (modal : GroundModal) (step effects : List Change) : Type 0 where
+  pub kept : HasNone (is_own base modal) step → KeepsOn base modal step effects
+  pub own : AreOwn base modal effects
+  pub atoms : HasConditions base modal step effects
+  pub few : length effects ≤ 2
+  pub size : condition_nodes effects ≤ 4 + 3 * (modal_nodes modal + modal_growth step modal)

@@ -1,0 +1,15 @@
+//! Monitors: a few atoms that say, from step to step, whether a trajectory constraint holds of the
+//! states that are visited.
+#![tactic(auto)]
+
+mod accepting;
+mod beginning;
+#[cfg(test)]
+mod cases;
+mod copying;
+mod making;
+mod updates;
+mod watching;
+
+pub use making::monitor;
+pub use watching::Monitor;

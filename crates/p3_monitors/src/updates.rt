@@ -1,0 +1,113 @@
+//! The changes of a monitor's atoms that ride on a step.
+
+ghost use Rattle.std.specs.Prelude.{◌≡◌, ◌≤◌, ◌+◌, ◌-◌, ◌^◌, [], ◌∷◌, IfOk};
+ghost use Rattle.p3_monitors.specs.Updates as made;
+
+use p3_base::{Boxed, List, NoMemory};
+use p3_formula::{Change, Effects, Form, copied};
+use std::alloc::Global;
+
+/// The atom is set, or else cleared, where the condition holds.
+fn change(cond: Form, atom: usize, add: bool) -> Change
+    ensures { result ≡ made.change add atom cond }
+{
+    Change { cond, atom, add }
+}
+
+/// One change.
+fn one(alloc: Global, first: Change) -> Result<Effects, NoMemory>
+    ensures { IfOk result (λ effects. effects ≡ first ∷ []) }
+{
+    let mut effects = List::new(alloc);
+    effects.push(first)?;
+    Ok(effects)
+}
+
+/// Two changes.
+fn two(alloc: Global, first: Change, second: Change) -> Result<Effects, NoMemory>
+    ensures { IfOk result (λ effects. effects ≡ first ∷ second ∷ []) }
+{
+    let mut effects = List::new(alloc);
+    effects.push(first)?;
+    effects.push(second)?;
+    Ok(effects)
+}
+
+/// The form does not hold.
+fn not(alloc: Global, form: Form) -> Result<Form, NoMemory>
+    ensures { IfOk result (λ negation. negation ≡ Form.Not form) }
+{
+    Ok(Form::Not(Boxed::new(alloc, form)?))
+}
+
+/// Both hold.
+fn both(alloc: Global, first: Form, second: Form) -> Result<Form, NoMemory>
+    ensures { IfOk result (λ form. form ≡ Form.And (first ∷ second ∷ [])) }
+{
+    let mut parts = List::new(alloc);
+    parts.push(first)?;
+    parts.push(second)?;
+    Ok(Form::And(parts))
+}
+
+/// It has held in every state: no more where it does not hold after the step.
+pub(crate) fn always(alloc: Global, base: usize, later: Form) -> Result<Effects, NoMemory>
+    ensures { IfOk result (λ effects. effects ≡ made.always base later) }
+{
+    one(alloc, change(not(alloc, later)?, base, false))
+}
+
+/// It has held in some state: so it has where it holds after the step.
+pub(crate) fn sometime(alloc: Global, base: usize, later: Form) -> Result<Effects, NoMemory>
+    ensures { IfOk result (λ effects. effects ≡ made.sometime base later) }
+{
+    one(alloc, change(later, base, true))
+}
+
+/// It has held in some state; and it came back after a gap: so it does where it has held, does not
+/// hold before the step and holds after it.
+pub(crate) fn at_most_once(
+    alloc: Global,
+    base: usize,
+    form: &Form,
+    later: Form,
+) -> Result<Effects, NoMemory>
+    requires { base + 1 ≤ 2 ^ 64 - 1 }
+    ensures { IfOk result (λ effects. effects ≡ made.at_most_once base form.now later) }
+{
+    let held = change(copied(alloc, &later)?, base, true);
+    let ceased = both(alloc, Form::Atom(base), not(alloc, copied(alloc, form)?)?)?;
+    let back = change(both(alloc, ceased, later)?, base + 1, true);
+    two(alloc, held, back)
+}
+
+/// The second form is awaited: no more where it holds after the step, and else from where the
+/// first holds.
+pub(crate) fn sometime_after(
+    alloc: Global,
+    base: usize,
+    first: Form,
+    second: Form,
+) -> Result<Effects, NoMemory>
+    ensures { IfOk result (λ effects. effects ≡ made.sometime_after base first second) }
+{
+    let met = change(copied(alloc, &second)?, base, false);
+    let awaited = change(both(alloc, first, not(alloc, second)?)?, base, true);
+    two(alloc, met, awaited)
+}
+
+/// The second form has held in some state; and the first came too early: so it does where it holds
+/// after the step and the second has not held before.
+pub(crate) fn sometime_before(
+    alloc: Global,
+    base: usize,
+    first: Form,
+    second: Form,
+) -> Result<Effects, NoMemory>
+    requires { base + 1 ≤ 2 ^ 64 - 1 }
+    ensures { IfOk result (λ effects. effects ≡ made.sometime_before base first second) }
+{
+    let early = both(alloc, first, not(alloc, Form::Atom(base))?)?;
+    let held = change(second, base, true);
+    two(alloc, held, change(early, base + 1, true))
+}

@@ -1,0 +1,82 @@
+//! Monitors, and what rides on a step for them.
+
+ghost use Rattle.std.specs.Prelude.{◌≡◌, ◌≤◌, ◌+◌, ◌*◌, ◌-◌, ◌^◌, ℕ, Bool, List, length, IfOk, false, ◌++◌};
+ghost use Rattle.p3_formula.specs.Forms.{State, truth, is_set};
+ghost use Rattle.p3_formula.specs.Next.{after};
+ghost use Rattle.p3_formula.specs.declared.form.Change.{Change};
+ghost use Rattle.p3_monitors.specs.Kept.{IsModalBelow, atom_count, accepts, is_own, HasNone, KeepsOn, AreOwn, HasConditions, modal_nodes, modal_growth, condition_nodes};
+ghost use Rattle.p3_monitors.specs.Updates.{IsUpdate};
+
+use crate::updates::{always, at_most_once, sometime, sometime_after, sometime_before};
+use p3_base::{List, NoMemory};
+use p3_formula::{Effects, Form, GroundModal};
+use p3_regress::regress;
+use std::alloc::Global;
+
+/// A monitor of a trajectory constraint. Its own atoms are those from the base on, one for each
+/// initial bit.
+#[derive(Debug, Drop)]
+pub struct Monitor {
+    /// The first of its own atoms.
+    pub base: usize,
+    /// Its bits at the initial state.
+    pub initial: List<bool>,
+    /// It holds exactly where the constraint is satisfied by the states visited so far.
+    pub accept: Form,
+    /// The constraint.
+    pub modal: GroundModal,
+    pub ghost below: { IsModalBelow base modal },
+    pub ghost room: { base + atom_count modal ≤ 2 ^ 64 - 1 },
+    pub ghost entries: { length initial ≡ atom_count modal },
+    pub ghost accepting: { ∥ ((state : State) → truth state accept ≡ accepts base modal state) ∥₁ },
+}
+
+impl Monitor {
+    /// The changes of its own atoms that ride on a step.
+    #[tactic(auto, using(crate::proofs::ChangeLaws::others_stay))]
+    pub fn effects(&self, alloc: Global, step: &Effects) -> Result<Effects, NoMemory>
+        requires apart { HasNone (is_own self.now.base self.now.modal) step.now }
+        // With the step's changes and those of other monitors they keep the bits over one state more.
+        ensures kept { IfOk result (KeepsOn self.now.base self.now.modal step.now) }
+        // They are of its own atoms.
+        ensures own { IfOk result (AreOwn self.now.base self.now.modal) }
+        // The other atoms are as without them.
+        ensures others { IfOk result (λ effects. (state : State) (atom : ℕ) → is_own self.now.base self.now.modal atom ≡ false → is_set (after state (step.now ++ effects)) atom ≡ is_set (after state step.now) atom) }
+        // They read no atoms but its own and those of the constraint and of the step's conditions.
+        ensures atoms { IfOk result (HasConditions self.now.base self.now.modal step.now) }
+        // They are few and small.
+        ensures few { IfOk result (λ effects. length effects ≤ 2) }
+        ensures size { IfOk result (λ effects. condition_nodes effects ≤ 4 + 3 * (modal_nodes self.now.modal + modal_growth step.now self.now.modal)) }
+    {
+        updates(alloc, &self.modal, self.base, step)
+    }
+}
+
+/// The changes of the atoms from the base on, for that constraint.
+fn updates(
+    alloc: Global,
+    modal: &GroundModal,
+    base: usize,
+    step: &Effects,
+) -> Result<Effects, NoMemory>
+    requires below { IsModalBelow base modal.now }
+    requires room { base + atom_count modal.now ≤ 2 ^ 64 - 1 }
+    ensures { IfOk result (IsUpdate base modal.now step.now) }
+{
+    match modal {
+        GroundModal::AtEnd(_) => Ok(List::new(alloc)),
+        GroundModal::Always(form) => always(alloc, base, regress(alloc, form, step)?),
+        GroundModal::Sometime(form) => sometime(alloc, base, regress(alloc, form, step)?),
+        GroundModal::AtMostOnce(form) => {
+            at_most_once(alloc, base, form, regress(alloc, form, step)?)
+        }
+        GroundModal::SometimeAfter(first, second) => {
+            let first = regress(alloc, first, step)?;
+            sometime_after(alloc, base, first, regress(alloc, second, step)?)
+        }
+        GroundModal::SometimeBefore(first, second) => {
+            let first = regress(alloc, first, step)?;
+            sometime_before(alloc, base, first, regress(alloc, second, step)?)
+        }
+    }
+}
