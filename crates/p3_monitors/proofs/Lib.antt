@@ -4,3 +4,4 @@ pub mod WatchedLaws
 pub mod ChangeLaws
 pub mod UpdateLaws
 pub mod AcceptLaws
+pub mod RiderLaws

@@ -7,9 +7,11 @@ mod beginning;
 #[cfg(test)]
 mod cases;
 mod copying;
+mod laws;
 mod making;
 mod updates;
 mod watching;
 
+pub use laws::monitors_ride_together;
 pub use making::monitor;
 pub use watching::Monitor;
