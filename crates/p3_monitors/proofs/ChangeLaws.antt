@@ -12,7 +12,7 @@ use Rattle.p3_formula.specs.declared.form.Form.{Form}
 use Rattle.p3_formula.specs.declared.modal.GroundModal.{GroundModal}
 use Rattle.p3_formula.proofs.NextLaws.{length-after, is_set-after, is_set-beyond, is_set_after-front, is_set_after-back, truth-agree}
 use Rattle.p3_regress.specs.Regressed.{IsTrueBefore}
-use Rattle.p3_monitors.specs.Kept.{is_read, is_own, atom_count, watched, IsModalBelow, Agree, AreAt, Kept, HasNone, AreOwn, AreOthers}
+use Rattle.p3_monitors.specs.Kept.{is_read, is_own, atom_count, watched, IsModalBelow, Agree, AreAt, Kept, HasNone, AreOwn, AreOthers, KeepsOn}
 use Rattle.p3_monitors.specs.Updates.{change}
 use Rattle.p3_monitors.proofs.ReadAtoms.{same_number, has_more, read_below}
 use Rattle.p3_monitors.proofs.WatchedLaws.{length-watched, last-next}
@@ -66,51 +66,76 @@ others_stay base modal step effects own state atom outside = by (nat_lt atom (le
 
 -- ---- a step with the changes of the monitor and others
 
-module _ (base : ℕ) (modal : GroundModal) (step effects : List Change) (below : IsModalBelow base modal) (free : HasNone (is_own base modal) step) (own : AreOwn base modal effects) where
-  module _ (W : List State) (state next : State) (others : List Change) (kept : Kept base modal W state) (apart : AreOthers base modal others) (agree : Agree modal (after state (step ++ (effects ++ others))) next) where
-    inside : base + atom_count modal ≤ length state
-    inside = let l = length-watched W modal in let room = kept.room in omega arith
+-- the monitor is kept before a step, and another state agrees with the one after it on the constraint
+pub record Stage (base : ℕ) (modal : GroundModal) (step effects : List Change) : Type 0 where
+  pub below : IsModalBelow base modal
+  pub free : HasNone (is_own base modal) step
+  pub own : AreOwn base modal effects
+  pub W : List State
+  pub state : State
+  pub next : State
+  pub others : List Change
+  pub kept : Kept base modal W state
+  pub apart : AreOthers base modal others
+  pub agree : Agree modal (after state (step ++ (effects ++ others))) next
 
-    -- an atom of the constraint is as after the step alone
-    read_after : (atom : ℕ) → is_read modal atom ≡ true → is_set (after state (step ++ (effects ++ others))) atom ≡ is_set (after state step) atom
-    read_after atom read =
-        let lt = read_below base modal below atom read in
+module _ {base : ℕ} {modal : GroundModal} {step effects : List Change} (stage : Stage base modal step effects) where
+  abbrev pub all_changes : List Change
+  all_changes = step ++ (effects ++ stage.others)
+
+  abbrev pub reached : State
+  reached = after stage.state all_changes
+
+  inside : base + atom_count modal ≤ length stage.state
+  inside = let l = length-watched stage.W modal in let room = stage.kept.room in omega arith
+
+  -- an atom of the constraint is as after the step alone
+  read_after : (atom : ℕ) → is_read modal atom ≡ true → is_set reached atom ≡ is_set (after stage.state step) atom
+  read_after atom read =
+      let lt = read_below base modal stage.below atom read in
+      let room = inside in
+      let within : atom < length stage.state = omega arith in
+      let none = list_any-append (λ change. change.atom == atom) effects stage.others ∙ or_from _ _ (own_named base modal atom effects stage.own (lower_outside base modal atom lt)) (none_named (is_read modal) atom stage.others stage.apart.read read) in
+      is_set-after stage.state all_changes atom within
+      ∙ is_set_after-front stage.state step (effects ++ stage.others) atom none
+      ∙ sym (is_set-after stage.state step atom within)
+
+  -- an atom of the monitor is as after its changes alone
+  pub own_after : (atom : ℕ) → base ≤ atom → atom < base + atom_count modal → is_set reached atom ≡ is_set_after stage.state effects atom
+  own_after atom from lt =
+      let room = inside in
+      let mine = own_from base modal atom from lt in
+      is_set-after stage.state all_changes atom (omega arith)
+      ∙ is_set_after-back stage.state step (effects ++ stage.others) atom (none_named (is_own base modal) atom step stage.free mine)
+      ∙ is_set_after-front stage.state effects stage.others atom (none_named (is_own base modal) atom stage.others stage.apart.own mine)
+
+  module _ (form : Form) (reads : has_atoms (is_read modal) form ≡ true) where
+    -- a form of the constraint, before the step
+    pub truth_now : truth stage.state form ≡ truth (last_of stage.W) form
+    truth_now = truth-agree stage.state (last_of stage.W) (is_read modal) stage.kept.agrees form reads
+
+    -- and after it, as its regressed form tells before it
+    pub truth_later : (before : Form) → IsTrueBefore step form before → truth stage.state before ≡ truth stage.next form
+    truth_later before regressed =
         let room = inside in
-        let within : atom < length state = omega arith in
-        let none = list_any-append (λ change. change.atom == atom) effects others ∙ or_from _ _ (own_named base modal atom effects own (lower_outside base modal atom lt)) (none_named (is_read modal) atom others apart.read read) in
-        is_set-after state (step ++ (effects ++ others)) atom within
-        ∙ is_set_after-front state step (effects ++ others) atom none
-        ∙ sym (is_set-after state step atom within)
+        regressed stage.state (has_more (is_read modal) (λ atom. nat_lt atom (length stage.state)) (λ atom read. let lt = read_below base modal stage.below atom read in lt-ltb atom (length stage.state) (omega arith)) form reads)
+        ∙ truth-agree (after stage.state step) reached (is_read modal) (λ atom read. sym (read_after atom read)) form reads
+        ∙ truth-agree reached stage.next (is_read modal) stage.agree form reads
 
-    -- an atom of the monitor is as after its changes alone
-    pub own_after : (atom : ℕ) → base ≤ atom → atom < base + atom_count modal → is_set (after state (step ++ (effects ++ others))) atom ≡ is_set_after state effects atom
-    own_after atom from lt =
-        let room = inside in
-        let mine = own_from base modal atom from lt in
-        is_set-after state (step ++ (effects ++ others)) atom (omega arith)
-        ∙ is_set_after-back state step (effects ++ others) atom (none_named (is_own base modal) atom step free mine)
-        ∙ is_set_after-front state effects others atom (none_named (is_own base modal) atom others apart.own mine)
+  -- with the right bits, the monitor is kept
+  keeps : AreAt base (watched (stage.W ++ stage.next ∷ []) modal) reached → Kept base modal (stage.W ++ stage.next ∷ []) reached
+  keeps bits = record {
+    agrees = λ atom read. stage.agree atom read ∙ ap (λ s. is_set s atom) (sym (last-next stage.W stage.next));
+    room = let l = length-watched (stage.W ++ stage.next ∷ []) modal in let a = length-after stage.state all_changes in let room = inside in omega arith;
+    stand = bits;
+  }
 
-    module _ (form : Form) (reads : has_atoms (is_read modal) form ≡ true) where
-      -- a form of the constraint, before the step
-      pub truth_now : truth state form ≡ truth (last_of W) form
-      truth_now = truth-agree state (last_of W) (is_read modal) kept.agrees form reads
-
-      -- and after it, as its regressed form tells before it
-      pub truth_later : (before : Form) → IsTrueBefore step form before → truth state before ≡ truth next form
-      truth_later before regressed =
-          let room = inside in
-          regressed state (has_more (is_read modal) (λ atom. nat_lt atom (length state)) (λ atom read. let lt = read_below base modal below atom read in lt-ltb atom (length state) (omega arith)) form reads)
-          ∙ truth-agree (after state step) (after state (step ++ (effects ++ others))) (is_read modal) (λ atom read. sym (read_after atom read)) form reads
-          ∙ truth-agree (after state (step ++ (effects ++ others))) next (is_read modal) agree form reads
-
-    -- with the right bits, the monitor is kept
-    pub keeps : AreAt base (watched (W ++ next ∷ []) modal) (after state (step ++ (effects ++ others))) → Kept base modal (W ++ next ∷ []) (after state (step ++ (effects ++ others)))
-    keeps bits = record {
-      agrees = λ atom read. agree atom read ∙ ap (λ s. is_set s atom) (sym (last-next W next));
-      room = let l = length-watched (W ++ next ∷ []) modal in let a = length-after state (step ++ (effects ++ others)) in let room = inside in omega arith;
-      stand = bits;
-    }
+-- changes of the monitor's atoms that give the right bits at each stage keep it on
+pub keeps_on : (base : ℕ) (modal : GroundModal) (step effects : List Change) → IsModalBelow base modal → AreOwn base modal effects
+    → ((stage : Stage base modal step effects) → AreAt base (watched (stage.W ++ stage.next ∷ []) modal) (reached stage)) → HasNone (is_own base modal) step → KeepsOn base modal step effects
+keeps_on base modal step effects below own bits free W state next others kept apart agree = keeps stage (bits stage) where
+  stage : Stage base modal step effects
+  stage = record { below = below; free = free; own = own; W = W; state = state; next = next; others = others; kept = kept; apart = apart; agree = agree }
 
 -- ---- what one change does to its atom
 

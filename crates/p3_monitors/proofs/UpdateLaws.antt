@@ -1,6 +1,7 @@
 -- The changes of each operator's monitor are what they are to be.
 use Rattle.std.proofs.Common.{◌≡◌, ◌∙◌, ℕ, ◌+◌, ◌≤◌, ◌<◌, ◌==◌, Bool, true, false, not, ◌&&◌, ◌||◌, List, [], ◌∷◌, sum_by, Result, refl, sym, ap, subst, arith}
 use Rattle.std.specs.Prelude.{IfOk}
+use Rattle.std.specs.List.{list_all}
 use Rattle.std.proofs.lemmas.Bool.{and_parts, and_from}
 use Rattle.std.proofs.lemmas.Bool.Decides.{nat_tests}
 use Rattle.std.proofs.lemmas.List.Sums.{sum_by-cons}
@@ -17,11 +18,11 @@ use Rattle.p3_formula.specs.declared.modal.GroundModal.TheVariants as modal
 use Rattle.p3_formula.proofs.FormLemmas.{truth-Atom, truth-Not, truth-And, has_atoms-Atom, has_atoms-Not, has_atoms-And, nodes-Atom, nodes-Not, nodes-And}
 use Rattle.p3_formula.proofs.NextLaws.{is_set_after-front, is_set_after-back}
 use Rattle.p3_regress.specs.Regressed.{IsTrueBefore, HasAtomsOfBoth, growth}
-use Rattle.p3_monitors.specs.Kept.{IsModalBelow, came_back, is_awaited, came_early, is_own, AreOwn, condition_nodes}
+use Rattle.p3_monitors.specs.Kept.{forms_of, is_read, IsModalBelow, came_back, is_awaited, came_early, is_own, AreOwn, condition_nodes}
 use Rattle.p3_monitors.specs.Updates.{IsUpdate, change, both, always, sometime, at_most_once, sometime_after, sometime_before}
 use Rattle.p3_monitors.proofs.ReadAtoms.{same_number, reads}
 use Rattle.p3_monitors.proofs.WatchedLaws.{each-next, some-next, came-next, awaited-next, early-next}
-use Rattle.p3_monitors.proofs.ChangeLaws.{own_from, own_after, truth_now, truth_later, keeps, set_by, cleared_by}
+use Rattle.p3_monitors.proofs.ChangeLaws.{own_from, own_after, truth_now, truth_later, keeps_on, set_by, cleared_by}
 
 truth-both : (state : State) (first second : Form) → truth state (both first second) ≡ (truth state first && truth state second)
 truth-both state first second = truth-And state (first ∷ second ∷ []) ∙ ap (λ b. truth state first && b) (and-true (truth state second))
@@ -86,8 +87,9 @@ module _ (state : State) (base : ℕ) (first second : Form) where
   switched_by : is_set_after state (change false base first ∷ change true base second ∷ []) base ≡ (truth state second || (is_set state base && not (truth state first)))
   switched_by = switched (truth state first) (truth state second) (is_set state base) (base == base) (same_number base)
 
-  both_own : (modal : GroundModal) → is_own base modal base ≡ true → is_own base modal (base + 1) ≡ true → AreOwn base modal (change true base first ∷ change true (base + 1) second ∷ [])
-  both_own modal h k = and_from (is_own base modal base) _ h (and_from (is_own base modal (base + 1)) true k refl)
+-- changes of both atoms of a monitor are its own
+both_own : (base : ℕ) (first second : Form) (modal : GroundModal) → is_own base modal base ≡ true → is_own base modal (base + 1) ≡ true → AreOwn base modal (change true base first ∷ change true (base + 1) second ∷ [])
+both_own base first second modal h k = and_from (is_own base modal base) _ h (and_from (is_own base modal (base + 1)) true k refl)
 
 not-not : (b : Bool) → not (not b) ≡ b
 not-not true = refl
@@ -107,7 +109,7 @@ awaiting false false false = refl
 module _ (base : ℕ) (step : List Change) where
   pub at_end_update : (f : Form) → IsModalBelow base (modal.AtEnd f) → IsUpdate base (modal.AtEnd f) step []
   at_end_update f below = record {
-    kept = λ free W state next others kept apart agree. keeps base (modal.AtEnd f) step [] below free refl W state next others kept apart agree tt;
+    kept = keeps_on base (modal.AtEnd f) step [] below refl (λ stage. tt);
     own = refl;
     atoms = λ allowed of own conds. refl;
     few = omega arith;
@@ -115,63 +117,64 @@ module _ (base : ℕ) (step : List Change) where
   }
 
   module _ (f : Form) (later : Form) (regressed : IsTrueBefore step f later) (of_both : HasAtomsOfBoth step f later) (small : nodes later ≤ nodes f + growth step f) where
+    -- a constraint of one form
+    module _ (operator : GroundModal) (one : forms_of operator ≡ f ∷ []) where
+      reads_it : has_atoms (is_read operator) f ≡ true
+      reads_it = (and_parts _ _ (sym (ap (list_all (has_atoms (is_read operator))) one) ∙ reads operator)).0
+
     pub always_update : IsModalBelow base (modal.Always f) → IsUpdate base (modal.Always f) step (always base later)
     always_update below = record {
-      kept = λ free W state next others kept apart agree.
-          keeps base (modal.Always f) step (always base later) below free mine W state next others kept apart agree (
-            own_after base (modal.Always f) step (always base later) below free mine W state next others kept apart agree base (at_base base) (in_one base)
-                ∙ cleared_by state base (Not later)
-                ∙ (λ i. kept.stand.0 i && not (truth-Not state later i))
-                ∙ ap (λ b. each_place W (holds_at W f) && b) (not-not (truth state later) ∙ truth_later base (modal.Always f) step (always base later) below free mine W state next others kept apart agree f (and_parts _ _ (reads (modal.Always f))).0 later regressed)
-                ∙ sym (each-next W next f),
-            tt,
-          );
+      kept = keeps_on base (modal.Always f) step (always base later) below mine (λ stage. (
+        own_after stage base (at_base base) (in_one base)
+            ∙ cleared_by stage.state base (Not later)
+            ∙ (λ i. stage.kept.stand.0 i && not (truth-Not stage.state later i))
+            ∙ ap (λ b. each_place stage.W (holds_at stage.W f) && b) (not-not (truth stage.state later) ∙ truth_later stage f (reads_it (modal.Always f) refl) later regressed)
+            ∙ sym (each-next stage.W stage.next f),
+        tt,
+      ));
       own = mine;
       atoms = λ allowed of own conds. and_from (has_atoms allowed (Not later)) true (has_atoms-Not allowed later ∙ of_both allowed (and_parts _ _ of).0 conds) refl;
       few = omega arith;
       size = let n = nodes-Not later in let c : condition_nodes (always base later) ≡ nodes (Not later) = one_sum (λ c. nodes c.cond) (change false base (Not later)) in let m = one_sum nodes f in let g = one_sum (growth step) f in omega arith;
     } where
       mine : AreOwn base (modal.Always f) (always base later)
-      mine = and_from (is_own base (modal.Always f) base) true (own_from base (modal.Always f) base (omega arith) (omega arith)) refl
+      mine = and_from (is_own base (modal.Always f) base) true (own_from base (modal.Always f) base (at_base base) (in_one base)) refl
 
     pub sometime_update : IsModalBelow base (modal.Sometime f) → IsUpdate base (modal.Sometime f) step (sometime base later)
     sometime_update below = record {
-      kept = λ free W state next others kept apart agree.
-          keeps base (modal.Sometime f) step (sometime base later) below free mine W state next others kept apart agree (
-            own_after base (modal.Sometime f) step (sometime base later) below free mine W state next others kept apart agree base (at_base base) (in_one base)
-                ∙ set_by state base later
-                ∙ (λ i. kept.stand.0 i || truth_later base (modal.Sometime f) step (sometime base later) below free mine W state next others kept apart agree f (and_parts _ _ (reads (modal.Sometime f))).0 later regressed i)
-                ∙ sym (some-next W next f),
-            tt,
-          );
+      kept = keeps_on base (modal.Sometime f) step (sometime base later) below mine (λ stage. (
+        own_after stage base (at_base base) (in_one base)
+            ∙ set_by stage.state base later
+            ∙ (λ i. stage.kept.stand.0 i || truth_later stage f (reads_it (modal.Sometime f) refl) later regressed i)
+            ∙ sym (some-next stage.W stage.next f),
+        tt,
+      ));
       own = mine;
       atoms = λ allowed of own conds. and_from (has_atoms allowed later) true (of_both allowed (and_parts _ _ of).0 conds) refl;
       few = omega arith;
       size = let c : condition_nodes (sometime base later) ≡ nodes later = one_sum (λ c. nodes c.cond) (change true base later) in let m = one_sum nodes f in let g = one_sum (growth step) f in omega arith;
     } where
       mine : AreOwn base (modal.Sometime f) (sometime base later)
-      mine = and_from (is_own base (modal.Sometime f) base) true (own_from base (modal.Sometime f) base (omega arith) (omega arith)) refl
+      mine = and_from (is_own base (modal.Sometime f) base) true (own_from base (modal.Sometime f) base (at_base base) (in_one base)) refl
 
     pub at_most_once_update : IsModalBelow base (modal.AtMostOnce f) → IsUpdate base (modal.AtMostOnce f) step (at_most_once base f later)
     at_most_once_update below = record {
-      kept = λ free W state next others kept apart agree.
-          let after_it = own_after base (modal.AtMostOnce f) step (at_most_once base f later) below free mine W state next others kept apart agree in
-          let comes = truth_later base (modal.AtMostOnce f) step (at_most_once base f later) below free mine W state next others kept apart agree f (and_parts _ _ (reads (modal.AtMostOnce f))).0 later regressed in
-          let was = truth_now base (modal.AtMostOnce f) step (at_most_once base f later) below free mine W state next others kept apart agree f (and_parts _ _ (reads (modal.AtMostOnce f))).0 in
-          keeps base (modal.AtMostOnce f) step (at_most_once base f later) below free mine W state next others kept apart agree (
-            after_it base (at_base base) (in_two base)
-                ∙ first_set state base later back
-                ∙ (λ i. kept.stand.0 i || comes i)
-                ∙ sym (some-next W next f),
+      kept = keeps_on base (modal.AtMostOnce f) step (at_most_once base f later) below mine (λ stage.
+          let comes = truth_later stage f (reads_it (modal.AtMostOnce f) refl) later regressed in
+          let was = truth_now stage f (reads_it (modal.AtMostOnce f) refl) in (
+            own_after stage base (at_base base) (in_two base)
+                ∙ first_set stage.state base later back
+                ∙ (λ i. stage.kept.stand.0 i || comes i)
+                ∙ sym (some-next stage.W stage.next f),
             (
-              after_it (base + 1) (past_base base) (next_in_two base)
-                  ∙ second_set state base later back
-                  ∙ (λ i. kept.stand.1.0 i || back_truth state i)
-                  ∙ (λ i. came_back W f || ((kept.stand.0 i && not (was i)) && comes i))
-                  ∙ sym (came-next W next f),
+              own_after stage (base + 1) (past_base base) (next_in_two base)
+                  ∙ second_set stage.state base later back
+                  ∙ (λ i. stage.kept.stand.1.0 i || back_truth stage.state i)
+                  ∙ (λ i. came_back stage.W f || ((stage.kept.stand.0 i && not (was i)) && comes i))
+                  ∙ sym (came-next stage.W stage.next f),
               tt,
             ),
-          );
+          ));
       own = mine;
       atoms = λ allowed of own conds.
           let now = of_both allowed (and_parts _ _ of).0 conds in
@@ -185,30 +188,34 @@ module _ (base : ℕ) (step : List Change) where
       back = both (both (Atom base) (Not f)) later
 
       first_own : is_own base (modal.AtMostOnce f) base ≡ true
-      first_own = own_from base (modal.AtMostOnce f) base (omega arith) (omega arith)
+      first_own = own_from base (modal.AtMostOnce f) base (at_base base) (in_two base)
 
       mine : AreOwn base (modal.AtMostOnce f) (at_most_once base f later)
-      mine = and_from (is_own base (modal.AtMostOnce f) base) _ first_own (and_from (is_own base (modal.AtMostOnce f) (base + 1)) true (own_from base (modal.AtMostOnce f) (base + 1) (omega arith) (omega arith)) refl)
+      mine = both_own base later back (modal.AtMostOnce f) first_own (own_from base (modal.AtMostOnce f) (base + 1) (past_base base) (next_in_two base))
 
       back_truth : (state : State) → truth state back ≡ ((is_set state base && not (truth state f)) && truth state later)
       back_truth state = truth-both state (both (Atom base) (Not f)) later ∙ ap (λ b. b && truth state later) (truth-both state (Atom base) (Not f) ∙ (λ i. truth-Atom state base i && truth-Not state f i))
 
   module _ (f g : Form) (later answer : Form) (regressed : IsTrueBefore step f later) (of_both : HasAtomsOfBoth step f later) (other_regressed : IsTrueBefore step g answer) (other_of_both : HasAtomsOfBoth step g answer)
       (small : nodes later ≤ nodes f + growth step f) (other_small : nodes answer ≤ nodes g + growth step g) where
+    -- a constraint of two forms
+    module _ (operator : GroundModal) (two : forms_of operator ≡ f ∷ g ∷ []) where
+      reads_both : (has_atoms (is_read operator) f ≡ true) × (has_atoms (is_read operator) g ≡ true)
+      reads_both = let parts = and_parts _ _ (sym (ap (list_all (has_atoms (is_read operator))) two) ∙ reads operator) in (parts.0, (and_parts _ _ parts.1).0)
+
     pub sometime_after_update : IsModalBelow base (modal.SometimeAfter f g) → IsUpdate base (modal.SometimeAfter f g) step (sometime_after base later answer)
     sometime_after_update below = record {
-      kept = λ free W state next others kept apart agree.
-          let comes = truth_later base (modal.SometimeAfter f g) step (sometime_after base later answer) below free mine W state next others kept apart agree f (and_parts _ _ (reads (modal.SometimeAfter f g))).0 later regressed in
-          let answers = truth_later base (modal.SometimeAfter f g) step (sometime_after base later answer) below free mine W state next others kept apart agree g (and_parts _ _ (and_parts _ _ (reads (modal.SometimeAfter f g))).1).0 answer other_regressed in
-          keeps base (modal.SometimeAfter f g) step (sometime_after base later answer) below free mine W state next others kept apart agree (
-            own_after base (modal.SometimeAfter f g) step (sometime_after base later answer) below free mine W state next others kept apart agree base (at_base base) (in_one base)
-                ∙ switched_by state base answer (both later (Not answer))
-                ∙ (λ i. (truth-both state later (Not answer) i) || (kept.stand.0 i && not (answers i)))
-                ∙ (λ i. (comes i && (truth-Not state answer ∙ ap not answers) i) || (is_awaited W f g && not (truth next g)))
-                ∙ awaiting (is_awaited W f g) (truth next f) (truth next g)
-                ∙ sym (awaited-next W next f g),
+      kept = keeps_on base (modal.SometimeAfter f g) step (sometime_after base later answer) below mine (λ stage.
+          let comes = truth_later stage f (reads_both (modal.SometimeAfter f g) refl).0 later regressed in
+          let answers = truth_later stage g (reads_both (modal.SometimeAfter f g) refl).1 answer other_regressed in (
+            own_after stage base (at_base base) (in_one base)
+                ∙ switched_by stage.state base answer (both later (Not answer))
+                ∙ (λ i. truth-both stage.state later (Not answer) i || (stage.kept.stand.0 i && not (answers i)))
+                ∙ (λ i. (comes i && (truth-Not stage.state answer ∙ ap not answers) i) || (is_awaited stage.W f g && not (truth stage.next g)))
+                ∙ awaiting (is_awaited stage.W f g) (truth stage.next f) (truth stage.next g)
+                ∙ sym (awaited-next stage.W stage.next f g),
             tt,
-          );
+          ));
       own = mine;
       atoms = λ allowed of own conds.
           let parts = and_parts (has_atoms allowed f) _ of in
@@ -220,29 +227,27 @@ module _ (base : ℕ) (step : List Change) where
     } where
       mine : AreOwn base (modal.SometimeAfter f g) (sometime_after base later answer)
       mine =
-          let h = own_from base (modal.SometimeAfter f g) base (omega arith) (omega arith) in
+          let h = own_from base (modal.SometimeAfter f g) base (at_base base) (in_one base) in
           and_from (is_own base (modal.SometimeAfter f g) base) _ h (and_from (is_own base (modal.SometimeAfter f g) base) true h refl)
 
     pub sometime_before_update : IsModalBelow base (modal.SometimeBefore f g) → IsUpdate base (modal.SometimeBefore f g) step (sometime_before base later answer)
     sometime_before_update below = record {
-      kept = λ free W state next others kept apart agree.
-          let after_it = own_after base (modal.SometimeBefore f g) step (sometime_before base later answer) below free mine W state next others kept apart agree in
-          let comes = truth_later base (modal.SometimeBefore f g) step (sometime_before base later answer) below free mine W state next others kept apart agree f (and_parts _ _ (reads (modal.SometimeBefore f g))).0 later regressed in
-          let answers = truth_later base (modal.SometimeBefore f g) step (sometime_before base later answer) below free mine W state next others kept apart agree g (and_parts _ _ (and_parts _ _ (reads (modal.SometimeBefore f g))).1).0 answer other_regressed in
-          keeps base (modal.SometimeBefore f g) step (sometime_before base later answer) below free mine W state next others kept apart agree (
-            after_it base (at_base base) (in_two base)
-                ∙ first_set state base answer soon
-                ∙ (λ i. kept.stand.0 i || answers i)
-                ∙ sym (some-next W next g),
+      kept = keeps_on base (modal.SometimeBefore f g) step (sometime_before base later answer) below mine (λ stage.
+          let comes = truth_later stage f (reads_both (modal.SometimeBefore f g) refl).0 later regressed in
+          let answers = truth_later stage g (reads_both (modal.SometimeBefore f g) refl).1 answer other_regressed in (
+            own_after stage base (at_base base) (in_two base)
+                ∙ first_set stage.state base answer soon
+                ∙ (λ i. stage.kept.stand.0 i || answers i)
+                ∙ sym (some-next stage.W stage.next g),
             (
-              after_it (base + 1) (past_base base) (next_in_two base)
-                  ∙ second_set state base answer soon
-                  ∙ (λ i. kept.stand.1.0 i || soon_truth state i)
-                  ∙ (λ i. came_early W f g || (comes i && not (kept.stand.0 i)))
-                  ∙ sym (early-next W next f g),
+              own_after stage (base + 1) (past_base base) (next_in_two base)
+                  ∙ second_set stage.state base answer soon
+                  ∙ (λ i. stage.kept.stand.1.0 i || soon_truth stage.state i)
+                  ∙ (λ i. came_early stage.W f g || (comes i && not (stage.kept.stand.0 i)))
+                  ∙ sym (early-next stage.W stage.next f g),
               tt,
             ),
-          );
+          ));
       own = mine;
       atoms = λ allowed of own conds.
           let parts = and_parts (has_atoms allowed f) _ of in
@@ -257,10 +262,10 @@ module _ (base : ℕ) (step : List Change) where
       soon = both later (Not (Atom base))
 
       first_own : is_own base (modal.SometimeBefore f g) base ≡ true
-      first_own = own_from base (modal.SometimeBefore f g) base (omega arith) (omega arith)
+      first_own = own_from base (modal.SometimeBefore f g) base (at_base base) (in_two base)
 
       mine : AreOwn base (modal.SometimeBefore f g) (sometime_before base later answer)
-      mine = and_from (is_own base (modal.SometimeBefore f g) base) _ first_own (and_from (is_own base (modal.SometimeBefore f g) (base + 1)) true (own_from base (modal.SometimeBefore f g) (base + 1) (omega arith) (omega arith)) refl)
+      mine = both_own base answer soon (modal.SometimeBefore f g) first_own (own_from base (modal.SometimeBefore f g) (base + 1) (past_base base) (next_in_two base))
 
       soon_truth : (state : State) → truth state soon ≡ (truth state later && not (is_set state base))
       soon_truth state = truth-both state later (Not (Atom base)) ∙ ap (λ b. truth state later && b) (truth-Not state (Atom base) ∙ ap not (truth-Atom state base))
