@@ -1,4 +1,5 @@
 pub mod DraftLemmas
 pub mod PlanLaws
+pub mod ReadLemmas
 pub mod StepLemmas
 pub mod WrittenLemmas
