@@ -86,7 +86,7 @@ module _ (size : ℕ) (end : Draft) where
       subst (λ (all : List Name). Follows size (Outside (plan ++ record { action = step.action; args = all } ∷ [])) rest end)
       (ap (λ (w : Name). step.args ++ w ∷ args) (sym same) ∙ sym (append_assoc step.args (text ∷ []) args)) (go_on rest marks)))
 
-below : (steps more : ℕ) → steps + suc more ≤ step_limit → nat_lt steps step_limit ≡ true
+pub below : (steps more : ℕ) → steps + suc more ≤ step_limit → nat_lt steps step_limit ≡ true
 below steps more few = grind (arith, nat_tests)
 
 may_begin : (steps more : ℕ) (at : ℕ) → steps + suc more ≤ step_limit → offence_of (texts.Outside steps) (Open at) ≡ None

@@ -1,19 +1,29 @@
--- Which texts are of plans, and a worked text.
+-- Which texts are of plans, and what a reader gives of them.
 use Rattle.std.specs.Prelude.{◌≡◌, ℕ, List, [], ◌∷◌, codes, Some, None}
 use Prim.Native.String.{String}
 use Rattle.p3_base.specs.declared.refusal.Code.TheVariants.{Unbalanced}
 use Rattle.p3_tree.specs.Plans.{Plan}
 use Rattle.p3_tree.specs.PlanTexts.{IsPlanText, refusal}
-use Rattle.p3_plans.specs.Steps.{Left, left}
+use Rattle.p3_plans.specs.Steps.{StepText, Left, left}
 
 -- the text is of a plan
 pub record HasPlan (text : List ℕ) : Type 0 where
   pub plan : Plan
   pub spelled : IsPlanText text plan
 
--- what a reader gives of a text
+-- what a new reader gives of a text
+abbrev pub all_of : List ℕ → Left
+all_of text = left (record { source = text; at = 0; given = 0; stopped = None })
+
 abbrev pub given_of : String → Left
-given_of text = left (record { source = codes text; at = 0; given = 0; stopped = None })
+given_of text = all_of (codes text)
+
+-- the slices are as many as the steps, and each taken alone is a text of its step
+unfoldable pub AreTextsOf : List StepText → Plan → Type 0
+AreTextsOf [] [] = Unit {0}
+AreTextsOf [] (step ∷ plan) = ⊥
+AreTextsOf (slice ∷ slices) [] = ⊥
+AreTextsOf (slice ∷ slices) (step ∷ plan) = IsPlanText slice.text (step ∷ []) × AreTextsOf slices plan
 
 -- the steps that end before an offence come before it; letters stay as they are
 pub record StepsBeforeOffences : Type 0 where

@@ -3,7 +3,7 @@
 ghost use Rattle.std.specs.Prelude.{◌≡◌, ◌↔◌, ℕ, List, None};
 ghost use Rattle.p3_tree.specs.Plans.{Plan};
 ghost use Rattle.p3_tree.specs.PlanTexts.{IsPlanText, plan_offence};
-ghost use Rattle.p3_plans.specs.Laws.{HasPlan, StepsBeforeOffences};
+ghost use Rattle.p3_plans.specs.Laws.{AreTextsOf, HasPlan, StepsBeforeOffences, all_of};
 
 /// A text has one plan at most.
 pub fn one_plan_at_most()
@@ -18,4 +18,9 @@ pub fn a_plan_where_no_offence()
 /// A reader gives the steps of two texts, and what ends them.
 pub fn steps_before_offences()
     ensures { StepsBeforeOffences }
+{}
+
+/// The slices that a reader gives of a plan's text are texts of its steps, in order.
+pub fn slices_are_texts_of_steps()
+    ensures { (text : List ℕ) (plan : Plan) → IsPlanText text plan → AreTextsOf (all_of text).steps plan }
 {}

@@ -13,7 +13,9 @@ mod reader;
 mod write;
 
 pub use error::PlanFail;
-pub use laws::{a_plan_where_no_offence, one_plan_at_most, steps_before_offences};
+pub use laws::{
+    a_plan_where_no_offence, one_plan_at_most, slices_are_texts_of_steps, steps_before_offences,
+};
 pub use read::read_plan;
 pub use reader::{NextStep, PlanReader, PlanStep};
 pub use write::write_plan;

@@ -1,8 +1,10 @@
 //! Reading a plan.
 
-ghost use Rattle.std.specs.Prelude.{◌≡◌, ◌≤◌, length, IfOk, IfErr, Some, None};
+ghost use Rattle.std.specs.Prelude.{◌≡◌, ◌≤◌, length, IfOk, IfErr, IsTrue, Some, None};
+ghost use Rattle.std.specs.List.{list_all};
 ghost use Rattle.p3_tree.specs.PlanTexts.{IsPlanText, plan_offence};
 ghost use Rattle.p3_plans.specs.Drafts.{IfRefused};
+ghost use Rattle.p3_plans.specs.Layout as layout;
 
 use crate::PlanFail;
 use crate::before::refusal;
@@ -16,6 +18,8 @@ use std::alloc::Global;
 pub fn read_plan(alloc: Global, text: &[u8]) -> Result<Plan, PlanFail>
     requires short { length text.now ≤ 16777216 }
     ensures read { IfOk result (λ plan. IsPlanText text.now plan) }
+    // What is read can be written.
+    ensures writable { IfOk result (λ plan. IsTrue (list_all layout.has_written_words plan)) }
     // A text with an offence has no plan.
     ensures free { IfOk result (λ _. plan_offence text.now ≡ None) }
     // A text is refused at its first offence.

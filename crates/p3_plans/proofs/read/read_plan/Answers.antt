@@ -4,6 +4,7 @@ use Rattle.p3_base.specs.declared.refusal.Refusal.{Refusal}
 use Rattle.p3_lexer.specs.Lexing.{left, token_of}
 use Rattle.p3_tree.specs.Tokens.{Tokens}
 use Rattle.p3_plans.proofs.DraftLemmas.{IsRead, read_more, read_foreign, fail_here, whole_free, whole_refused}
+use Rattle.p3_plans.proofs.ReadLemmas.{whole_is_writable}
 use Rattle.p3_plans.proofs.read.read_plan.Goals as goal
 
 pub returns-in_err-draft-in-Token-clause-refused : goal.returns-in_err-draft-in-Token-clause-refused
@@ -20,6 +21,11 @@ loop-word-preserved c =
       source = c.in-Token.ensures.source ∙ c.loop-word.invariant.source;
       read = read_more c.args.text.now c.loop-word.draft (token_of c.in-Token.place c.in-Token.word.now) (left c.next.new.self) is_read c.in_ok-draft-in-Token.draft c.in_ok-draft-in-Token.ensures;
     }
+
+pub returns-in-End-clause-writable : goal.returns-in-End-clause-writable
+returns-in-End-clause-writable c =
+    let is_read = subst (λ (t : Tokens). IsRead c.args.text.now c.loop-word.draft t) c.in-End.ensures.tokens c.loop-word.invariant.read in
+    whole_is_writable c.args.text.now c.loop-word.draft is_read c.whole.result c.whole.ensures
 
 pub returns-in-End-clause-free : goal.returns-in-End-clause-free
 returns-in-End-clause-free c =
