@@ -1,18 +1,20 @@
--- The smallest useful task: one step that sets an atom, and a preference of weight 5 on it at the end.
+-- The smallest useful task: one step that sets an atom, and a preference of weight 5 on it at the end. And the six operators.
 use Rattle.std.proofs.Common.{◌≡◌, refl, ℕ, true, false, List, [], ◌∷◌, Some, pos}
 use Rattle.std.specs.Prelude.{codes}
 use Rattle.std.specs.Fmt.{digits}
 use Rattle.p3_base.specs.declared.refusal.Direction.TheVariants.{Minimize}
 use denote.Hole.Carrier.{hidden}
-use Rattle.p3_formula.specs.Forms.{truth}
+use Rattle.p3_formula.specs.Forms.{State, truth, has_atoms}
 use Rattle.p3_formula.specs.Next.{after}
 use Rattle.p3_formula.specs.GroundSat.{ground_sat}
 use Rattle.p3_formula.specs.GroundPlans.{visited_from, is_ground_valid, ground_violated, ground_cost, ground_loss}
-use Rattle.p3_formula.specs.Targets.{IsNamed, reaches_goal, target_cost, ground_lift}
+use Rattle.p3_formula.specs.Targets.{IsNamed, IsSized, reaches_goal, target_cost, ground_lift}
 use Rattle.p3_formula.specs.declared.form.Change.{Change}
+use Rattle.p3_formula.specs.declared.form.Form.{Form}
 use Rattle.p3_formula.specs.declared.form.Form.TheBlock.{hidden-the_row-Form-0, hidden-the_row-Form-1, shape-the_row-Form-0, shape-the_row-Form-1}
 use Rattle.p3_formula.specs.declared.form.Form.TheVariants.{True, Atom, Not, And}
-use Rattle.p3_formula.specs.declared.modal.GroundModal.TheVariants.{AtEnd}
+use Rattle.p3_formula.specs.declared.modal.GroundModal.{GroundModal}
+use Rattle.p3_formula.specs.declared.modal.GroundModal.TheVariants.{AtEnd, Always, Sometime, AtMostOnce, SometimeAfter, SometimeBefore}
 use Rattle.p3_formula.specs.declared.target.Target.{Target}
 use Rattle.p3_formula.specs.declared.target.Weights.{Weights}
 use Rattle.p3_formula.specs.declared.task.GroundTask.{GroundTask}
@@ -55,7 +57,7 @@ target = record {
 
 -- the definitions, to be unfolded together
 unfoldable computes : Unit {0}
-unfolding hidden hidden-the_row-Form-0 hidden-the_row-Form-1 shape-the_row-Form-0 shape-the_row-Form-1 digits truth after ground_sat visited_from is_ground_valid ground_violated ground_cost ground_loss reaches_goal target_cost ground_lift
+unfolding hidden hidden-the_row-Form-0 hidden-the_row-Form-1 shape-the_row-Form-0 shape-the_row-Form-1 digits truth has_atoms after ground_sat visited_from is_ground_valid ground_violated ground_cost ground_loss reaches_goal target_cost ground_lift
 computes = tt
 
 -- a plan, whether it is valid, and its loss
@@ -94,4 +96,59 @@ not_forgone = refl
 -- its names are names of the grammar, and differ
 pub target_named : IsNamed target
 unfolding computes
-target_named = record { predicates = refl; actions = refl; endings = refl }
+target_named = record { predicates = refl; actions = refl; different = refl; endings = refl }
+
+pub target_sized : IsSized target
+unfolding computes
+target_sized = record { bits = refl; goal = refl; actions = refl }
+
+-- ---- the operators, over states where f and g hold or not
+
+abbrev pub f : Form
+f = Atom 0
+
+abbrev pub g : Form
+g = Atom 1
+
+abbrev pub neither : State
+neither = false ∷ false ∷ []
+
+abbrev pub f_alone : State
+f_alone = true ∷ false ∷ []
+
+abbrev pub g_alone : State
+g_alone = false ∷ true ∷ []
+
+abbrev pub both : State
+both = true ∷ true ∷ []
+
+-- states that satisfy the operator, and states that do not
+abbrev Tells : GroundModal → List State → List State → Type 0
+Tells modal good bad = (ground_sat good modal ≡ true) × (ground_sat bad modal ≡ false)
+
+pub at_end : Tells (AtEnd f) (neither ∷ f_alone ∷ []) (f_alone ∷ neither ∷ [])
+unfolding computes
+at_end = (refl, refl)
+
+pub always : Tells (Always f) (f_alone ∷ both ∷ []) (f_alone ∷ neither ∷ f_alone ∷ [])
+unfolding computes
+always = (refl, refl)
+
+pub sometime : Tells (Sometime f) (neither ∷ f_alone ∷ neither ∷ []) (neither ∷ g_alone ∷ [])
+unfolding computes
+sometime = (refl, refl)
+
+-- a second state without a gap is no second time
+pub at_most_once : Tells (AtMostOnce f) (neither ∷ f_alone ∷ both ∷ neither ∷ []) (f_alone ∷ neither ∷ f_alone ∷ [])
+unfolding computes
+at_most_once = (refl, refl)
+
+-- the same state is late enough
+pub sometime_after : Tells (SometimeAfter f g) (f_alone ∷ both ∷ []) (g_alone ∷ f_alone ∷ neither ∷ [])
+unfolding computes
+sometime_after = (refl, refl)
+
+-- but it is not early enough
+pub sometime_before : Tells (SometimeBefore f g) (g_alone ∷ f_alone ∷ []) (both ∷ g_alone ∷ [])
+unfolding computes
+sometime_before = (refl, refl)

@@ -84,10 +84,11 @@ ends_with_c_number (byte ∷ bytes) = (byte == 99) && is_number bytes || ends_wi
 abbrev pub action_names : Target → List Name
 action_names X = map (λ (action : TargetAction). action.name) X.actions
 
--- its names are names of the grammar, no two predicates and no two actions have the same, and no action's name ends with `c` and a number
+-- its names are names of the grammar and differ from one another, those of predicates from those of actions too, and no action's name ends with `c` and a number
 pub record IsNamed (X : Target) : Type 0 where
-  pub predicates : IsTrue (list_all is_predicate_name X.predicates && are_different X.predicates)
-  pub actions : IsTrue (list_all is_name (action_names X) && are_different (action_names X))
+  pub predicates : IsTrue (list_all is_predicate_name X.predicates)
+  pub actions : IsTrue (list_all is_name (action_names X))
+  pub different : IsTrue (are_different (X.predicates ++ action_names X))
   pub endings : IsTrue (list_all (λ name. not (ends_with_c_number name)) (action_names X))
 
 -- the states that actions lead to from one on

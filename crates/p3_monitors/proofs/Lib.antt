@@ -5,3 +5,4 @@ pub mod ChangeLaws
 pub mod UpdateLaws
 pub mod AcceptLaws
 pub mod RiderLaws
+pub mod Worked
