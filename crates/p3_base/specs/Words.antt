@@ -1,5 +1,5 @@
 -- Names and the other words of the grammar. The bytes of a name are lowered, so that names are compared without letter case.
-use Rattle.std.specs.Prelude.{ℕ, ◌==◌, nat_le, Bool, false, not, ◌&&◌, List, [], ◌∷◌, map, codes, bytes_eq}
+use Rattle.std.specs.Prelude.{ℕ, ◌==◌, nat_le, Bool, false, not, ◌&&◌, ◌||◌, List, [], ◌∷◌, map, codes, bytes_eq}
 use Rattle.std.specs.List.{list_any, list_all}
 
 abbrev pub Name : Type 0
@@ -15,11 +15,26 @@ has_name names name = list_any (λ other. same_name other name) names
 abbrev pub total_cost : Name
 total_cost = codes "total-cost"
 
+-- ---- bytes
+
+abbrev pub is_printable : ℕ → Bool
+is_printable byte = nat_le 33 byte && nat_le byte 126
+
+-- what may stand in a word: printable, and no parenthesis and no `;`
+abbrev pub is_of_word : ℕ → Bool
+is_of_word byte = is_printable byte && not (byte == 40 || byte == 41 || byte == 59)
+
+-- so may it in a word whose letters are lowered
+abbrev pub is_lowered : ℕ → Bool
+is_lowered byte = is_of_word byte && not (nat_le 65 byte && nat_le byte 90)
+
 abbrev pub is_letter : ℕ → Bool
 is_letter byte = nat_le 97 byte && nat_le byte 122
 
 abbrev pub is_digit : ℕ → Bool
 is_digit byte = nat_le 48 byte && nat_le byte 57
+
+-- ---- which words are names, variables and numbers
 
 -- a name begins with a letter
 abbrev pub is_name : Name → Bool

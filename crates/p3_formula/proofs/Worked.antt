@@ -96,7 +96,7 @@ not_forgone = refl
 -- its names are names of the grammar, and differ
 pub target_named : IsNamed target
 unfolding computes
-target_named = record { predicates = refl; actions = refl; different = refl; endings = refl }
+target_named = record { predicates = refl; actions = refl; spelled = refl; different = refl; endings = refl }
 
 pub target_sized : IsSized target
 unfolding computes

@@ -2,7 +2,7 @@
 use Rattle.std.specs.Prelude.{◌≡◌, ℕ, ◌+◌, ◌==◌, nat_lt, Bool, true, false, not, ◌&&◌, ◌||◌, List, [], ◌∷◌, ◌++◌, length, map, find, filter_map, sum_by, codes, Option, Some, None, IsTrue, Contains, bytes_eq}
 use Rattle.std.specs.List.{list_all, range_with_len, starts_with}
 use Rattle.std.specs.Fmt.{decimal}
-use Rattle.p3_base.specs.Words.{Name, has_name, is_name, is_number, is_predicate_name}
+use Rattle.p3_base.specs.Words.{Name, has_name, is_lowered, is_name, is_number, is_predicate_name}
 use Rattle.p3_formula.specs.Forms.{State, truth, has_atoms}
 use Rattle.p3_formula.specs.Next.{after}
 use Rattle.p3_formula.specs.GroundPlans.{GroundPlan, GroundValid, ground_loss}
@@ -84,10 +84,11 @@ ends_with_c_number (byte ∷ bytes) = (byte == 99) && is_number bytes || ends_wi
 abbrev pub action_names : Target → List Name
 action_names X = map (λ (action : TargetAction). action.name) X.actions
 
--- its names are names of the grammar and differ from one another, those of predicates from those of actions too, and no action's name ends with `c` and a number
+-- its names are names of the grammar, made of bytes of words, and differ from one another, those of predicates from those of actions too, and no action's name ends with `c` and a number
 pub record IsNamed (X : Target) : Type 0 where
   pub predicates : IsTrue (list_all is_predicate_name X.predicates)
   pub actions : IsTrue (list_all is_name (action_names X))
+  pub spelled : IsTrue (list_all (list_all is_lowered) (X.predicates ++ action_names X))
   pub different : IsTrue (are_different (X.predicates ++ action_names X))
   pub endings : IsTrue (list_all (λ name. not (ends_with_c_number name)) (action_names X))
 

@@ -27,14 +27,14 @@ module _ (base : ℕ) where
   accept_truth (SometimeAfter f g) state = unset state base
   accept_truth (SometimeBefore f g) state = unset state (base + 1)
 
-  accepts_sat : (modal : GroundModal) (W : List State) (state : State) → Kept base modal W state → accepts base modal state ≡ ground_sat W modal
+  pub accepts_sat : (modal : GroundModal) (W : List State) (state : State) → Kept base modal W state → accepts base modal state ≡ ground_sat W modal
   unfolding ground_sat
-  accepts_sat (AtEnd f) W state kept = truth-agree state (last_of W) (is_read (AtEnd f)) kept.agrees f (and_parts _ _ (reads (AtEnd f))).0
-  accepts_sat (Always f) W state kept = kept.stand.0
-  accepts_sat (Sometime f) W state kept = kept.stand.0
-  accepts_sat (AtMostOnce f) W state kept = ap not kept.stand.1.0 ∙ sym (sat-AtMostOnce W f f)
-  accepts_sat (SometimeAfter f g) W state kept = ap not kept.stand.0 ∙ sym (sat-SometimeAfter W f g)
-  accepts_sat (SometimeBefore f g) W state kept = ap not kept.stand.1.0 ∙ sym (sat-SometimeBefore W f g)
+  accepts_sat (AtEnd f) W state kept = truth-agree state (last_of W) (is_read (AtEnd f)) kept.carries.agrees f (and_parts _ _ (reads (AtEnd f))).0
+  accepts_sat (Always f) W state kept = kept.carries.stand.0
+  accepts_sat (Sometime f) W state kept = kept.carries.stand.0
+  accepts_sat (AtMostOnce f) W state kept = ap not kept.carries.stand.1.0 ∙ sym (sat-AtMostOnce W f f)
+  accepts_sat (SometimeAfter f g) W state kept = ap not kept.carries.stand.0 ∙ sym (sat-SometimeAfter W f g)
+  accepts_sat (SometimeBefore f g) W state kept = ap not kept.carries.stand.1.0 ∙ sym (sat-SometimeBefore W f g)
 
   pub accept_sat : (modal : GroundModal) (W : List State) (state : State) → Kept base modal W state → truth state (accept_form base modal) ≡ ground_sat W modal
   accept_sat modal W state kept = accept_truth modal state ∙ accepts_sat modal W state kept

@@ -3,6 +3,7 @@ use Rattle.std.proofs.Common.{◌≡◌, ◌∙◌, ℕ, ◌+◌, ◌<◌, ◌�
 use Rattle.std.specs.List.{list_any}
 use Rattle.std.proofs.lemmas.Bool.{and_parts, or_from, true≢false, lt-ltb, le-leb}
 use Rattle.std.proofs.lemmas.Bool.Decides.{nat_tests}
+use Rattle.std.proofs.lemmas.List.{length-append}
 use Rattle.std.proofs.lemmas.List.Folds.{list_any-append}
 use Rattle.p3_formula.specs.Forms.{State, is_set, truth, has_atoms}
 use Rattle.p3_formula.specs.GroundPlans.{last_of}
@@ -49,20 +50,21 @@ own_from base modal atom from below = ap (λ b. b && nat_lt atom (base + atom_co
 lower_outside : (base : ℕ) (modal : GroundModal) (atom : ℕ) → atom < base → is_own base modal atom ≡ false
 lower_outside base modal atom lt = let low : nat_le base atom ≡ false = grind (arith, nat_tests) in ap (λ b. b && nat_lt atom (base + atom_count modal)) low
 
--- atoms that are not the monitor's are as without its changes
-pub others_stay : (base : ℕ) (modal : GroundModal) (step effects : List Change) → AreOwn base modal effects → (state : State) (atom : ℕ) → is_own base modal atom ≡ false
-    → is_set (after state (step ++ effects)) atom ≡ is_set (after state step) atom
-others_stay base modal step effects own state atom outside = by (nat_lt atom (length state)) refl where
-  none : list_any (λ change. change.atom == atom) effects ≡ false
-  none = own_named base modal atom effects own outside
-
-  by : (b : Bool) → nat_lt atom (length state) ≡ b → is_set (after state (step ++ effects)) atom ≡ is_set (after state step) atom
+-- an atom that further changes do not name is as without them
+pub unnamed_stays : (step more : List Change) (state : State) (atom : ℕ) → list_any (λ change. change.atom == atom) more ≡ false → is_set (after state (step ++ more)) atom ≡ is_set (after state step) atom
+unnamed_stays step more state atom none = by (nat_lt atom (length state)) refl where
+  by : (b : Bool) → nat_lt atom (length state) ≡ b → is_set (after state (step ++ more)) atom ≡ is_set (after state step) atom
   by true lt =
       let within : atom < length state = grind (arith, nat_tests) in
-      is_set-after state (step ++ effects) atom within ∙ is_set_after-front state step effects atom none ∙ sym (is_set-after state step atom within)
+      is_set-after state (step ++ more) atom within ∙ is_set_after-front state step more atom none ∙ sym (is_set-after state step atom within)
   by false ge =
       let beyond : length state ≤ atom = grind (arith, nat_tests) in
-      is_set-beyond state (step ++ effects) atom beyond ∙ sym (is_set-beyond state step atom beyond)
+      is_set-beyond state (step ++ more) atom beyond ∙ sym (is_set-beyond state step atom beyond)
+
+-- so are atoms that are not the monitor's
+pub others_stay : (base : ℕ) (modal : GroundModal) (step effects : List Change) → AreOwn base modal effects → (state : State) (atom : ℕ) → is_own base modal atom ≡ false
+    → is_set (after state (step ++ effects)) atom ≡ is_set (after state step) atom
+others_stay base modal step effects own state atom outside = unnamed_stays step effects state atom (own_named base modal atom effects own outside)
 
 -- ---- a step with the changes of the monitor and others
 
@@ -87,18 +89,15 @@ module _ {base : ℕ} {modal : GroundModal} {step effects : List Change} (stage 
   reached = after stage.state all_changes
 
   inside : base + atom_count modal ≤ length stage.state
-  inside = let l = length-watched stage.W modal in let room = stage.kept.room in omega arith
+  inside = let l = length-watched stage.W modal in let room = stage.kept.carries.room in omega arith
 
   -- an atom of the constraint is as after the step alone
   read_after : (atom : ℕ) → is_read modal atom ≡ true → is_set reached atom ≡ is_set (after stage.state step) atom
   read_after atom read =
       let lt = read_below base modal stage.below atom read in
-      let room = inside in
-      let within : atom < length stage.state = omega arith in
-      let none = list_any-append (λ change. change.atom == atom) effects stage.others ∙ or_from _ _ (own_named base modal atom effects stage.own (lower_outside base modal atom lt)) (none_named (is_read modal) atom stage.others stage.apart.read read) in
-      is_set-after stage.state all_changes atom within
-      ∙ is_set_after-front stage.state step (effects ++ stage.others) atom none
-      ∙ sym (is_set-after stage.state step atom within)
+      unnamed_stays step (effects ++ stage.others) stage.state atom
+      (list_any-append (λ change. change.atom == atom) effects stage.others
+      ∙ or_from _ _ (own_named base modal atom effects stage.own (lower_outside base modal atom lt)) (none_named (is_read modal) atom stage.others stage.apart.read read))
 
   -- an atom of the monitor is as after its changes alone
   pub own_after : (atom : ℕ) → base ≤ atom → atom < base + atom_count modal → is_set reached atom ≡ is_set_after stage.state effects atom
@@ -112,7 +111,7 @@ module _ {base : ℕ} {modal : GroundModal} {step effects : List Change} (stage 
   module _ (form : Form) (reads : has_atoms (is_read modal) form ≡ true) where
     -- a form of the constraint, before the step
     pub truth_now : truth stage.state form ≡ truth (last_of stage.W) form
-    truth_now = truth-agree stage.state (last_of stage.W) (is_read modal) stage.kept.agrees form reads
+    truth_now = truth-agree stage.state (last_of stage.W) (is_read modal) stage.kept.carries.agrees form reads
 
     -- and after it, as its regressed form tells before it
     pub truth_later : (before : Form) → IsTrueBefore step form before → truth stage.state before ≡ truth stage.next form
@@ -125,9 +124,12 @@ module _ {base : ℕ} {modal : GroundModal} {step effects : List Change} (stage 
   -- with the right bits, the monitor is kept
   keeps : AreAt base (watched (stage.W ++ stage.next ∷ []) modal) reached → Kept base modal (stage.W ++ stage.next ∷ []) reached
   keeps bits = record {
-    agrees = λ atom read. stage.agree atom read ∙ ap (λ s. is_set s atom) (sym (last-next stage.W stage.next));
-    room = let l = length-watched (stage.W ++ stage.next ∷ []) modal in let a = length-after stage.state all_changes in let room = inside in omega arith;
-    stand = bits;
+    visited = let l = length-append stage.W (stage.next ∷ []) in omega arith;
+    carries = record {
+      agrees = λ atom read. stage.agree atom read ∙ ap (λ s. is_set s atom) (sym (last-next stage.W stage.next));
+      room = let l = length-watched (stage.W ++ stage.next ∷ []) modal in let a = length-after stage.state all_changes in let room = inside in omega arith;
+      stand = bits;
+    };
   }
 
 -- changes of the monitor's atoms that give the right bits at each stage keep it on

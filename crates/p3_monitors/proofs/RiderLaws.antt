@@ -3,18 +3,20 @@ use Rattle.std.proofs.Common.{◌≡◌, ◌∙◌, ℕ, ◌+◌, ◌≤◌, nat
 use Rattle.std.specs.Prelude.{flat_map}
 use Rattle.std.specs.List.{list_all}
 use Rattle.std.specs.List.Sorted.{IsPermutation}
-use Rattle.std.proofs.lemmas.Bool.{and_parts, and_from}
+use Rattle.std.proofs.lemmas.Bool.{and_parts, and_from, lt-ltb}
 use Rattle.std.proofs.lemmas.Bool.Decides.{nat_tests}
 use Rattle.std.proofs.lemmas.List.Folds.{list_all-append}
 use Rattle.std.proofs.lemmas.List.Sorted.{IsPermutation-append_comm, IsPermutation-append_left, IsPermutation-append_right}
-use Rattle.p3_formula.specs.Forms.{State}
+use Rattle.p3_formula.specs.Forms.{State, is_set}
 use Rattle.p3_formula.specs.Next.{after}
 use Rattle.p3_formula.specs.declared.form.Change.{Change}
 use Rattle.p3_formula.specs.declared.modal.GroundModal.{GroundModal}
 use Rattle.p3_formula.proofs.NextLaws.{after-permutation}
-use Rattle.p3_monitors.specs.Kept.{is_own, is_read, atom_count, IsModalBelow, Agree, Kept, AreOwn, AreOthers}
-use Rattle.p3_monitors.specs.Riders.{Rider, AreRiders, AreKept, AllAgree, RideTogether}
+use Rattle.p3_monitors.specs.Kept.{is_own, is_read, atom_count, IsModalBelow, Kept, HasNone, AreOwn, AreOthers}
+use Rattle.p3_monitors.specs.Riders.{AreRiders, AreKept, AreBeside, AgreeBelow, RideTogether}
+use Rattle.p3_monitors.specs.declared.watching.Monitor.{Monitor}
 use Rattle.p3_monitors.proofs.ReadAtoms.{read_below}
+use Rattle.p3_monitors.proofs.ChangeLaws.{none_named, unnamed_stays}
 
 -- the changes are of atoms from a number on and before another
 abbrev AreWithin : ℕ → ℕ → List Change → Type 0
@@ -31,14 +33,19 @@ all_pass test other passes (change ∷ effects) all = let parts = and_parts (tes
 both_pass : (test : Change → Bool) (first second : List Change) → list_all test first ≡ true → list_all test second ≡ true → list_all test (first ++ second) ≡ true
 both_pass test first second h k = list_all-append test first second ∙ and_from (list_all test first) _ h k
 
+abbrev flat : List (List Change) → List Change
+flat changes = flat_map (λ effects. effects) changes
+
 -- the changes of riders are of atoms from the first one's base on
-riders_from : (sources from : ℕ) (step : List Change) (riders : List Rider) → AreRiders sources from step riders → AreFrom from (flat_map (λ rider. rider.effects) riders)
-riders_from sources from step [] are = refl
-riders_from sources from step (rider ∷ riders) (one, are) =
+riders_from : (sources from : ℕ) (step : List Change) (monitors : List Monitor) (changes : List (List Change)) → AreRiders sources from step monitors changes → AreFrom from (flat changes)
+riders_from sources from step [] [] are = refl
+riders_from sources from step [] (effects ∷ changes) are = absurd are
+riders_from sources from step (monitor ∷ monitors) [] are = absurd are
+riders_from sources from step (monitor ∷ monitors) (effects ∷ changes) (one, are) =
     let behind = one.behind in
-    both_pass (λ change. nat_le from change.atom) rider.effects (flat_map (λ r. r.effects) riders)
-    (all_pass _ (λ change. nat_le from change.atom) (λ change own. let low = (and_parts (nat_le rider.base change.atom) _ own).0 in grind (arith, nat_tests)) rider.effects one.own)
-    (all_pass _ (λ change. nat_le from change.atom) (λ change high. grind (arith, nat_tests)) (flat_map (λ r. r.effects) riders) (riders_from sources (rider.base + atom_count rider.modal) step riders are))
+    both_pass (λ change. nat_le from change.atom) effects (flat changes)
+    (all_pass _ (λ change. nat_le from change.atom) (λ change own. let low = (and_parts (nat_le monitor.base change.atom) _ own).0 in grind (arith, nat_tests)) effects one.own)
+    (all_pass _ (λ change. nat_le from change.atom) (λ change high. grind (arith, nat_tests)) (flat changes) (riders_from sources (monitor.base + atom_count monitor.modal) step monitors changes are))
 
 -- an atom below a count is not read past it
 read_no : (sources : ℕ) (modal : GroundModal) → IsModalBelow sources modal → (atom : ℕ) → sources ≤ atom → not (is_read modal atom) ≡ true
@@ -75,6 +82,14 @@ module _ (sources from : ℕ) (step : List Change) (modal : GroundModal) (base :
     outside : (atom : ℕ) → nat_le (base + atom_count modal) atom ≡ true → not (is_own base modal atom) ≡ true
     outside atom low = let high : nat_lt atom (base + atom_count modal) ≡ false = grind (arith, nat_tests) in not-right (nat_le base atom) _ high
 
+  others_beside : (others : List Change) → HasNone (λ atom. nat_lt atom sources) others → HasNone (is_own base modal) others → AreOthers base modal others
+  others_beside others high own = record {
+    own = own;
+    read = all_pass _ (λ change. not (is_read modal change.atom)) (λ change up. read_no sources modal below change.atom (past change.atom up)) others high;
+  } where
+    past : (atom : ℕ) → not (nat_lt atom sources) ≡ true → sources ≤ atom
+    past atom up = grind (arith, nat_tests)
+
   both_others : (front rest : List Change) → AreOthers base modal front → AreOthers base modal rest → AreOthers base modal (front ++ rest)
   both_others front rest first second = record {
     own = both_pass (λ change. not (is_own base modal change.atom)) front rest first.own second.own;
@@ -106,23 +121,42 @@ wider sources from step base modal front effects all_sources behind within own =
       higher atom le = grind (arith, nat_tests)
 
 -- the same with changes of riders before
-ride_behind : (sources from : ℕ) (step front : List Change) (riders : List Rider) (W : List State) (state next : State) → sources ≤ from → AreWithin sources from front → AreRiders sources from step riders → AreKept riders W state
-    → AllAgree riders (after state (step ++ (front ++ flat_map (λ rider. rider.effects) riders))) next → AreKept riders (W ++ next ∷ []) (after state (step ++ (front ++ flat_map (λ rider. rider.effects) riders)))
-ride_behind sources from step front [] W state next all_sources within are kept agree = tt
-ride_behind sources from step front (rider ∷ riders) W state next all_sources within (one, are) (first, others) (agrees, all_agree) =
-    let behind = flat_map (λ r. r.effects) riders in
-    let high = riders_from sources (rider.base + atom_count rider.modal) step riders are in
-    let apart = both_others sources from step rider.modal rider.base one.below all_sources one.behind front behind
-    (others_before sources from step rider.modal rider.base one.below all_sources one.behind front within)
-    (others_behind sources from step rider.modal rider.base one.below all_sources one.behind behind high) in
-    let swap = after-permutation state _ _ (to_front step front rider.effects behind) in
-    let assoc = ap (λ changes. after state (step ++ changes)) (append_assoc front rider.effects behind) in (
-      subst (Kept rider.base rider.modal (W ++ next ∷ [])) swap (one.keeps W state next (front ++ behind) first apart (subst (λ s. Agree rider.modal s next) (sym swap) agrees)),
-      subst (AreKept riders (W ++ next ∷ [])) assoc
-          (ride_behind sources (rider.base + atom_count rider.modal) step (front ++ rider.effects) riders W state next (further sources from rider.base (atom_count rider.modal) all_sources one.behind)
-          (wider sources from step rider.base rider.modal front rider.effects all_sources one.behind within one.own) are others (subst (λ s. AllAgree riders s next) (sym assoc) all_agree)),
+ride_behind : (sources from : ℕ) (step front others : List Change) (monitors : List Monitor) (changes : List (List Change)) (W : List State) (state next : State) → sources ≤ from → AreWithin sources from front
+    → AreRiders sources from step monitors changes → HasNone (λ atom. nat_lt atom sources) others → AreBeside monitors others → AreKept monitors W state
+    → AgreeBelow sources (after state (step ++ (front ++ (flat changes ++ others)))) next → AreKept monitors (W ++ next ∷ []) (after state (step ++ (front ++ (flat changes ++ others))))
+ride_behind sources from step front others [] [] W state next all_sources within are high beside kept agree = tt
+ride_behind sources from step front others [] (effects ∷ changes) W state next all_sources within are high beside kept agree = absurd are
+ride_behind sources from step front others (monitor ∷ monitors) [] W state next all_sources within are high beside kept agree = absurd are
+ride_behind sources from step front others (monitor ∷ monitors) (effects ∷ changes) W state next all_sources within (one, are) high (outside, beside) (first, kept) agree =
+    let behind = flat changes in
+    let apart = both_others sources from step monitor.modal monitor.base one.below all_sources one.behind front (behind ++ others)
+    (others_before sources from step monitor.modal monitor.base one.below all_sources one.behind front within)
+    (both_others sources from step monitor.modal monitor.base one.below all_sources one.behind behind others
+    (others_behind sources from step monitor.modal monitor.base one.below all_sources one.behind behind (riders_from sources (monitor.base + atom_count monitor.modal) step monitors changes are))
+    (others_beside sources from step monitor.modal monitor.base one.below all_sources one.behind others high outside)) in
+    let parted = ap (λ more. after state (step ++ (front ++ more))) (append_assoc effects behind others) in
+    let swap = after-permutation state _ _ (to_front step front effects (behind ++ others)) ∙ sym parted in
+    let assoc = ap (λ more. after state (step ++ more)) (append_assoc front effects (behind ++ others)) ∙ sym parted in (
+      subst (Kept monitor.base monitor.modal (W ++ next ∷ [])) swap
+          (one.keeps W state next (front ++ (behind ++ others)) first apart (λ atom read. ap (λ s. is_set s atom) swap ∙ agree atom (read_below sources monitor.modal one.below atom read))),
+      subst (AreKept monitors (W ++ next ∷ [])) assoc
+          (ride_behind sources (monitor.base + atom_count monitor.modal) step (front ++ effects) others monitors changes W state next (further sources from monitor.base (atom_count monitor.modal) all_sources one.behind)
+          (wider sources from step monitor.base monitor.modal front effects all_sources one.behind within one.own) are high beside kept (λ atom lt. ap (λ s. is_set s atom) assoc ∙ agree atom lt)),
     )
 
+-- the changes of riders and of others are of no source atom
+sources_stay : (sources from : ℕ) (step others : List Change) (monitors : List Monitor) (changes : List (List Change)) (state : State) → sources ≤ from → AreRiders sources from step monitors changes
+    → HasNone (λ atom. nat_lt atom sources) others → AgreeBelow sources (after state (step ++ (flat changes ++ others))) (after state step)
+sources_stay sources from step others monitors changes state all_sources are high atom lt =
+    unnamed_stays step (flat changes ++ others) state atom
+    (none_named (λ a. nat_lt a sources) atom (flat changes ++ others)
+    (both_pass (λ change. not (nat_lt change.atom sources)) (flat changes) others (all_pass _ _ (λ change up. above change.atom up) (flat changes) (riders_from sources from step monitors changes are)) high)
+    (lt-ltb atom sources lt)) where
+      above : (a : ℕ) → nat_le from a ≡ true → not (nat_lt a sources) ≡ true
+      above a up = let low : nat_lt a sources ≡ false = grind (arith, nat_tests) in ap not low
+
 pub ride_together : RideTogether
-ride_together sources from step riders W state next all_sources are kept agree =
-    ride_behind sources from step [] riders W state next all_sources refl are kept agree
+ride_together sources from step others monitors changes W state next all_sources are high beside kept agree = record {
+  kept = ride_behind sources from step [] others monitors changes W state next all_sources refl are high beside kept (λ atom lt. sources_stay sources from step others monitors changes state all_sources are high atom lt ∙ agree atom lt);
+  sources_stay = sources_stay sources from step others monitors changes state all_sources are high;
+}

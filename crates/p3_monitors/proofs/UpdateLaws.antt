@@ -127,7 +127,7 @@ module _ (base : ℕ) (step : List Change) where
       kept = keeps_on base (modal.Always f) step (always base later) below mine (λ stage. (
         own_after stage base (at_base base) (in_one base)
             ∙ cleared_by stage.state base (Not later)
-            ∙ (λ i. stage.kept.stand.0 i && not (truth-Not stage.state later i))
+            ∙ (λ i. stage.kept.carries.stand.0 i && not (truth-Not stage.state later i))
             ∙ ap (λ b. each_place stage.W (holds_at stage.W f) && b) (not-not (truth stage.state later) ∙ truth_later stage f (reads_it (modal.Always f) refl) later regressed)
             ∙ sym (each-next stage.W stage.next f),
         tt,
@@ -145,7 +145,7 @@ module _ (base : ℕ) (step : List Change) where
       kept = keeps_on base (modal.Sometime f) step (sometime base later) below mine (λ stage. (
         own_after stage base (at_base base) (in_one base)
             ∙ set_by stage.state base later
-            ∙ (λ i. stage.kept.stand.0 i || truth_later stage f (reads_it (modal.Sometime f) refl) later regressed i)
+            ∙ (λ i. stage.kept.carries.stand.0 i || truth_later stage f (reads_it (modal.Sometime f) refl) later regressed i)
             ∙ sym (some-next stage.W stage.next f),
         tt,
       ));
@@ -164,13 +164,13 @@ module _ (base : ℕ) (step : List Change) where
           let was = truth_now stage f (reads_it (modal.AtMostOnce f) refl) in (
             own_after stage base (at_base base) (in_two base)
                 ∙ first_set stage.state base later back
-                ∙ (λ i. stage.kept.stand.0 i || comes i)
+                ∙ (λ i. stage.kept.carries.stand.0 i || comes i)
                 ∙ sym (some-next stage.W stage.next f),
             (
               own_after stage (base + 1) (past_base base) (next_in_two base)
                   ∙ second_set stage.state base later back
-                  ∙ (λ i. stage.kept.stand.1.0 i || back_truth stage.state i)
-                  ∙ (λ i. came_back stage.W f || ((stage.kept.stand.0 i && not (was i)) && comes i))
+                  ∙ (λ i. stage.kept.carries.stand.1.0 i || back_truth stage.state i)
+                  ∙ (λ i. came_back stage.W f || ((stage.kept.carries.stand.0 i && not (was i)) && comes i))
                   ∙ sym (came-next stage.W stage.next f),
               tt,
             ),
@@ -210,7 +210,7 @@ module _ (base : ℕ) (step : List Change) where
           let answers = truth_later stage g (reads_both (modal.SometimeAfter f g) refl).1 answer other_regressed in (
             own_after stage base (at_base base) (in_one base)
                 ∙ switched_by stage.state base answer (both later (Not answer))
-                ∙ (λ i. truth-both stage.state later (Not answer) i || (stage.kept.stand.0 i && not (answers i)))
+                ∙ (λ i. truth-both stage.state later (Not answer) i || (stage.kept.carries.stand.0 i && not (answers i)))
                 ∙ (λ i. (comes i && (truth-Not stage.state answer ∙ ap not answers) i) || (is_awaited stage.W f g && not (truth stage.next g)))
                 ∙ awaiting (is_awaited stage.W f g) (truth stage.next f) (truth stage.next g)
                 ∙ sym (awaited-next stage.W stage.next f g),
@@ -237,13 +237,13 @@ module _ (base : ℕ) (step : List Change) where
           let answers = truth_later stage g (reads_both (modal.SometimeBefore f g) refl).1 answer other_regressed in (
             own_after stage base (at_base base) (in_two base)
                 ∙ first_set stage.state base answer soon
-                ∙ (λ i. stage.kept.stand.0 i || answers i)
+                ∙ (λ i. stage.kept.carries.stand.0 i || answers i)
                 ∙ sym (some-next stage.W stage.next g),
             (
               own_after stage (base + 1) (past_base base) (next_in_two base)
                   ∙ second_set stage.state base answer soon
-                  ∙ (λ i. stage.kept.stand.1.0 i || soon_truth stage.state i)
-                  ∙ (λ i. came_early stage.W f g || (comes i && not (stage.kept.stand.0 i)))
+                  ∙ (λ i. stage.kept.carries.stand.1.0 i || soon_truth stage.state i)
+                  ∙ (λ i. came_early stage.W f g || (comes i && not (stage.kept.carries.stand.0 i)))
                   ∙ sym (early-next stage.W stage.next f g),
               tt,
             ),

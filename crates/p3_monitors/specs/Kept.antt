@@ -82,15 +82,16 @@ abbrev pub AreAt : ℕ → List Bool → State → Type 0
 AreAt base [] state = Unit {0}
 AreAt base (bit ∷ bits) state = (is_set state base ≡ bit) × AreAt (base + 1) bits state
 
--- so they are, and the state agrees with another on the atoms of the constraint
+-- the state has room for the bits and has them from the base on, and it agrees with another state on the atoms of the constraint
 pub record Carries (base : ℕ) (bits : List Bool) (modal : GroundModal) (other state : State) : Type 0 where
   pub agrees : Agree modal state other
   pub room : base + length bits ≤ length state
   pub stand : AreAt base bits state
 
--- the monitor's atoms are right of the states visited so far, with the last of which the state agrees
-abbrev pub Kept : ℕ → GroundModal → List State → State → Type 0
-Kept base modal W state = Carries base (watched W modal) modal (last_of W) state
+-- the monitor's atoms are right of the states visited so far, of which there is one at least; the state agrees with the last of them
+pub record Kept (base : ℕ) (modal : GroundModal) (W : List State) (state : State) : Type 0 where
+  pub visited : 1 ≤ length W
+  pub carries : Carries base (watched W modal) modal (last_of W) state
 
 -- ---- one step more
 

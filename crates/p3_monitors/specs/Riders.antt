@@ -1,43 +1,49 @@
 -- Several monitors that ride on one step.
-use Rattle.std.specs.Prelude.{ℕ, ◌+◌, ◌≤◌, List, [], ◌∷◌, ◌++◌, flat_map}
-use Rattle.p3_formula.specs.Forms.{State}
+use Rattle.std.specs.Prelude.{◌≡◌, ℕ, ◌+◌, ◌≤◌, ◌<◌, nat_lt, List, [], ◌∷◌, ◌++◌, flat_map}
+use Rattle.p3_formula.specs.Forms.{State, is_set}
 use Rattle.p3_formula.specs.Next.{after}
 use Rattle.p3_formula.specs.declared.form.Change.{Change}
-use Rattle.p3_formula.specs.declared.modal.GroundModal.{GroundModal}
-use Rattle.p3_monitors.specs.Kept.{IsModalBelow, Agree, Kept, KeepsOn, AreOwn, atom_count}
+use Rattle.p3_monitors.specs.Kept.{IsModalBelow, Kept, KeepsOn, HasNone, AreOwn, is_own, atom_count}
+use Rattle.p3_monitors.specs.declared.watching.Monitor.{Monitor}
 
--- a monitor, by its base and its constraint, with its changes for the step
-pub record Rider : Type 0 where
-  pub base : ℕ
-  pub modal : GroundModal
-  pub effects : List Change
+-- the constraint has only source atoms, of which there are so many, the monitor's own atoms stand from a number on, and the changes are of these and keep it on
+pub record IsRider (sources from : ℕ) (step : List Change) (monitor : Monitor) (effects : List Change) : Type 0 where
+  pub below : IsModalBelow sources monitor.modal
+  pub behind : from ≤ monitor.base
+  pub own : AreOwn monitor.base monitor.modal effects
+  pub keeps : KeepsOn monitor.base monitor.modal step effects
 
--- its constraint has only source atoms, of which there are so many, its own atoms stand from a number on, and its changes are of these and keep it on
-pub record IsRider (sources from : ℕ) (step : List Change) (rider : Rider) : Type 0 where
-  pub below : IsModalBelow sources rider.modal
-  pub behind : from ≤ rider.base
-  pub own : AreOwn rider.base rider.modal rider.effects
-  pub keeps : KeepsOn rider.base rider.modal step rider.effects
+-- each monitor with its changes; the atoms of each stand behind those of the ones before it
+abbrev pub AreRiders : ℕ → ℕ → List Change → List Monitor → List (List Change) → Type 0
+AreRiders sources from step [] [] = Unit {0}
+AreRiders sources from step (monitor ∷ monitors) (effects ∷ changes) = IsRider sources from step monitor effects × AreRiders sources (monitor.base + atom_count monitor.modal) step monitors changes
+AreRiders sources from step [] (effects ∷ changes) = ⊥
+AreRiders sources from step (monitor ∷ monitors) [] = ⊥
 
--- the atoms of each stand behind those of the ones before it
-abbrev pub AreRiders : ℕ → ℕ → List Change → List Rider → Type 0
-AreRiders sources from step [] = Unit {0}
-AreRiders sources from step (rider ∷ riders) = IsRider sources from step rider × AreRiders sources (rider.base + atom_count rider.modal) step riders
-
-abbrev pub AreKept : List Rider → List State → State → Type 0
+abbrev pub AreKept : List Monitor → List State → State → Type 0
 AreKept [] W state = Unit {0}
-AreKept (rider ∷ riders) W state = Kept rider.base rider.modal W state × AreKept riders W state
+AreKept (monitor ∷ monitors) W state = Kept monitor.base monitor.modal W state × AreKept monitors W state
 
-abbrev pub AllAgree : List Rider → State → State → Type 0
-AllAgree [] first second = Unit {0}
-AllAgree (rider ∷ riders) first second = Agree rider.modal first second × AllAgree riders first second
+-- no change is of an atom of one of the monitors
+abbrev pub AreBeside : List Monitor → List Change → Type 0
+AreBeside [] others = Unit {0}
+AreBeside (monitor ∷ monitors) others = HasNone (is_own monitor.base monitor.modal) others × AreBeside monitors others
 
--- the changes of the step and of all riders, made at once
-abbrev pub ridden : List Change → List Rider → List Change
-ridden step riders = step ++ flat_map (λ rider. rider.effects) riders
+abbrev pub AgreeBelow : ℕ → State → State → Type 0
+AgreeBelow count first second = (atom : ℕ) → atom < count → is_set first atom ≡ is_set second atom
 
--- they are all kept over one state more
+-- the state after the changes of a step, of the monitors and of others, made at once
+abbrev pub after_all : State → List Change → List (List Change) → List Change → State
+after_all state step changes others = after state (step ++ (flat_map (λ effects. effects) changes ++ others))
+
+-- all monitors are kept over one state more, and source atoms are as after the step alone
+pub record IsRidden (sources : ℕ) (monitors : List Monitor) (W : List State) (next later reached : State) : Type 0 where
+  pub kept : AreKept monitors (W ++ next ∷ []) reached
+  pub sources_stay : AgreeBelow sources reached later
+
+-- so it is, where other changes are of no source atom and of no monitor's
 abbrev pub RideTogether : Type 0
 RideTogether =
-    (sources from : ℕ) (step : List Change) (riders : List Rider) (W : List State) (state next : State) → sources ≤ from → AreRiders sources from step riders → AreKept riders W state
-    → AllAgree riders (after state (ridden step riders)) next → AreKept riders (W ++ next ∷ []) (after state (ridden step riders))
+    (sources from : ℕ) (step others : List Change) (monitors : List Monitor) (changes : List (List Change)) (W : List State) (state next : State) → sources ≤ from → AreRiders sources from step monitors changes
+    → HasNone (λ atom. nat_lt atom sources) others → AreBeside monitors others → AreKept monitors W state → AgreeBelow sources (after state step) next
+    → IsRidden sources monitors W next (after state step) (after_all state step changes others)

@@ -150,7 +150,7 @@ fn some_holds(parts: &[Form], state: u32) -> bool {
 }
 
 /// The atoms that the changes set in the state, or else those that they clear.
-fn touched(state: u32, effects: &Effects, add: bool) -> u32 {
+fn changed_atoms(state: u32, effects: &Effects, add: bool) -> u32 {
     let mut atoms = 0u32;
     for change in effects.items() {
         if change.add == add && holds(&change.cond, state) {
@@ -162,8 +162,8 @@ fn touched(state: u32, effects: &Effects, add: bool) -> u32 {
 
 /// The state after the changes of both, all at once.
 fn after(state: u32, step: &Effects, own: &Effects) -> u32 {
-    let cleared = touched(state, step, false) | touched(state, own, false);
-    let set = touched(state, step, true) | touched(state, own, true);
+    let cleared = changed_atoms(state, step, false) | changed_atoms(state, own, false);
+    let set = changed_atoms(state, step, true) | changed_atoms(state, own, true);
     state & !cleared | set
 }
 

@@ -12,6 +12,6 @@ mod making;
 mod updates;
 mod watching;
 
-pub use laws::monitors_ride_together;
+pub use laws::{accepting_is_satisfaction, monitors_ride_together};
 pub use making::monitor;
 pub use watching::Monitor;

@@ -4,7 +4,7 @@ ghost use Rattle.std.specs.Prelude.{◌≡◌, ◌≤◌, ◌+◌, ◌*◌, ◌-
 ghost use Rattle.p3_formula.specs.Forms.{State, truth, is_set};
 ghost use Rattle.p3_formula.specs.Next.{after};
 ghost use Rattle.p3_formula.specs.declared.form.Change.{Change};
-ghost use Rattle.p3_monitors.specs.Kept.{IsModalBelow, atom_count, accepts, is_own, HasNone, KeepsOn, AreOwn, HasConditions, modal_nodes, modal_growth, condition_nodes};
+ghost use Rattle.p3_monitors.specs.Kept.{IsModalBelow, atom_count, accepts, is_own, HasNone, KeepsOn, AreOwn, HasConditions, HasAccept, modal_nodes, modal_growth, condition_nodes};
 ghost use Rattle.p3_monitors.specs.Updates.{IsUpdate};
 
 use crate::updates::{always, at_most_once, sometime, sometime_after, sometime_before};
@@ -29,6 +29,7 @@ pub struct Monitor {
     pub ghost room: { base + atom_count modal ≤ 2 ^ 64 - 1 },
     pub ghost entries: { length initial ≡ atom_count modal },
     pub ghost accepting: { ∥ ((state : State) → truth state accept ≡ accepts base modal state) ∥₁ },
+    pub ghost atoms: { ∥ HasAccept base modal accept ∥₁ },
 }
 
 impl Monitor {

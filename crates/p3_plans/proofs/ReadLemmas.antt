@@ -11,7 +11,8 @@ use Rattle.p3_tree.specs.Names.{Name}
 use Rattle.p3_tree.specs.Plans.{Plan}
 use Rattle.p3_tree.specs.Tokens.{Token, Open, Close, Word, Tokens, is_of_word, is_blank, is_comment_after, joined, with_byte, tokens_from}
 use Rattle.p3_tree.specs.PlanTexts.{Mark, Opens, Closes, Names, mark_of, step_marks, is_plan_word, has_plan_words, IsPlanText}
-use Rattle.p3_plans.specs.Layout.{is_written_byte, is_written_word, has_written_words}
+use Rattle.p3_base.specs.Words.{is_lowered}
+use Rattle.p3_plans.specs.Layout.{is_written_word, has_written_words}
 use Rattle.p3_plans.specs.Drafts.{Ends}
 use Rattle.p3_plans.specs.declared.draft.Draft.{Draft}
 use Rattle.p3_plans.specs.declared.error.PlanFail.{PlanFail}
@@ -22,12 +23,12 @@ use Rattle.p3_plans.proofs.DraftLemmas.{IsRead, read_whole}
 abbrev is_written_mark : Mark → Bool
 is_written_mark Opens = true
 is_written_mark Closes = true
-is_written_mark (Names word) = list_all is_written_byte word
+is_written_mark (Names word) = list_all is_lowered word
 
 abbrev AreWritten : List Token → Type 0
 AreWritten tokens = list_all is_written_mark (map mark_of tokens) ≡ true
 
-lowered_byte : (byte : ℕ) → is_of_word byte ≡ true → is_written_byte (to_ascii_lowercase byte) ≡ true
+lowered_byte : (byte : ℕ) → is_of_word byte ≡ true → is_lowered (to_ascii_lowercase byte) ≡ true
 lowered_byte byte is = grind (arith, nat_tests)
 
 either : (b : Bool) (x y : List Token) → AreWritten x → AreWritten y → AreWritten (if b then x else y)
@@ -62,7 +63,7 @@ written_words : (words : List Name) → list_all is_plan_word words ≡ true →
 written_words [] plain marks = refl
 written_words (word ∷ words) plain marks =
     let apart = and_parts (is_plan_word word) (list_all is_plan_word words) plain in
-    let bytes = and_parts (list_all is_written_byte word) (list_all is_written_mark (map Names words)) marks in
+    let bytes = and_parts (list_all is_lowered word) (list_all is_written_mark (map Names words)) marks in
     rw (apart.0, bytes.0, written_words words apart.1 bytes.1) refl
 
 written_step : (step : Step) → has_plan_words step ≡ true → list_all is_written_mark (step_marks step) ≡ true → has_written_words step ≡ true

@@ -16,7 +16,8 @@ use Rattle.p3_tree.specs.Tokens.{Token, Word, Tokens, before, is_of_word, tokens
 use Rattle.p3_tree.specs.PlanTexts.{Mark, Opens, Closes, Names, mark_of, step_marks, is_plan_word, has_plan_words, step_limit, IsPlanText}
 use Rattle.p3_lexer.specs.Lexing.{token_of, token_len}
 use Rattle.p3_lexer.proofs.TokenLemmas.{tokens_token}
-use Rattle.p3_plans.specs.Layout.{argument_layout, step_layout, plan_layout, is_written_byte, is_written_word, has_written_words}
+use Rattle.p3_base.specs.Words.{is_lowered}
+use Rattle.p3_plans.specs.Layout.{argument_layout, step_layout, plan_layout, is_written_word, has_written_words}
 
 -- the tokens of the bytes, wherever they stand
 record Reads (bytes : List ℕ) (all : List Mark) : Type 0 where
@@ -43,16 +44,16 @@ module _ (rest : List ℕ) (m : List Mark) (reads : Reads rest m) where
 
 -- ---- a word
 
-of_word : (byte : ℕ) → is_written_byte byte ≡ true → is_of_word byte ≡ true
+of_word : (byte : ℕ) → is_lowered byte ≡ true → is_of_word byte ≡ true
 of_word byte is = (and_parts (is_of_word byte) _ is).0
 
-lower : (byte : ℕ) → is_written_byte byte ≡ true → to_ascii_lowercase byte ≡ byte
+lower : (byte : ℕ) → is_lowered byte ≡ true → to_ascii_lowercase byte ≡ byte
 lower byte is = grind (arith, nat_tests)
 
-lowered : (word : List ℕ) → list_all is_written_byte word ≡ true → str_to_ascii_lowercase word ≡ word
+lowered : (word : List ℕ) → list_all is_lowered word ≡ true → str_to_ascii_lowercase word ≡ word
 lowered [] all = refl
 lowered (byte ∷ bytes) all =
-    let apart = and_parts (is_written_byte byte) (list_all is_written_byte bytes) all in
+    let apart = and_parts (is_lowered byte) (list_all is_lowered bytes) all in
     (λ i. lower byte apart.0 i ∷ lowered bytes apart.1 i)
 
 -- no word goes on there
@@ -65,10 +66,10 @@ unfolding StartsOff
 off_len [] off = refl
 off_len (byte ∷ bytes) off = rw off refl
 
-run_len : (word rest : List ℕ) → list_all is_written_byte word ≡ true → StartsOff rest → prefix_len is_of_word (word ++ rest) ≡ length word
+run_len : (word rest : List ℕ) → list_all is_lowered word ≡ true → StartsOff rest → prefix_len is_of_word (word ++ rest) ≡ length word
 run_len [] rest all off = off_len rest off
 run_len (byte ∷ bytes) rest all off =
-    let apart = and_parts (is_written_byte byte) (list_all is_written_byte bytes) all in
+    let apart = and_parts (is_lowered byte) (list_all is_lowered bytes) all in
     let later : prefix_len is_of_word (bytes ++ rest) ≡ length bytes = run_len bytes rest apart.1 off in
     rw (of_word byte apart.0, later) (omega arith)
 
@@ -78,7 +79,7 @@ no_open byte is = grind (arith, nat_tests)
 no_close : (byte : ℕ) → is_of_word byte ≡ true → (byte == 41) ≡ false
 no_close byte is = grind (arith, nat_tests)
 
-module _ (first : ℕ) (others rest : List ℕ) (all : list_all is_written_byte (first ∷ others) ≡ true) (off : StartsOff rest) (at : ℕ) where
+module _ (first : ℕ) (others rest : List ℕ) (all : list_all is_lowered (first ∷ others) ≡ true) (off : StartsOff rest) (at : ℕ) where
   abbrev word : List ℕ
   word = first ∷ others
 
@@ -89,7 +90,7 @@ module _ (first : ℕ) (others rest : List ℕ) (all : list_all is_written_byte 
   text = front ++ (word ++ rest)
 
   is_word : is_of_word first ≡ true
-  is_word = of_word first (and_parts (is_written_byte first) (list_all is_written_byte others) all).0
+  is_word = of_word first (and_parts (is_lowered first) (list_all is_lowered others) all).0
 
   here : drop at text ≡ word ++ rest
   here = ap (λ (n : ℕ). drop n text) (sym (length-replicate at 0)) ∙ drop-append_seam front (word ++ rest)
@@ -125,7 +126,7 @@ module _ (first : ℕ) (others rest : List ℕ) (all : list_all is_written_byte 
 reads_word : (word rest : List ℕ) (m : List Mark) → is_written_word word ≡ true → StartsOff rest → Reads rest m → Reads (word ++ rest) (Names word ∷ m)
 reads_word [] rest m is off reads = absurd cc
 reads_word (first ∷ others) rest m is off reads =
-    let all : list_all is_written_byte (first ∷ others) ≡ true = (and_parts (is_plan_word (first ∷ others)) (list_all is_written_byte (first ∷ others)) is).1 in
+    let all : list_all is_lowered (first ∷ others) ≡ true = (and_parts (is_plan_word (first ∷ others)) (list_all is_lowered (first ∷ others)) is).1 in
     record {
       marks = λ at. ap (λ (t : Tokens). map mark_of t.tokens) (word_first first others rest all off at) ∙ ap (λ (later : List Mark). Names (first ∷ others) ∷ later) (reads.marks (at + length (first ∷ others)));
       known = λ at. ap (λ (t : Tokens). t.foreign) (word_first first others rest all off at) ∙ reads.known (at + length (first ∷ others));
@@ -169,7 +170,7 @@ plan_words : (words : List Name) → list_all is_written_word words ≡ true →
 plan_words [] all = refl
 plan_words (word ∷ words) all =
     let apart = and_parts (is_written_word word) (list_all is_written_word words) all in
-    rw ((and_parts (is_plan_word word) (list_all is_written_byte word) apart.0).0, plan_words words apart.1) refl
+    rw ((and_parts (is_plan_word word) (list_all is_lowered word) apart.0).0, plan_words words apart.1) refl
 
 plan_steps : (plan : Plan) → list_all has_written_words plan ≡ true → list_all has_plan_words plan ≡ true
 plan_steps [] all = refl

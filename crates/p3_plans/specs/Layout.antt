@@ -1,9 +1,9 @@
 -- The bytes of a written plan.
-use Rattle.std.specs.Prelude.{ℕ, Bool, ◌&&◌, not, nat_le, List, ◌++◌, codes}
+use Rattle.std.specs.Prelude.{ℕ, Bool, ◌&&◌, List, ◌++◌, codes}
 use Rattle.std.specs.List.{list_all, flat_map}
+use Rattle.p3_base.specs.Words.{is_lowered}
 use Rattle.p3_tree.specs.Names.{Name}
 use Rattle.p3_tree.specs.Plans.{Plan}
-use Rattle.p3_tree.specs.Tokens.{is_of_word}
 use Rattle.p3_tree.specs.PlanTexts.{is_plan_word}
 use Rattle.p3_tree.specs.declared.task.Step.{Step}
 
@@ -17,13 +17,9 @@ step_layout step = codes "(" ++ (step.action ++ (flat_map argument_layout step.a
 abbrev pub plan_layout : Plan → List ℕ
 plan_layout plan = flat_map step_layout plan
 
--- it may stand in a word, and is no capital letter
-abbrev pub is_written_byte : ℕ → Bool
-is_written_byte byte = is_of_word byte && not (nat_le 65 byte && nat_le byte 90)
-
 -- a word in lower case that is no variable and no keyword
 abbrev pub is_written_word : Name → Bool
-is_written_word name = is_plan_word name && list_all is_written_byte name
+is_written_word name = is_plan_word name && list_all is_lowered name
 
 abbrev pub has_written_words : Step → Bool
 has_written_words step = is_written_word step.action && list_all is_written_word step.args

@@ -1,6 +1,7 @@
 -- A text as parentheses and words.
 use Rattle.std.specs.Prelude.{ℕ, ◌+◌, Bool, true, false, not, ◌&&◌, ◌||◌, ◌==◌, nat_le, if◌then◌else◌, List, [], ◌∷◌, Option, Some, None}
 use Rattle.std.specs.Char.{to_ascii_lowercase}
+pub use Rattle.p3_base.specs.Words.{is_of_word}
 
 -- a token with its offset; a word is lowered, and has as many bytes as it has in the text
 pub data Token : Type 0 where
@@ -15,13 +16,6 @@ pub record Tokens : Type 0 where
 
 abbrev pub is_blank : ℕ → Bool
 is_blank byte = byte == 32 || (nat_le 9 byte && nat_le byte 13)
-
-abbrev pub is_printable : ℕ → Bool
-is_printable byte = nat_le 33 byte && nat_le byte 126
-
--- what may stand in a word: printable, and no parenthesis and no `;`
-abbrev pub is_of_word : ℕ → Bool
-is_of_word byte = is_printable byte && not (byte == 40 || byte == 41 || byte == 59)
 
 -- a `;` opens a comment, and a line feed ends it
 abbrev pub is_comment_after : Bool → ℕ → Bool

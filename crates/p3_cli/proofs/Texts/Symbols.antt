@@ -10,6 +10,7 @@ use Rattle.std.proofs.lemmas.Str.Parse.{digit_from_value}
 use Rattle.std.proofs.lemmas.Str.{digit_value_digit}
 use Rattle.std.proofs.lemmas.Bool.{and_parts}
 use Rattle.std.proofs.lemmas.Bool.Decides.{nat_tests}
+use Rattle.p3_base.specs.Words.{is_lowered}
 use Rattle.p3_tree.specs.Names.{Name, same_name, has_name, total_cost}
 use Rattle.p3_tree.specs.Grammar.Words.{is_name, is_digit, is_number, reserved_words, digits_value}
 use Rattle.p3_tree.specs.Grammar.Formulas.{formula_forms}
@@ -17,7 +18,7 @@ use Rattle.p3_tree.specs.Grammar.Effects.{effect_forms}
 use Rattle.p3_tree.specs.Grammar.Goals.{goal_forms}
 use Rattle.p3_tree.specs.Grammar.Halves.{init_forms}
 use Rattle.p3_compile.specs.Written.{source_atom}
-use Rattle.p3_cli.proofs.Texts.Words.{is_lowered, IsWord}
+use Rattle.p3_cli.proofs.Texts.Words.{IsWord}
 
 -- no form begins with the name
 abbrev pub heads_none : {F : Type 0} → Name → List (Name × F) → Bool

@@ -1,16 +1,13 @@
 -- Words of a text: their bytes are one token, where no byte of a word follows.
-use Rattle.std.proofs.Common.{◌≡◌, ◌∙◌, ℕ, ◌+◌, Bool, true, false, ◌&&◌, ◌||◌, not, List, [], ◌∷◌, ◌++◌, Some, refl, ap, arith}
+use Rattle.std.proofs.Common.{◌≡◌, ◌∙◌, ℕ, ◌+◌, Bool, true, false, ◌||◌, not, List, [], ◌∷◌, ◌++◌, Some, refl, ap, arith}
 use Rattle.std.specs.Prelude.{◌==◌, nat_le, if◌then◌else◌}
 use Rattle.std.specs.List.{list_all}
 use Rattle.std.specs.Char.{to_ascii_lowercase}
 use Rattle.std.proofs.lemmas.Bool.{and_parts, not-true}
 use Rattle.std.proofs.lemmas.Bool.Decides.{nat_tests}
+use Rattle.p3_base.specs.Words.{is_lowered}
 use Rattle.p3_tree.specs.Names.{Name}
 use Rattle.p3_tree.specs.Tokens.{Token, Open, Close, Word, Tokens, is_blank, is_of_word, is_comment_after, before, joined, with_byte, tokens_from}
-
--- what may stand in a word, and is no upper case letter
-abbrev pub is_lowered : ℕ → Bool
-is_lowered byte = is_of_word byte && to_ascii_lowercase byte == byte
 
 abbrev pub is_word : Name → Bool
 is_word [] = false
