@@ -1,6 +1,6 @@
 //! Worked forms.
 
-use crate::{Bits, Form, negate, simplify};
+use crate::{Bits, Form, copied, negate, simplify};
 use p3_base::{Boxed, List, NoMemory};
 use std::alloc::Global;
 use std::process::Abort;
@@ -24,7 +24,7 @@ fn not(alloc: Global, part: Form) -> Result<Form, NoMemory> {
     Ok(Form::Not(Boxed::new(alloc, part)?))
 }
 
-/// What a form is simplified to, and what its opposite is simplified to.
+/// What a form is simplified to, and what its opposite is simplified to. Its copy is the form.
 fn becomes(
     rt: &(impl Abort + AllocGlobal),
     form: &Form,
@@ -32,6 +32,11 @@ fn becomes(
     opposite: &str,
 ) -> Result<(), Fail> {
     let alloc = rt.alloc();
+    let text = format!(in alloc; "{form:?}")?;
+    assert_eq!(rt;
+        format!(in alloc; "{:?}", copied(alloc, form)?)?.as_str(),
+        text.as_str()
+    );
     let made = simplify(alloc, form)?;
     assert_eq!(rt; format!(in alloc; "{made:?}")?.as_str(), simple);
     let made = simplify(alloc, &negate(alloc, form)?)?;
