@@ -3,6 +3,7 @@ use Rattle.std.proofs.Common.{◌≡◌, ◌∙◌, ℕ, ◌+◌, ◌<◌, ◌�
 use Rattle.std.specs.List.{list_any}
 use Rattle.std.proofs.lemmas.Bool.{and_parts, or_from, true≢false, lt-ltb, le-leb}
 use Rattle.std.proofs.lemmas.Bool.Decides.{nat_tests}
+use Rattle.std.proofs.Math.Bool.{not-not}
 use Rattle.std.proofs.lemmas.List.{length-append}
 use Rattle.std.proofs.lemmas.List.Folds.{list_any-append}
 use Rattle.p3_formula.specs.Forms.{State, is_set, truth, has_atoms}
@@ -32,16 +33,12 @@ none_named atoms atom (change ∷ rest) free at =
     let parts = and_parts (not (atoms change.atom)) _ free in
     or_from (change.atom == atom) _ (none_head atoms change.atom atom parts.0 at) (none_named atoms atom rest parts.1 at)
 
-twice : (b : Bool) → not (not b) ≡ b
-twice true = refl
-twice false = refl
-
 pub own_named : (base : ℕ) (modal : GroundModal) (atom : ℕ) (effects : List Change) → AreOwn base modal effects → is_own base modal atom ≡ false → list_any (λ change. change.atom == atom) effects ≡ false
 own_named base modal atom [] own outside = refl
 own_named base modal atom (change ∷ rest) own outside =
     let parts = and_parts (is_own base modal change.atom) _ own in
     or_from (change.atom == atom) _
-    (none_head (λ a. not (is_own base modal a)) change.atom atom (twice (is_own base modal change.atom) ∙ parts.0) (ap not outside))
+    (none_head (λ a. not (is_own base modal a)) change.atom atom (not-not (is_own base modal change.atom) ∙ parts.0) (ap not outside))
     (own_named base modal atom rest parts.1 outside)
 
 pub own_from : (base : ℕ) (modal : GroundModal) (atom : ℕ) → base ≤ atom → atom < base + atom_count modal → is_own base modal atom ≡ true

@@ -5,7 +5,7 @@ use Rattle.std.specs.List.{list_any, list_all, range_with_len}
 use Rattle.std.proofs.lemmas.Bool.{leb-true, le-leb, true≢false, cases_eq, cases_lt}
 use Rattle.std.proofs.lemmas.Bool.Decides.{Decides-like, Decides-and, Decides-or, Decides-not, Decides-ltb, Decides-below_and, Decides-below_or}
 use Rattle.std.proofs.lemmas.List.Folds.{list_any-append, list_all-append}
-use Rattle.std.proofs.Math.Bool.{and-true, or-false}
+use Rattle.std.proofs.Math.Bool.{and-true, or-false, and_comm, or_comm, not-not}
 use mathlib.Core.Logic.{◌⊎◌, inl, inr, ⊎_elim}
 use Rattle.p3_formula.specs.GroundSat.{◌implies◌}
 
@@ -26,26 +26,14 @@ module _ (p : ℕ → Bool) (n : ℕ) where
   pub some-more : some (suc n) p ≡ (some n p || p n)
   some-more = ap (list_any p) (last_place 0 n n (omega arith)) ∙ list_any-append p (range_with_len 0 n) (n ∷ []) ∙ ap (λ b. some n p || b) (or-false (p n))
 
-and-swap : (a b : Bool) → (a && b) ≡ (b && a)
-and-swap true true = refl
-and-swap true false = refl
-and-swap false true = refl
-and-swap false false = refl
-
-or-swap : (a b : Bool) → (a || b) ≡ (b || a)
-or-swap true true = refl
-or-swap true false = refl
-or-swap false true = refl
-or-swap false false = refl
-
 -- ---- what the tests tell
 
 module _ (p : ℕ → Bool) (P : ℕ → Type 0) (tells : (k : ℕ) → Decides (p k) (P k)) (n : ℕ) where
   pub each_tells : Decides (each n p) ((k : ℕ) → k < n → P k)
-  each_tells = Decides-below_and p P (λ m. each m p) tells refl (λ m. each-more p m ∙ and-swap (each m p) (p m)) n
+  each_tells = Decides-below_and p P (λ m. each m p) tells refl (λ m. each-more p m ∙ and_comm (each m p) (p m)) n
 
   pub some_tells : Decides (some n p) ((k : ℕ) × (k < n) × P k)
-  some_tells = Decides-below_or p P (λ m. some m p) tells refl (λ m. some-more p m ∙ or-swap (some m p) (p m)) n
+  some_tells = Decides-below_or p P (λ m. some m p) tells refl (λ m. some-more p m ∙ or_comm (some m p) (p m)) n
 
 pub true_tells : (b : Bool) → Decides b (b ≡ true)
 true_tells b = (λ h. h, λ h. h)
@@ -211,11 +199,7 @@ dual p (x ∷ xs) = outside (p x) (list_any p xs) ∙ ap (λ b. not (p x) && b) 
 -- where a holds some place has both, or else a holds and each place that has the one has not the other
 either : (a : Bool) (n : ℕ) (p q : ℕ → Bool) → (a implies some n (λ j. p j && q j)) ≡ not (a && each n (λ j. p j implies not (q j)))
 either false n p q = refl
-either true n p q = twice (some n (λ j. p j && q j)) ∙ ap not (dual (λ j. p j && q j) (range_with_len 0 n) ∙ (λ i. each n (λ j. outside (p j) (q j) i))) where
-  twice : (b : Bool) → b ≡ not (not b)
-  twice true = refl
-  twice false = refl
-
+either true n p q = sym (not-not (some n (λ j. p j && q j))) ∙ ap not (dual (λ j. p j && q j) (range_with_len 0 n) ∙ (λ i. each n (λ j. outside (p j) (q j) i))) where
   outside : (a b : Bool) → not (a && b) ≡ (a implies not b)
   outside true b = refl
   outside false b = refl

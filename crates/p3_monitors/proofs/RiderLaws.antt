@@ -3,7 +3,7 @@ use Rattle.std.proofs.Common.{◌≡◌, ◌∙◌, ℕ, ◌+◌, ◌≤◌, nat
 use Rattle.std.specs.Prelude.{flat_map}
 use Rattle.std.specs.List.{list_all}
 use Rattle.std.specs.List.Sorted.{IsPermutation}
-use Rattle.std.proofs.lemmas.Bool.{and_parts, and_from, lt-ltb}
+use Rattle.std.proofs.lemmas.Bool.{and_parts, and_from, and_right, lt-ltb}
 use Rattle.std.proofs.lemmas.Bool.Decides.{nat_tests}
 use Rattle.std.proofs.lemmas.List.Folds.{list_all-append}
 use Rattle.std.proofs.lemmas.List.Sorted.{IsPermutation-append_comm, IsPermutation-append_left, IsPermutation-append_right}
@@ -75,12 +75,8 @@ module _ (sources from : ℕ) (step : List Change) (modal : GroundModal) (base :
     past : (atom : ℕ) → nat_le (base + atom_count modal) atom ≡ true → sources ≤ atom
     past atom low = grind (arith, nat_tests)
 
-    not-right : (a b : Bool) → b ≡ false → not (a && b) ≡ true
-    not-right true b h = ap not h
-    not-right false b h = refl
-
     outside : (atom : ℕ) → nat_le (base + atom_count modal) atom ≡ true → not (is_own base modal atom) ≡ true
-    outside atom low = let high : nat_lt atom (base + atom_count modal) ≡ false = grind (arith, nat_tests) in not-right (nat_le base atom) _ high
+    outside atom low = let high : nat_lt atom (base + atom_count modal) ≡ false = grind (arith, nat_tests) in ap not (and_right (nat_le base atom) _ high)
 
   others_beside : (others : List Change) → HasNone (λ atom. nat_lt atom sources) others → HasNone (is_own base modal) others → AreOthers base modal others
   others_beside others high own = record {

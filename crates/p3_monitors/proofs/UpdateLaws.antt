@@ -6,7 +6,7 @@ use Rattle.std.proofs.lemmas.Bool.{and_parts, and_from}
 use Rattle.std.proofs.lemmas.Bool.Decides.{nat_tests}
 use Rattle.std.proofs.lemmas.List.Sums.{sum_by-cons}
 use Rattle.std.proofs.lemmas.Result.{IfOk-weaker}
-use Rattle.std.proofs.Math.Bool.{and-true, or-false}
+use Rattle.std.proofs.Math.Bool.{and-true, or-false, not-not}
 use Rattle.p3_formula.specs.Forms.{State, is_set, truth, has_atoms, nodes}
 use Rattle.p3_formula.specs.GroundSat.{each_place, holds_at}
 use Rattle.p3_formula.specs.Next.{is_set_after}
@@ -90,10 +90,6 @@ module _ (state : State) (base : ℕ) (first second : Form) where
 -- changes of both atoms of a monitor are its own
 both_own : (base : ℕ) (first second : Form) (modal : GroundModal) → is_own base modal base ≡ true → is_own base modal (base + 1) ≡ true → AreOwn base modal (change true base first ∷ change true (base + 1) second ∷ [])
 both_own base first second modal h k = and_from (is_own base modal base) _ h (and_from (is_own base modal (base + 1)) true k refl)
-
-not-not : (b : Bool) → not (not b) ≡ b
-not-not true = refl
-not-not false = refl
 
 -- waiting goes on where the answer does not come, and begins so
 awaiting : (old now answer : Bool) → (now && not answer || (old && not answer)) ≡ ((old || now) && not answer)

@@ -13,8 +13,8 @@ use p3_formula::{Effects, Form, GroundModal};
 use p3_regress::regress;
 use std::alloc::Global;
 
-/// A monitor of a trajectory constraint. Its own atoms are those from the base on, one for each
-/// initial bit.
+/// A monitor of a trajectory constraint (the PDDL3 report). Its own atoms are those from the base
+/// on, one for each initial bit.
 #[derive(Debug, Drop)]
 pub struct Monitor {
     /// The first of its own atoms.
