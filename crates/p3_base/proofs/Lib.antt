@@ -1,2 +1,3 @@
+pub mod KnownLemmas
 pub mod NameLemmas
 pub mod ShelfLemmas

@@ -1,6 +1,7 @@
 //! The files of the machine.
 
 ghost use Rattle.std.specs.Prelude.{◌≡◌, ◌+◌, ◌≤◌, ◌<◌, [], None, false, length, OnOk, IsErrOf, ◌≢◌, Err};
+ghost use Rattle.std.specs.Io.KnownBytes.{Appends};
 
 use crate::{Files, ReadFault, Word, WriteFault};
 use std::alloc::Global;
@@ -96,12 +97,27 @@ fn read_file<R: rt::Files>(
     let Ok(mut file) = fs::open(runtime, path) else {
         return Err(ReadFault::Failed);
     };
+    read_all(&mut file, alloc, limit, into)
+}
+
+/// Reads all that the source has, or `limit` bytes and one more.
+fn read_all<T: Read>(
+    source: &mut T,
+    alloc: Global,
+    limit: usize,
+    into: &mut Vec<u8>,
+) -> Result<(), ReadFault>
+    requires empty { into.old.items ≡ [] }
+    requires limited { limit < 4294967296 }
+    ensures within_limit { OnOk result (length into.new.items ≤ limit) }
+    ensures too_long { IsErrOf result ReadFault.TooLong → length into.new.items ≡ limit + 1 }
+{
     let Ok(mut piece) = Vec::from_elem(alloc, 0u8, PIECE) else {
         return Err(ReadFault::NoMemory);
     };
     while into.len() <= limit {
         let room = (limit + 1 - into.len()).min(PIECE);
-        let Ok(count) = file.read(&mut piece[..room]) else {
+        let Ok(count) = source.read(&mut piece[..room]) else {
             return Err(ReadFault::Failed);
         };
         if count == 0 {
@@ -124,9 +140,18 @@ fn write_file<R: rt::Files>(runtime: &R, name: &[u8], bytes: &[u8]) -> Result<()
     let Ok(mut file) = fs::create(runtime, path) else {
         return Err(WriteFault::Failed);
     };
+    write_all(&mut file, bytes)
+}
+
+/// Writes all bytes to a target. A write that takes nothing is a fault.
+fn write_all<T: Write>(target: &mut T, bytes: &[u8]) -> Result<(), WriteFault>
+    ensures no_want { result ≢ Err WriteFault.NoMemory }
+    // Where the target tells its bytes, these stand at their end.
+    ensures all { OnOk result (Appends (T.contents target.old) (T.contents target.new) bytes.now) }
+{
     let mut rest = bytes;
     while !rest.is_empty() {
-        match file.write(rest) {
+        match target.write(rest) {
             Ok(count) if count > 0 => rest = &rest[count..],
             _ => return Err(WriteFault::Failed),
         }
