@@ -148,7 +148,7 @@ unfolding offence_from
 read_end text draft is_read = sym is_read.offence
 
 pub read_whole : (text : List ℕ) (plan : Plan) → IsRead text (Outside plan) (record { tokens = []; foreign = None }) → IsPlanText text plan
-read_whole text plan is_read = record { known = sym is_read.known; marks = sym is_read.marks ∙ append-nil (flat_map step_marks plan); words = is_read.words; few = is_read.few }
+read_whole text plan is_read = record { known = sym is_read.known; marks = sym is_read.marks ∙ append-nil (flat_map step_marks plan); words = is_read.words }
 
 refused_as : (fail : PlanFail) (P Q : Refusal → Type 0) → ((refusal : Refusal) → P refusal → Q refusal) → IfRefused fail P → IfRefused fail Q
 refused_as (Refused refusal) P Q leads is = leads refusal is
@@ -165,6 +165,10 @@ module _ (text : List ℕ) (draft : Draft) (is_read : IsRead text draft (record 
   pub whole_free : (result : Result Plan PlanFail) → Ends (length text) draft result → IfOk result (λ _. plan_offence text ≡ None)
   whole_free (Ok plan) ends = read_end text draft is_read ∙ ap (λ (d : Draft). end_offence (length text) (draft_before d)) ends
   whole_free (Err fail) ends = tt
+
+  pub whole_few : (result : Result Plan PlanFail) → Ends (length text) draft result → IfOk result (λ plan. length plan ≤ step_limit)
+  whole_few (Ok plan) ends = subst (λ (d : Draft). count_of (draft_before d) ≤ step_limit) ends is_read.few
+  whole_few (Err fail) ends = tt
 
   pub whole_refused : (result : Result Plan PlanFail) → Ends (length text) draft result → IfErr result (IsOffence text)
   whole_refused (Ok plan) ends = tt

@@ -30,7 +30,7 @@ module _ (text : List ℕ) (free : plan_offence text ≡ None) where
 
   at_end : (draft : Draft) (foreign : Option ℕ) → IsRead text draft (record { tokens = []; foreign = foreign }) → HasPlan text
   at_end draft (Some at) is_read = some_is_none _ (read_foreign text draft at is_read)
-  at_end (Outside plan) None is_read = record { plan = plan; spelled = read_whole text plan is_read }
+  at_end (Outside plan) None is_read = record { plan = plan; spelled = read_whole text plan is_read; few = is_read.few }
   at_end (Begun plan) None is_read = some_is_none _ (read_end text (Begun plan) is_read)
   at_end (Named plan step) None is_read = some_is_none _ (read_end text (Named plan step) is_read)
 
@@ -116,15 +116,38 @@ follows_plan size (step ∷ q) p (Open at ∷ Word place text ∷ tokens) is wor
     subst (λ (action : Name). Follows size (Outside (p ++ record { action = action; args = step.args } ∷ [])) rest (Outside (p ++ step ∷ q))) (sym same)
     (subst (λ (plan : Plan). Follows size (Outside (p ++ step ∷ [])) rest (Outside plan)) (append_assoc p (step ∷ []) q) (follows_plan size q (p ++ step ∷ []) rest is_rest all.1 count)))))
 
-follows_text : (text : List ℕ) (plan : Plan) → IsPlanText text plan → Follows (length text) (Outside []) (tokens_of text).tokens (Outside plan)
-follows_text text plan is = follows_plan (length text) plan [] (tokens_of text).tokens is.marks is.words (omega (arith, is.few))
+follows_text : (text : List ℕ) (plan : Plan) → IsPlanText text plan → length plan ≤ step_limit → Follows (length text) (Outside []) (tokens_of text).tokens (Outside plan)
+follows_text text plan is few = follows_plan (length text) plan [] (tokens_of text).tokens is.marks is.words (omega (arith, few))
+
+-- the marks tell the arguments and what comes behind them
+args_apart : (xs ys : List Name) (m n : List Mark) → map Names xs ++ Closes ∷ m ≡ map Names ys ++ Closes ∷ n → (xs ≡ ys) × (m ≡ n)
+args_apart [] [] m n is = (refl, cc)
+args_apart [] (y ∷ ys) m n is = absurd cc
+args_apart (x ∷ xs) [] m n is = absurd cc
+args_apart (x ∷ xs) (y ∷ ys) m n is =
+    let same : x ≡ y = cc in
+    let rest : map Names xs ++ Closes ∷ m ≡ map Names ys ++ Closes ∷ n = cc in
+    let apart = args_apart xs ys m n rest in
+    ((λ i. same i ∷ apart.0 i), apart.1)
+
+-- so the marks of a plan tell the plan
+plans_apart : (p q : Plan) → flat_map step_marks p ≡ flat_map step_marks q → p ≡ q
+plans_apart [] [] is = refl
+plans_apart [] (step ∷ q) is = absurd cc
+plans_apart (step ∷ p) [] is = absurd cc
+plans_apart (step ∷ p) (other ∷ q) is =
+    let named : step.action ≡ other.action = cc in
+    let behind : (map Names step.args ++ Closes ∷ []) ++ flat_map step_marks p ≡ (map Names other.args ++ Closes ∷ []) ++ flat_map step_marks q = cc in
+    let apart = args_apart step.args other.args (flat_map step_marks p) (flat_map step_marks q)
+    (sym (append_assoc (map Names step.args) (Closes ∷ []) (flat_map step_marks p)) ∙ behind ∙ append_assoc (map Names other.args) (Closes ∷ []) (flat_map step_marks q)) in
+    λ i. record { action = named i; args = apart.0 i } ∷ plans_apart p q apart.1 i
 
 pub one_plan_at_most : (text : List ℕ) (p q : Plan) → IsPlanText text p → IsPlanText text q → p ≡ q
-one_plan_at_most text p q is_p is_q = ap plan_of (sym (follows_text text p is_p).leads ∙ (follows_text text q is_q).leads)
+one_plan_at_most text p q is_p is_q = plans_apart p q (sym is_p.marks ∙ is_q.marks)
 
 pub a_plan_where_no_offence : (text : List ℕ) → HasPlan text ↔ (plan_offence text ≡ None)
 a_plan_where_no_offence text =
-    ((λ has. ap (offence_from (length text) (texts.Outside 0) (tokens_of text).tokens) has.spelled.known ∙ (follows_text text has.plan has.spelled).free), plan_of_text text)
+    ((λ has. ap (offence_from (length text) (texts.Outside 0) (tokens_of text).tokens) has.spelled.known ∙ (follows_text text has.plan has.spelled has.few).free), plan_of_text text)
 
 -- ---- worked texts
 

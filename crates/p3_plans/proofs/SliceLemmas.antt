@@ -343,7 +343,6 @@ module _ (source : List ℕ) (step : Step) (m : List Mark) (at place next : ℕ)
         known = all.known;
         marks = all.marks ∙ (λ i. Opens ∷ Names (same i) ∷ end.front i) ∙ sym (append-nil (step_marks step));
         words = rw words refl;
-        few = omega arith;
       }
 
   -- the reader gives the slice first
@@ -385,6 +384,6 @@ texts source (step ∷ plan) count at (Open place ∷ Word next text ∷ tokens)
     (λ later_at rest is_rest rest_marks. texts source plan (count + 1) later_at rest is_rest rest_marks all.1 (omega (arith, few)))
 
 -- each slice that a new reader gives is a text of its step
-pub slices_are_texts_of_steps : (text : List ℕ) (plan : Plan) → IsPlanText text plan → AreTextsOf (all_of text).steps plan
-slices_are_texts_of_steps text plan is =
-    texts text plan 0 0 (tokens_of text).tokens (λ i. record { tokens = (tokens_of text).tokens; foreign = is.known i }) is.marks is.words (omega (arith, is.few))
+pub slices_are_texts_of_steps : (text : List ℕ) (plan : Plan) → IsPlanText text plan → length plan ≤ step_limit → AreTextsOf (all_of text).steps plan
+slices_are_texts_of_steps text plan is few =
+    texts text plan 0 0 (tokens_of text).tokens (λ i. record { tokens = (tokens_of text).tokens; foreign = is.known i }) is.marks is.words (omega (arith, few))

@@ -5,7 +5,7 @@ use Rattle.p3_base.specs.declared.refusal.Code.TheVariants.{BadByte}
 use Rattle.p3_base.specs.declared.refusal.Refusal.{Refusal}
 use Rattle.std.specs.Prelude.{codes, if◌then◌else◌, Bool, true, false, bytes_eq, ◌≤◌}
 use Rattle.std.specs.Str.{str_to_ascii_lowercase}
-use Rattle.p3_lexer.specs.Lexing.{token_of}
+use Rattle.p3_lexer.specs.Lexing.{token_of, gap_len}
 use Rattle.p3_tree.specs.Tokens.{Token, Open, Close, Word, Tokens, before}
 use Rattle.p3_tree.specs.PlanTexts as texts
 use Rattle.p3_tree.specs.PlanTexts.{offence_of, offence_from, first_of_both}
@@ -125,6 +125,35 @@ begins now next at text end passes old new =
     let place : place_of (token_of at text) ≡ at = place_is at text in
     let behind : begin_behind (the_before now) (begin_of now) (token_of at text) ≤ end = begins_by (the_before now) (begin_of now) (token_of at text) end old (omega (arith, place, new)) in
     omega (arith, behind, passes.begin)
+
+-- the open step begins behind blanks and comments from a place on; where none is open, nothing is read from there on
+abbrev pub IsBegunAt : List ℕ → ℕ → ℕ → Before → Type 0
+IsBegunAt source at here (Outside steps) = here ≡ at
+IsBegunAt source at here (Begun steps begin) = begin ≡ at + gap_len false (drop at source)
+IsBegunAt source at here (Named steps begin) = begin ≡ at + gap_len false (drop at source)
+
+named_more : (n begin : ℕ) (token : Token) (later : Before) → Passes (Named n begin) token later → ((steps : ℕ) → later ≢ Outside steps) → begin ≡ begin_of later
+named_more n begin (Open at) later passes inside = passes.begin
+named_more n begin (Word at text) later passes inside = passes.begin
+named_more n begin (Close at) (Outside m) passes inside = absurd (inside m refl)
+named_more n begin (Close at) (Begun m b) passes inside = absurd (let bad = passes.behind in cc)
+named_more n begin (Close at) (Named m b) passes inside = absurd (let bad = passes.behind in cc)
+
+module _ (source : List ℕ) (at here end place : ℕ) (text : List ℕ) where
+  pub begun_more : (now later : Before) → Passes now (token_of place text) later → ((steps : ℕ) → later ≢ Outside steps) → place ≡ here + gap_len false (drop here source)
+      → IsBegunAt source at here now → IsBegunAt source at end later
+  begun_more now (Outside m) passes inside gap begun = absurd (inside m refl)
+  begun_more (Outside n) (Begun m b) passes inside gap begun = sym passes.begin ∙ place_is place text ∙ gap ∙ (λ i. begun i + gap_len false (drop (begun i) source))
+  begun_more (Outside n) (Named m b) passes inside gap begun = sym passes.begin ∙ place_is place text ∙ gap ∙ (λ i. begun i + gap_len false (drop (begun i) source))
+  begun_more (Begun n b0) (Begun m b) passes inside gap begun = sym passes.begin ∙ begun
+  begun_more (Begun n b0) (Named m b) passes inside gap begun = sym passes.begin ∙ begun
+  begun_more (Named n b0) (Begun m b) passes inside gap begun = sym (named_more n b0 (token_of place text) (Begun m b) passes inside) ∙ begun
+  begun_more (Named n b0) (Named m b) passes inside gap begun = sym (named_more n b0 (token_of place text) (Named m b) passes inside) ∙ begun
+
+pub begun_done : (source : List ℕ) (at here steps : ℕ) (token : Token) (now : Before) → Passes now token (Outside steps) → IsBegunAt source at here now → begin_of now ≡ at + gap_len false (drop at source)
+begun_done source at here steps token (Outside n) passes begun = absurd (let bad = passes.behind in cc)
+begun_done source at here steps token (Begun n b) passes begun = absurd (let bad = passes.behind in cc)
+begun_done source at here steps token (Named n b) passes begun = begun
 
 -- ---- behind the last step
 

@@ -13,7 +13,7 @@ use Rattle.p3_tree.specs.declared.task.Step.{Step}
 use Rattle.p3_tree.specs.Names.{Name}
 use Rattle.p3_tree.specs.Plans.{Plan}
 use Rattle.p3_tree.specs.Tokens.{Token, Word, Tokens, before, is_of_word, tokens_from}
-use Rattle.p3_tree.specs.PlanTexts.{Mark, Opens, Closes, Names, mark_of, step_marks, is_plan_word, has_plan_words, step_limit, IsPlanText}
+use Rattle.p3_tree.specs.PlanTexts.{Mark, Opens, Closes, Names, mark_of, step_marks, is_plan_word, has_plan_words, IsPlanText}
 use Rattle.p3_lexer.specs.Lexing.{token_of, token_len}
 use Rattle.p3_lexer.proofs.TokenLemmas.{tokens_token}
 use Rattle.p3_base.specs.Words.{is_lowered}
@@ -179,7 +179,7 @@ plan_steps (step ∷ plan) all =
     rw (plan_words (step.action ∷ step.args) apart.0, plan_steps plan apart.1) refl
 
 -- what is written is a text of the plan
-pub layout_is_text : (bytes : List ℕ) (plan : Plan) → bytes ≡ plan_layout plan → IsTrue (list_all has_written_words plan) → length plan ≤ step_limit → IsPlanText bytes plan
-layout_is_text bytes plan is all few =
+pub layout_is_text : (bytes : List ℕ) (plan : Plan) → bytes ≡ plan_layout plan → IsTrue (list_all has_written_words plan) → IsPlanText bytes plan
+layout_is_text bytes plan is all =
     let reads = reads_plan plan all in
-    subst (λ (t : List ℕ). IsPlanText t plan) (sym is) (record { known = reads.known 0; marks = reads.marks 0; words = plan_steps plan all; few = few })
+    subst (λ (t : List ℕ). IsPlanText t plan) (sym is) (record { known = reads.known 0; marks = reads.marks 0; words = plan_steps plan all })

@@ -1,15 +1,16 @@
 -- Which texts are of plans, and what a reader gives of them.
-use Rattle.std.specs.Prelude.{◌≡◌, ℕ, List, [], ◌∷◌, codes, Some, None}
+use Rattle.std.specs.Prelude.{◌≡◌, ◌≤◌, ℕ, length, List, [], ◌∷◌, codes, Some, None}
 use Prim.Native.String.{String}
 use Rattle.p3_base.specs.declared.refusal.Code.TheVariants.{Unbalanced}
 use Rattle.p3_tree.specs.Plans.{Plan}
-use Rattle.p3_tree.specs.PlanTexts.{IsPlanText, refusal}
+use Rattle.p3_tree.specs.PlanTexts.{IsPlanText, refusal, step_limit}
 use Rattle.p3_plans.specs.Steps.{StepText, Left, left}
 
--- the text is of a plan
+-- the text is of a plan that may be read
 pub record HasPlan (text : List ℕ) : Type 0 where
   pub plan : Plan
   pub spelled : IsPlanText text plan
+  pub few : length plan ≤ step_limit
 
 -- what a new reader gives of a text
 abbrev pub all_of : List ℕ → Left

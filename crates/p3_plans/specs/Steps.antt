@@ -3,6 +3,7 @@ use Rattle.std.specs.Prelude.{◌≡◌, ℕ, ◌+◌, ◌-◌, false, List, [],
 use Rattle.p3_base.specs.declared.refusal.Code.{Code}
 use Rattle.p3_base.specs.declared.refusal.Refusal.{Refusal}
 use Rattle.p3_tree.specs.Tokens.{Token, Open, Close, Word, Tokens, tokens_from}
+use Rattle.p3_lexer.specs.Lexing.{gap_len}
 use Rattle.p3_tree.specs.PlanTexts.{Before, Outside, Begun, Named, behind, offence_of, offence_from}
 use Rattle.p3_plans.specs.declared.reader.NextStep.{NextStep}
 use Rattle.p3_plans.specs.declared.reader.NextStep.TheVariants as next
@@ -85,6 +86,12 @@ abbrev pub Takes : List ℕ → NextStep → ℕ → Type 0
 Takes source (next.Step step) end = IsSlice source step.offset step.text.now end
 Takes source next.End end = ⊤
 Takes source (next.Bad refusal) end = ⊤
+
+-- before a step stand blanks and comments alone
+abbrev pub IsBehindGap : List ℕ → ℕ → NextStep → Type 0
+IsBehindGap source at (next.Step step) = step.offset ≡ at + gap_len false (drop at source)
+IsBehindGap source at next.End = ⊤
+IsBehindGap source at (next.Bad refusal) = ⊤
 
 -- behind the last step, what is left stays as it is
 abbrev pub Rests : Progress → NextStep → Progress → Type 0

@@ -18,6 +18,7 @@ use std::alloc::Global;
 pub fn read_plan(alloc: Global, text: &[u8]) -> Result<Plan, PlanFail>
     requires short { length text.now ≤ 16777216 }
     ensures read { IfOk result (λ plan. IsPlanText text.now plan) }
+    ensures few { IfOk result (λ plan. length plan ≤ 1000000) }
     // What is read can be written.
     ensures writable { IfOk result (λ plan. IsTrue (list_all layout.has_written_words plan)) }
     // A text with an offence has no plan.

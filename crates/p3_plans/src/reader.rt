@@ -4,7 +4,7 @@ ghost use Rattle.std.specs.Prelude.{◌≡◌, ◌≤◌, ◌<◌, ◌+◌, ◌-
 ghost use Rattle.p3_lexer.specs.Lexing as lexing;
 ghost use Rattle.p3_tree.specs.PlanTexts.{Outside, end_offence};
 ghost use Rattle.p3_plans.specs.Befores.{the_before};
-ghost use Rattle.p3_plans.specs.Steps.{Left, left, parts, nothing, with_next, Takes, Rests, Ends, stopped_by};
+ghost use Rattle.p3_plans.specs.Steps.{Left, left, parts, nothing, with_next, IsBehindGap, Takes, Rests, Ends, stopped_by};
 
 use crate::before::{Before, advanced, refusal};
 use p3_base::{Code, Refusal};
@@ -74,6 +74,8 @@ impl<'a> PlanReader<'a> {
         ensures steps { left self.old ≡ with_next result (left self.new) }
         // A step is the slice of the text at its offset.
         ensures slice { Takes self.old.source result self.new.at }
+        // Before it stand blanks and comments alone.
+        ensures gap { IsBehindGap self.old.source self.old.at result }
         // After the last step nothing changes.
         ensures rests { Rests self.old result self.new }
     {
@@ -104,6 +106,7 @@ fn next_step<'a>(text: &'a [u8], lexer: &mut Lexer<'a>, given: u32) -> (NextStep
     ensures source { lexer.new.source ≡ text.now }
     ensures steps { parts text.now (Outside given) 0 (lexing.left lexer.old) ≡ with_next result.0 (parts text.now (Outside result.1) 0 (lexing.left lexer.new)) }
     ensures slice { Takes text.now result.0 lexer.new.at }
+    ensures gap { IsBehindGap text.now lexer.old.at result.0 }
     ensures ends { Ends result.0 (lexing.left lexer.new) }
 {
     let mut before = Before::Outside { steps: given };
@@ -147,6 +150,7 @@ fn end_of(text: &[u8], before: Before) -> NextStep<'_>
     requires short { length text.now ≤ 16777216 }
     ensures offence { (later : Left) → with_next result later ≡ nothing (end_offence (length text.now) (the_before before)) }
     ensures slice { (source : List ℕ) (end : ℕ) → Takes source result end }
+    ensures gap { (source : List ℕ) (at : ℕ) → IsBehindGap source at result }
 {
     match before {
         Before::Outside { .. } => NextStep::End,

@@ -1,6 +1,6 @@
 //! Writing a plan.
 
-ghost use Rattle.std.specs.Prelude.{◌≡◌, ◌≤◌, ◌++◌, length, IfOk, OnOk, IsTrue};
+ghost use Rattle.std.specs.Prelude.{◌≡◌, ◌++◌, IfOk, OnOk, IsTrue};
 ghost use Rattle.std.specs.List.{list_all, flat_map};
 ghost use Rattle.p3_tree.specs.PlanTexts.{IsPlanText};
 ghost use Rattle.p3_plans.specs.Layout as layout;
@@ -11,7 +11,6 @@ use std::alloc::Global;
 
 /// The text of a plan: a line for each step.
 pub fn write_plan(alloc: Global, plan: &Plan) -> Result<Vec<u8>, NoMemory>
-    requires few { length plan.now ≤ 1000000 }
     // Each name is a word in lower case that is no variable and no keyword.
     requires words { IsTrue (list_all layout.has_written_words plan.now) }
     ensures text { IfOk result (λ text. text.items ≡ layout.plan_layout plan.now) }

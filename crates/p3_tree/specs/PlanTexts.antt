@@ -34,7 +34,7 @@ is_plan_word (byte ∷ bytes) = not (byte == 63 || byte == 58)
 abbrev pub has_plan_words : Step → Bool
 has_plan_words step = list_all is_plan_word (step.action ∷ step.args)
 
--- no plan has more steps
+-- no plan that is read has more steps
 abbrev pub step_limit : ℕ
 step_limit = 1000000
 
@@ -43,7 +43,6 @@ pub record IsPlanText (text : List ℕ) (plan : plans.Plan) : Type 0 where
   pub known : (tokens_of text).foreign ≡ None
   pub marks : map mark_of (tokens_of text).tokens ≡ flat_map step_marks plan
   pub words : IsTrue (list_all has_plan_words plan)
-  pub few : length plan ≤ step_limit
 
 -- ---- the offences
 

@@ -3,7 +3,7 @@ use Rattle.std.proofs.lemmas.Result.{err_from_is_err_and}
 use Rattle.p3_base.specs.declared.refusal.Refusal.{Refusal}
 use Rattle.p3_lexer.specs.Lexing.{left, token_of}
 use Rattle.p3_tree.specs.Tokens.{Tokens}
-use Rattle.p3_plans.proofs.DraftLemmas.{IsRead, read_more, read_foreign, fail_here, whole_free, whole_refused}
+use Rattle.p3_plans.proofs.DraftLemmas.{IsRead, read_more, read_foreign, fail_here, whole_free, whole_few, whole_refused}
 use Rattle.p3_plans.proofs.ReadLemmas.{whole_is_writable}
 use Rattle.p3_plans.proofs.read.read_plan.Goals as goal
 
@@ -31,6 +31,11 @@ pub returns-in-End-clause-free : goal.returns-in-End-clause-free
 returns-in-End-clause-free c =
     let is_read = subst (λ (t : Tokens). IsRead c.args.text.now c.loop-word.draft t) c.in-End.ensures.tokens c.loop-word.invariant.read in
     whole_free c.args.text.now c.loop-word.draft is_read c.whole.result c.whole.ensures
+
+pub returns-in-End-clause-few : goal.returns-in-End-clause-few
+returns-in-End-clause-few c =
+    let is_read = subst (λ (t : Tokens). IsRead c.args.text.now c.loop-word.draft t) c.in-End.ensures.tokens c.loop-word.invariant.read in
+    whole_few c.args.text.now c.loop-word.draft is_read c.whole.result c.whole.ensures
 
 pub returns-in-End-clause-refused : goal.returns-in-End-clause-refused
 returns-in-End-clause-refused c =

@@ -8,4 +8,4 @@ use Rattle.p3_plans.proofs.write.write_plan.Goals as goal
 
 pub returns-clause-plan : goal.returns-clause-plan
 returns-clause-plan c =
-    layout_is_text c.loop-step.out.items c.args.plan.now (c.loop-step.invariant ∙ ap (λ (plan : Plan). flat_map layout.step_layout plan) (take_all c.loop-step.step-index c.args.plan.now (omega (arith, ap (λ (steps : Plan). length steps) c.items-step-items.ensures)))) c.requires.words c.requires.few
+    layout_is_text c.loop-step.out.items c.args.plan.now (c.loop-step.invariant ∙ ap (λ (plan : Plan). flat_map layout.step_layout plan) (take_all c.loop-step.step-index c.args.plan.now (omega (arith, ap (λ (steps : Plan). length steps) c.items-step-items.ensures)))) c.requires.words
