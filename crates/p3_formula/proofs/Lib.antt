@@ -5,3 +5,5 @@ pub mod AtomLaws
 pub mod TidyLaws
 pub mod Worked
 pub mod NextLaws
+pub mod NameLaws
+pub mod LossLaws

@@ -4,6 +4,8 @@ use Rattle.std.specs.Prelude.{codes}
 use Rattle.std.specs.Fmt.{digits}
 use Rattle.p3_base.specs.declared.refusal.Direction.TheVariants.{Minimize}
 use denote.Hole.Carrier.{hidden}
+use Rattle.p3_formula.specs.Conditions.{HasAtomsBelow, HasTidyForms}
+use Rattle.p3_formula.specs.Tidy.{look}
 use Rattle.p3_formula.specs.Forms.{State, truth, has_atoms}
 use Rattle.p3_formula.specs.Next.{after}
 use Rattle.p3_formula.specs.GroundSat.{ground_sat}
@@ -152,3 +154,13 @@ sometime_after = (refl, refl)
 pub sometime_before : Tells (SometimeBefore f g) (g_alone ∷ f_alone ∷ []) (both ∷ g_alone ∷ [])
 unfolding computes
 sometime_before = (refl, refl)
+
+-- ---- the task may be compiled, and the target's forms are tidy
+
+pub task_atoms : HasAtomsBelow task
+unfolding computes look
+task_atoms = record { steps = refl; goal = refl; hard = refl; soft = refl }
+
+pub target_tidy : HasTidyForms target
+unfolding computes look
+target_tidy = record { goal = refl; actions = refl }

@@ -85,4 +85,4 @@ ground_cost G plan = sum_by (λ number. cost_by (step_of G number)) plan
 
 -- the weighted sum of the cost and the counts: the loss above the base
 unfoldable pub ground_loss : GroundTask → Weights → GroundPlan → ℕ
-ground_loss G weights plan = weights.total_cost * ground_cost G plan + sum_by (λ name. slice_index_or weights.by_name name 0 * ground_violated G plan name) (range_with_len 0 G.names)
+ground_loss G weights plan = weights.total_cost * ground_cost G plan + sum_by (λ name. slice_index_or weights.by_name name 0 * ground_violated G plan name) (range_with_len 0 (length weights.by_name))

@@ -6,3 +6,4 @@ pub mod Next
 pub mod Targets
 pub mod Tidy
 pub mod Simplified
+pub mod Conditions
