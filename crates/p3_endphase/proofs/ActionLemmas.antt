@@ -4,30 +4,32 @@ use Rattle.std.specs.Str.{str_to_ascii_lowercase}
 use Rattle.std.proofs.Math.Bool.{and-true}
 use Rattle.std.proofs.lemmas.List.{take_more, length-take-le}
 use Rattle.p3_base.proofs.NameLemmas.{lowered_decimal}
-use Rattle.p3_formula.specs.Forms.{State, is_set, truth}
+use Rattle.p3_formula.specs.Forms.{State, is_set, truth, has_atoms, HasAtomsOf}
 use Rattle.p3_formula.specs.declared.form.Change.{Change}
 use Rattle.p3_formula.specs.declared.form.Form.{Form}
 use Rattle.p3_formula.specs.declared.form.Form.TheVariants as form
 use Rattle.p3_formula.specs.declared.target.TargetAction.{TargetAction}
-use Rattle.p3_formula.proofs.FormLemmas.{truth-And, truth-Atom}
+use Rattle.p3_formula.proofs.FormLemmas.{truth-And, truth-Atom, has_atoms-And, has_atoms-Atom}
 use Rattle.p3_endphase.specs.declared.phase.SoftEnd.{SoftEnd}
 use Rattle.p3_endphase.specs.Ends.{collect_name, forgo_name, moving, IsMove, IsSettled, Settles, AreActions}
 
 -- the atom and the condition, one after the other
 pub made : (atom : ℕ) (condition pre : Form) (name : List ℕ) (cost : ℕ) (effects : List Change) → pre ≡ form.And (form.Atom atom ∷ condition ∷ []) → effects ≡ moving atom
-    → IsMove atom (λ state. truth state condition) name cost (record { name = name; pre = pre; effects = effects; cost = cost })
+    → IsMove atom condition (λ state. truth state condition) name cost (record { name = name; pre = pre; effects = effects; cost = cost })
 made atom condition pre name cost effects is changes = record {
   is_named = refl;
   fits = λ state. ap (truth state) is ∙ truth-And state (form.Atom atom ∷ condition ∷ []) ∙ (λ i. truth-Atom state atom i && (truth state condition && true)) ∙ ap (λ b. is_set state atom && b) (and-true (truth state condition));
+  reads = λ allowed here within. ap (has_atoms allowed) is ∙ has_atoms-And allowed (form.Atom atom ∷ condition ∷ []) ∙ (λ i. (has_atoms-Atom allowed atom ∙ here) i && (within i && true));
   moves = changes;
   costs = refl;
 }
 
 -- the same move by another name of the same bytes, where another condition holds in the same states
-pub with_condition : (atom cost : ℕ) (name other : List ℕ) (condition new : State → Bool) (action : TargetAction) → name ≡ other → ((state : State) → condition state ≡ new state) → IsMove atom condition name cost action → IsMove atom new other cost action
-with_condition atom cost name other condition new action same holds move = record {
+pub with_condition : (atom cost : ℕ) (name other : List ℕ) (form source : Form) (condition new : State → Bool) (action : TargetAction) → name ≡ other → ((state : State) → condition state ≡ new state) → HasAtomsOf form source → IsMove atom form condition name cost action → IsMove atom source new other cost action
+with_condition atom cost name other form source condition new action same holds own move = record {
   is_named = move.is_named ∙ same;
   fits = λ state. move.fits state ∙ ap (λ test. is_set state atom && test) (holds state);
+  reads = λ allowed here within. move.reads allowed here (own allowed within);
   moves = move.moves;
   costs = move.costs;
 }

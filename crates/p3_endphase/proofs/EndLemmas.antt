@@ -34,9 +34,9 @@ in_none a (k, within, is) = absurd (omega (arith, within))
 
 module _ (first count : ℕ) where
   -- a move that fits stands at the place of the atom that is set
-  pub fits_here : (place at : ℕ) (condition : State → Bool) (name : List ℕ) (cost : ℕ) (a : TargetAction) (state : State)
-      → IsMove (first + at) condition name cost a → at < count → IsSingleAt first count place state → truth state a.pre ≡ true → (at ≡ place) × (condition state ≡ true)
-  fits_here place at condition name cost a state move below single fits =
+  pub fits_here : (place at : ℕ) (source : Form) (condition : State → Bool) (name : List ℕ) (cost : ℕ) (a : TargetAction) (state : State)
+      → IsMove (first + at) source condition name cost a → at < count → IsSingleAt first count place state → truth state a.pre ≡ true → (at ≡ place) × (condition state ≡ true)
+  fits_here place at source condition name cost a state move below single fits =
       let holds : (is_set state (first + at) && condition state) ≡ true = sym (move.fits state) ∙ fits in
       let parts : (is_set state (first + at) ≡ true) × (condition state ≡ true) = and_parts (is_set state (first + at)) (condition state) holds in
       (by (at == place) refl parts.0, parts.1)
@@ -56,9 +56,9 @@ module _ (first count : ℕ) where
   fits_later number (instance ∷ instances) (action ∷ []) settles room place state a single member fits = absurd settles
   fits_later number (instance ∷ instances) (collect ∷ forgo ∷ actions) settles room place state a single member fits =
       elim (head_or_tail collect (forgo ∷ actions) a member) [
-        | inl is ↦ let here = fits_here place (number + 1) _ _ _ collect state settles.0.collects (omega (arith, room)) single (subst (λ b. truth state b.pre ≡ true) (sym is) fits) in omega (arith, here.0)
+        | inl is ↦ let here = fits_here place (number + 1) _ _ _ _ collect state settles.0.collects (omega (arith, room)) single (subst (λ b. truth state b.pre ≡ true) (sym is) fits) in omega (arith, here.0)
         | inr other ↦ elim (head_or_tail forgo actions a other) [
-          | inl is ↦ let here = fits_here place (number + 1) _ _ _ forgo state settles.0.forgoes (omega (arith, room)) single (subst (λ b. truth state b.pre ≡ true) (sym is) fits) in omega (arith, here.0)
+          | inl is ↦ let here = fits_here place (number + 1) _ _ _ _ forgo state settles.0.forgoes (omega (arith, room)) single (subst (λ b. truth state b.pre ≡ true) (sym is) fits) in omega (arith, here.0)
           | inr later ↦ let behind : number + 1 < place = fits_later (number + 1) instances actions settles.1 (omega (arith, room)) place state a single later fits in omega (arith, behind)
         ]
       ]
@@ -128,10 +128,10 @@ module _ (phase : EndPhase) (first count last : ℕ) (goal_is : phase.goal ≡ f
     ]
 
     collect_here : (place : ℕ) (state : State) (a : TargetAction) → IsSingleAt first count place state → collect ≡ a → truth state a.pre ≡ true → (number + 1 ≡ place) × (truth state instance.accept ≡ true)
-    collect_here place state a single is fits = fits_here first count place (number + 1) _ _ _ collect state settled.collects (let r = room in omega (arith, r)) single (subst (λ b. truth state b.pre ≡ true) (sym is) fits)
+    collect_here place state a single is fits = fits_here first count place (number + 1) _ _ _ _ collect state settled.collects (let r = room in omega (arith, r)) single (subst (λ b. truth state b.pre ≡ true) (sym is) fits)
 
     forgo_here : (place : ℕ) (state : State) (a : TargetAction) → IsSingleAt first count place state → forgo ≡ a → truth state a.pre ≡ true → (number + 1 ≡ place) × (not (truth state instance.accept) ≡ true)
-    forgo_here place state a single is fits = fits_here first count place (number + 1) _ _ _ forgo state settled.forgoes (let r = room in omega (arith, r)) single (subst (λ b. truth state b.pre ≡ true) (sym is) fits)
+    forgo_here place state a single is fits = fits_here first count place (number + 1) _ _ _ _ forgo state settled.forgoes (let r = room in omega (arith, r)) single (subst (λ b. truth state b.pre ≡ true) (sym is) fits)
 
     -- behind this instance, the actions that fit are those of the others
     behind_it : ((place : ℕ) (state : State) (a : TargetAction) → IsSingleAt first count place state → number < place → Contains phase.actions a → truth state a.pre ≡ true → Contains (collect ∷ forgo ∷ actions) a)
@@ -205,7 +205,7 @@ module _ (finish : Form) (instances : List SoftEnd) (first : ℕ) (phase : EndPh
     head : TargetAction
     tail : List TargetAction
     are : phase.actions ≡ head ∷ tail
-    finishes : IsMove (first + 0) (λ state. truth state finish) (codes "finish") 0 head
+    finishes : IsMove (first + 0) finish (λ state. truth state finish) (codes "finish") 0 head
     settles : Settles first 0 instances tail
 
   parts : Parts
@@ -222,7 +222,7 @@ module _ (finish : Form) (instances : List SoftEnd) (first : ℕ) (phase : EndPh
   to_all a member = subst (λ actions. Contains actions a) (sym parts.are) member
 
   finish_here : (place : ℕ) (state : State) (a : TargetAction) → IsSingleAt first phase.atoms place state → parts.head ≡ a → truth state a.pre ≡ true → (0 ≡ place) × (truth state finish ≡ true)
-  finish_here place state a single is fits = fits_here first phase.atoms place 0 _ _ _ parts.head state parts.finishes (omega (arith, last_is)) single (subst (λ b. truth state b.pre ≡ true) (sym is) fits)
+  finish_here place state a single is fits = fits_here first phase.atoms place 0 _ _ _ _ parts.head state parts.finishes (omega (arith, last_is)) single (subst (λ b. truth state b.pre ≡ true) (sym is) fits)
 
   pub one_end : AreBelow first instances → (state : State) → IsSingleAt first phase.atoms 0 state → truth state finish ≡ true → HasOneEnd phase instances state
   one_end below state single holds = record { plan = one.plan; ends = one.ends; steps = let count = one.count in omega (arith, count); cost = one.costs ∙ (let free = parts.finishes.costs in omega (arith, free)); only = one.only }
@@ -288,9 +288,9 @@ module _ (finish : Form) (instances : List SoftEnd) (first : ℕ) (phase : EndPh
         tail_later a more fits = fits_later first phase.atoms (number + 1) others actions settles.1 (omega (arith, last_eq, last_is)) place state a single more fits
 
     -- the set atom moves on with the action that fits
-    moved_on : (at : ℕ) (condition : State → Bool) (name : List ℕ) (cost : ℕ) (a : TargetAction) → IsMove (first + at) condition name cost a → at < last → truth state a.pre ≡ true → IsSingleAt first phase.atoms (place + 1) (after state a.effects)
-    moved_on at condition name cost a move before fits =
-        let here : at ≡ place = (fits_here first phase.atoms place at condition name cost a state move (omega (arith, before, last_is)) single fits).0 in
+    moved_on : (at : ℕ) (source : Form) (condition : State → Bool) (name : List ℕ) (cost : ℕ) (a : TargetAction) → IsMove (first + at) source condition name cost a → at < last → truth state a.pre ≡ true → IsSingleAt first phase.atoms (place + 1) (after state a.effects)
+    moved_on at source condition name cost a move before fits =
+        let here : at ≡ place = (fits_here first phase.atoms place at source condition name cost a state move (omega (arith, before, last_is)) single fits).0 in
         subst (λ effects. IsSingleAt first phase.atoms (place + 1) (after state effects)) (sym (move.moves ∙ ap (λ p. moving (first + p)) here))
         (moved_single first phase.atoms place state single (omega (arith, before, here, last_is)))
 
@@ -302,8 +302,8 @@ module _ (finish : Form) (instances : List SoftEnd) (first : ℕ) (phase : EndPh
     settling_moves number (instance ∷ others) (action ∷ []) settles last_eq a member fits = absurd settles
     settling_moves number (instance ∷ others) (collect ∷ forgo ∷ actions) settles last_eq a member fits =
         which phase first phase.atoms last shape.reached last_is number instance others collect forgo actions settles.0 settles.1 last_eq a member
-        (λ is. moved_on (number + 1) _ _ _ a (subst (IsMove _ _ _ _) is settles.0.collects) (omega (arith, last_eq)) fits)
-        (λ is. moved_on (number + 1) _ _ _ a (subst (IsMove _ _ _ _) is settles.0.forgoes) (omega (arith, last_eq)) fits)
+        (λ is. moved_on (number + 1) _ _ _ _ a (subst (IsMove _ _ _ _ _) is settles.0.collects) (omega (arith, last_eq)) fits)
+        (λ is. moved_on (number + 1) _ _ _ _ a (subst (IsMove _ _ _ _ _) is settles.0.forgoes) (omega (arith, last_eq)) fits)
         (λ more. settling_moves (number + 1) others actions settles.1 (omega (arith, last_eq)) a more fits)
 
     tail_late : (a : TargetAction) → Contains parts.tail a → truth state a.pre ≡ true → 0 < place
@@ -324,6 +324,6 @@ module _ (finish : Form) (instances : List SoftEnd) (first : ℕ) (phase : EndPh
 
     pub moves_on : (action : TargetAction) → Contains phase.actions action → truth state action.pre ≡ true → IsSingleAt first phase.atoms (place + 1) (after state action.effects)
     moves_on action member fits = elim (head_or_tail parts.head parts.tail action (of_all action member)) [
-      | inl is ↦ moved_on 0 _ _ _ action (subst (IsMove _ _ _ _) is parts.finishes) (omega arith) fits
+      | inl is ↦ moved_on 0 _ _ _ _ action (subst (IsMove _ _ _ _ _) is parts.finishes) (omega arith) fits
       | inr more ↦ settling_moves 0 instances parts.tail parts.settles (omega arith) action more fits
     ]

@@ -1,7 +1,7 @@
 -- The end phase (Keyder and Geffner): just one of its own atoms is set, and each of its actions moves it on by one place. The first of them is the running atom, and the others are the chain.
-use Rattle.std.specs.Prelude.{◌≡◌, ◌≢◌, ℕ, ◌+◌, ◌≤◌, ◌<◌, Bool, true, false, not, ◌&&◌, List, [], ◌∷◌, ◌++◌, length, sum_by, codes, if◌then◌else◌, Contains}
+use Rattle.std.specs.Prelude.{◌≡◌, ◌≢◌, ℕ, ◌+◌, ◌≤◌, ◌<◌, Bool, true, false, not, ◌&&◌, List, [], ◌∷◌, ◌++◌, length, sum_by, codes, if◌then◌else◌, Contains, IsTrue}
 use Rattle.std.specs.Fmt.{decimal}
-use Rattle.p3_formula.specs.Forms.{State, is_set, truth, IsBelow}
+use Rattle.p3_formula.specs.Forms.{State, is_set, truth, has_atoms, IsBelow}
 use Rattle.p3_formula.specs.Next.{after}
 use Rattle.p3_formula.specs.declared.form.Change.{Change}
 use Rattle.p3_formula.specs.declared.form.Form.{Form}
@@ -21,10 +21,15 @@ AreBelow count (instance ∷ instances) = IsBelow count instance.accept × AreBe
 abbrev pub moving : ℕ → List Change
 moving atom = record { cond = form.True; atom = atom; add = false } ∷ record { cond = form.True; atom = atom + 1; add = true } ∷ []
 
--- an action of that name and cost that fits where the atom is set and a condition holds
-pub record IsMove (atom : ℕ) (condition : State → Bool) (name : List ℕ) (cost : ℕ) (action : TargetAction) : Type 0 where
+-- the second form reads the atom and those of the first form, and no others
+abbrev pub ReadsWith : ℕ → Form → Form → Type 0
+ReadsWith atom source form = (allowed : ℕ → Bool) → allowed atom ≡ true → IsTrue (has_atoms allowed source) → IsTrue (has_atoms allowed form)
+
+-- an action of that name and cost that fits where the atom is set and a condition holds, and reads no atoms but that one and those of a form
+pub record IsMove (atom : ℕ) (source : Form) (condition : State → Bool) (name : List ℕ) (cost : ℕ) (action : TargetAction) : Type 0 where
   pub is_named : action.name ≡ name
   pub fits : (state : State) → truth state action.pre ≡ (is_set state atom && condition state)
+  pub reads : ReadsWith atom source action.pre
   pub moves : action.effects ≡ moving atom
   pub costs : action.cost ≡ cost
 
@@ -36,8 +41,8 @@ forgo_name number = codes "forgo" ++ decimal number
 
 -- satisfied, an instance costs nothing; else its weight
 pub record IsSettled (first number : ℕ) (instance : SoftEnd) (collect forgo : TargetAction) : Type 0 where
-  pub collects : IsMove (first + (number + 1)) (λ state. truth state instance.accept) (collect_name number) 0 collect
-  pub forgoes : IsMove (first + (number + 1)) (λ state. not (truth state instance.accept)) (forgo_name number) instance.weight forgo
+  pub collects : IsMove (first + (number + 1)) instance.accept (λ state. truth state instance.accept) (collect_name number) 0 collect
+  pub forgoes : IsMove (first + (number + 1)) instance.accept (λ state. not (truth state instance.accept)) (forgo_name number) instance.weight forgo
 
 -- two actions for each instance, in order, the instances counted from a number on
 abbrev pub Settles : ℕ → ℕ → List SoftEnd → List TargetAction → Type 0
@@ -50,7 +55,7 @@ Settles first number (instance ∷ instances) (action ∷ []) = ⊥
 -- `finish` comes first
 abbrev pub AreActions : ℕ → Form → List SoftEnd → List TargetAction → Type 0
 AreActions first finish instances [] = ⊥
-AreActions first finish instances (action ∷ actions) = IsMove (first + 0) (λ state. truth state finish) (codes "finish") 0 action × Settles first 0 instances actions
+AreActions first finish instances (action ∷ actions) = IsMove (first + 0) finish (λ state. truth state finish) (codes "finish") 0 action × Settles first 0 instances actions
 
 pub record IsEndPhase (finish : Form) (instances : List SoftEnd) (first : ℕ) (phase : EndPhase) : Type 0 where
   pub count : phase.atoms ≡ length instances + 2

@@ -99,7 +99,7 @@ fn push_both(
 /// The plan ends: the running atom gives way to the first of the chain.
 fn finish_action(alloc: Global, finish: &Form, first_atom: usize) -> Result<TargetAction, NoMemory>
     requires { first_atom + 1 ≤ 2 ^ 64 - 1 }
-    ensures { IfOk result (IsMove first_atom (λ state. truth state finish.now) (codes "finish") 0) }
+    ensures { IfOk result (IsMove first_atom finish.now (λ state. truth state finish.now) (codes "finish") 0) }
 {
     let condition = simplify(alloc, finish)?;
     let name = Name::of(alloc, b"finish".as_slice())?;
@@ -130,7 +130,7 @@ fn collect_action(
     first_atom: usize,
 ) -> Result<TargetAction, NoMemory>
     requires { first_atom + number + 2 ≤ 2 ^ 64 - 1 }
-    ensures { IfOk result (IsMove (first_atom + (number + 1)) (λ state. truth state instance.now.accept) (collect_name number) 0) }
+    ensures { IfOk result (IsMove (first_atom + (number + 1)) instance.now.accept (λ state. truth state instance.now.accept) (collect_name number) 0) }
 {
     let condition = simplify(alloc, &instance.accept)?;
     let name = Name::of(alloc, collect_name(alloc, number)?.as_bytes())?;
@@ -145,7 +145,7 @@ fn forgo_action(
     first_atom: usize,
 ) -> Result<TargetAction, NoMemory>
     requires { first_atom + number + 2 ≤ 2 ^ 64 - 1 }
-    ensures { IfOk result (IsMove (first_atom + (number + 1)) (λ state. not (truth state instance.now.accept)) (forgo_name number) instance.now.weight) }
+    ensures { IfOk result (IsMove (first_atom + (number + 1)) instance.now.accept (λ state. not (truth state instance.now.accept)) (forgo_name number) instance.now.weight) }
 {
     let condition = negate(alloc, &instance.accept)?;
     let name = Name::of(alloc, forgo_name(alloc, number)?.as_bytes())?;
@@ -167,7 +167,7 @@ fn moving(
     cost: u64,
 ) -> Result<TargetAction, NoMemory>
     requires { atom + 1 ≤ 2 ^ 64 - 1 }
-    ensures { IfOk result (IsMove atom (λ state. truth state condition) name cost) }
+    ensures { IfOk result (IsMove atom condition (λ state. truth state condition) name cost) }
 {
     let pre = both(alloc, Form::Atom(atom), condition)?;
     let effects = moved(alloc, atom)?;

@@ -6,7 +6,7 @@ use Rattle.p3_endphase.proofs.phase.collect_action.Goals as goal
 
 pub returns : goal.returns
 returns c = IfOk-weaker c.moving.result _ _
-    (λ made. with_condition _ _ _ _ _ _ made
+    (λ made. with_condition _ _ _ _ _ _ _ _ made
     (c.in_ok-name.ensures ∙ ap str_to_ascii_lowercase (c.as_bytes.ensures.value ∙ c.in_ok-collect_name.ensures.name) ∙ c.in_ok-collect_name.ensures.lowered)
-    c.in_ok-condition.ensures.truth)
+    c.in_ok-condition.ensures.truth c.in_ok-condition.ensures.atoms)
     c.moving.ensures
