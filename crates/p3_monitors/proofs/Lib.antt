@@ -6,3 +6,4 @@ pub mod UpdateLaws
 pub mod AcceptLaws
 pub mod RiderLaws
 pub mod Worked
+pub mod UntouchedLaws
