@@ -1,3 +1,4 @@
 pub mod KnownLemmas
 pub mod NameLemmas
 pub mod ShelfLemmas
+pub mod TrajectoryLemmas

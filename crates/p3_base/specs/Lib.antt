@@ -1,5 +1,7 @@
+pub mod Connectives
 pub mod Memory
 pub mod Outside
 pub mod Place
+pub mod Trajectories
 pub mod Words
 pub mod formers

@@ -1,4 +1,3 @@
-pub mod Places
 pub mod ReadAtoms
 pub mod WatchedLaws
 pub mod ChangeLaws

@@ -6,7 +6,8 @@ use Rattle.std.proofs.Math.Bool.{and-true}
 use Rattle.std.proofs.lemmas.Bool.{and_parts}
 use Rattle.p3_formula.specs.Forms.{State, is_set, truth, has_atoms}
 use Rattle.p3_formula.specs.Next.{after}
-use Rattle.p3_formula.specs.GroundSat.{each_place, some_place, holds_at}
+use Rattle.p3_base.specs.Trajectories.{each, some, came_back, is_awaited, came_early}
+use Rattle.p3_formula.specs.GroundSat.{holds_at}
 use Rattle.p3_formula.specs.GroundPlans.{last_of}
 use Rattle.p3_formula.specs.declared.form.Change.{Change}
 use Rattle.p3_formula.specs.declared.form.Form.{Form}
@@ -14,7 +15,7 @@ use Rattle.p3_formula.specs.declared.modal.GroundModal.{GroundModal}
 use Rattle.p3_formula.specs.declared.modal.GroundModal.TheVariants.{AtEnd, Always, Sometime, AtMostOnce, SometimeAfter, SometimeBefore}
 use Rattle.p3_formula.proofs.NextLaws.{truth-unchanged}
 use Rattle.p3_regress.specs.Regressed.{IsTrueBefore}
-use Rattle.p3_monitors.specs.Kept.{forms_of, is_read, IsModalBelow, atom_count, watched, came_back, is_awaited, came_early, AreAt, is_own, HasNone, KeepsOn}
+use Rattle.p3_monitors.specs.Kept.{forms_of, is_read, IsModalBelow, atom_count, watched, AreAt, is_own, HasNone, KeepsOn}
 use Rattle.p3_monitors.proofs.ReadAtoms.{reads, has_more}
 use Rattle.p3_monitors.proofs.WatchedLaws.{length-watched, last-next, each-next, some-next, came-next, awaited-next, early-next}
 use Rattle.p3_monitors.proofs.ChangeLaws.{Stage, reached, own_after, truth_now, truth_later, keeps_on, none_named}
@@ -58,23 +59,23 @@ module _ (V : List State) (s next : State) where
   W = V ++ s ∷ []
 
   module _ (f : Form) (same : truth next f ≡ truth s f) where
-    each-still : each_place (W ++ next ∷ []) (holds_at (W ++ next ∷ []) f) ≡ each_place W (holds_at W f)
-    each-still = each-next W next f ∙ (λ i. each-next V s f i && same i) ∙ and_twice (each_place V (holds_at V f)) (truth s f) ∙ sym (each-next V s f)
+    each-still : each (length (W ++ next ∷ [])) (holds_at (W ++ next ∷ []) f) ≡ each (length W) (holds_at W f)
+    each-still = each-next W next f ∙ (λ i. each-next V s f i && same i) ∙ and_twice (each (length V) (holds_at V f)) (truth s f) ∙ sym (each-next V s f)
 
-    some-still : some_place (W ++ next ∷ []) (holds_at (W ++ next ∷ []) f) ≡ some_place W (holds_at W f)
-    some-still = some-next W next f ∙ (λ i. some-next V s f i || same i) ∙ or_twice (some_place V (holds_at V f)) (truth s f) ∙ sym (some-next V s f)
+    some-still : some (length (W ++ next ∷ [])) (holds_at (W ++ next ∷ []) f) ≡ some (length W) (holds_at W f)
+    some-still = some-next W next f ∙ (λ i. some-next V s f i || same i) ∙ or_twice (some (length V) (holds_at V f)) (truth s f) ∙ sym (some-next V s f)
 
-    came-still : came_back (W ++ next ∷ []) f ≡ came_back W f
-    came-still = came-next W next f ∙ (λ i. came_back W f || ((some_place W (holds_at W f) && not (truth (last-next V s i) f)) && same i)) ∙ no_gap (came_back W f) (some_place W (holds_at W f)) (truth s f)
+    came-still : came_back (length (W ++ next ∷ [])) (holds_at (W ++ next ∷ []) f) ≡ came_back (length W) (holds_at W f)
+    came-still = came-next W next f ∙ (λ i. came_back (length W) (holds_at W f) || ((some (length W) (holds_at W f) && not (truth (last-next V s i) f)) && same i)) ∙ no_gap (came_back (length W) (holds_at W f)) (some (length W) (holds_at W f)) (truth s f)
 
   module _ (f g : Form) (same : truth next f ≡ truth s f) (alike : truth next g ≡ truth s g) where
-    awaited-still : is_awaited (W ++ next ∷ []) f g ≡ is_awaited W f g
-    awaited-still = awaited-next W next f g ∙ (λ i. (awaited-next V s f g i || same i) && not (alike i)) ∙ awaits (is_awaited V f g) (truth s f) (truth s g) ∙ sym (awaited-next V s f g)
+    awaited-still : is_awaited (length (W ++ next ∷ [])) (holds_at (W ++ next ∷ []) f) (holds_at (W ++ next ∷ []) g) ≡ is_awaited (length W) (holds_at W f) (holds_at W g)
+    awaited-still = awaited-next W next f g ∙ (λ i. (awaited-next V s f g i || same i) && not (alike i)) ∙ awaits (is_awaited (length V) (holds_at V f) (holds_at V g)) (truth s f) (truth s g) ∙ sym (awaited-next V s f g)
 
-    early-still : came_early (W ++ next ∷ []) f g ≡ came_early W f g
+    early-still : came_early (length (W ++ next ∷ [])) (holds_at (W ++ next ∷ []) f) (holds_at (W ++ next ∷ []) g) ≡ came_early (length W) (holds_at W f) (holds_at W g)
     early-still =
         early-next W next f g ∙ (λ i. early-next V s f g i || (same i && not (some-next V s g i)))
-        ∙ comes (came_early V f g) (truth s f) (some_place V (holds_at V g)) (truth s g) ∙ sym (early-next V s f g)
+        ∙ comes (came_early (length V) (holds_at V f) (holds_at V g)) (truth s f) (some (length V) (holds_at V g)) (truth s g) ∙ sym (early-next V s f g)
 
   watched-still : (modal : GroundModal) → ((form : Form) → has_atoms (is_read modal) form ≡ true → truth next form ≡ truth s form) → watched (W ++ next ∷ []) modal ≡ watched W modal
   watched-still (AtEnd f) same = refl

@@ -8,7 +8,8 @@ use Rattle.std.proofs.lemmas.List.Sums.{sum_by-cons}
 use Rattle.std.proofs.lemmas.Result.{IfOk-weaker}
 use Rattle.std.proofs.Math.Bool.{and-true, or-false, not-not}
 use Rattle.p3_formula.specs.Forms.{State, is_set, truth, has_atoms, nodes}
-use Rattle.p3_formula.specs.GroundSat.{each_place, holds_at}
+use Rattle.p3_base.specs.Trajectories.{each, came_back, is_awaited, came_early}
+use Rattle.p3_formula.specs.GroundSat.{holds_at}
 use Rattle.p3_formula.specs.Next.{is_set_after}
 use Rattle.p3_formula.specs.declared.form.Change.{Change}
 use Rattle.p3_formula.specs.declared.form.Form.{Form}
@@ -18,7 +19,7 @@ use Rattle.p3_formula.specs.declared.modal.GroundModal.TheVariants as modal
 use Rattle.p3_formula.proofs.FormLemmas.{truth-Atom, truth-Not, truth-And, has_atoms-Atom, has_atoms-Not, has_atoms-And, nodes-Atom, nodes-Not, nodes-And}
 use Rattle.p3_formula.proofs.NextLaws.{is_set_after-front, is_set_after-back}
 use Rattle.p3_regress.specs.Regressed.{IsTrueBefore, HasAtomsOfBoth, growth}
-use Rattle.p3_monitors.specs.Kept.{forms_of, is_read, IsModalBelow, came_back, is_awaited, came_early, is_own, AreOwn, condition_nodes}
+use Rattle.p3_monitors.specs.Kept.{forms_of, is_read, IsModalBelow, is_own, AreOwn, condition_nodes}
 use Rattle.p3_monitors.specs.Updates.{IsUpdate, change, both, always, sometime, at_most_once, sometime_after, sometime_before}
 use Rattle.p3_monitors.proofs.ReadAtoms.{same_number, reads}
 use Rattle.p3_monitors.proofs.WatchedLaws.{each-next, some-next, came-next, awaited-next, early-next}
@@ -124,7 +125,7 @@ module _ (base : ℕ) (step : List Change) where
         own_after stage base (at_base base) (in_one base)
             ∙ cleared_by stage.state base (Not later)
             ∙ (λ i. stage.kept.carries.stand.0 i && not (truth-Not stage.state later i))
-            ∙ ap (λ b. each_place stage.W (holds_at stage.W f) && b) (not-not (truth stage.state later) ∙ truth_later stage f (reads_it (modal.Always f) refl) later regressed)
+            ∙ ap (λ b. each (length stage.W) (holds_at stage.W f) && b) (not-not (truth stage.state later) ∙ truth_later stage f (reads_it (modal.Always f) refl) later regressed)
             ∙ sym (each-next stage.W stage.next f),
         tt,
       ));
@@ -166,7 +167,7 @@ module _ (base : ℕ) (step : List Change) where
               own_after stage (base + 1) (past_base base) (next_in_two base)
                   ∙ second_set stage.state base later back
                   ∙ (λ i. stage.kept.carries.stand.1.0 i || back_truth stage.state i)
-                  ∙ (λ i. came_back stage.W f || ((stage.kept.carries.stand.0 i && not (was i)) && comes i))
+                  ∙ (λ i. came_back (length stage.W) (holds_at stage.W f) || ((stage.kept.carries.stand.0 i && not (was i)) && comes i))
                   ∙ sym (came-next stage.W stage.next f),
               tt,
             ),
@@ -207,8 +208,8 @@ module _ (base : ℕ) (step : List Change) where
             own_after stage base (at_base base) (in_one base)
                 ∙ switched_by stage.state base answer (both later (Not answer))
                 ∙ (λ i. truth-both stage.state later (Not answer) i || (stage.kept.carries.stand.0 i && not (answers i)))
-                ∙ (λ i. (comes i && (truth-Not stage.state answer ∙ ap not answers) i) || (is_awaited stage.W f g && not (truth stage.next g)))
-                ∙ awaiting (is_awaited stage.W f g) (truth stage.next f) (truth stage.next g)
+                ∙ (λ i. (comes i && (truth-Not stage.state answer ∙ ap not answers) i) || (is_awaited (length stage.W) (holds_at stage.W f) (holds_at stage.W g) && not (truth stage.next g)))
+                ∙ awaiting (is_awaited (length stage.W) (holds_at stage.W f) (holds_at stage.W g)) (truth stage.next f) (truth stage.next g)
                 ∙ sym (awaited-next stage.W stage.next f g),
             tt,
           ));
@@ -239,7 +240,7 @@ module _ (base : ℕ) (step : List Change) where
               own_after stage (base + 1) (past_base base) (next_in_two base)
                   ∙ second_set stage.state base answer soon
                   ∙ (λ i. stage.kept.carries.stand.1.0 i || soon_truth stage.state i)
-                  ∙ (λ i. came_early stage.W f g || (comes i && not (stage.kept.carries.stand.0 i)))
+                  ∙ (λ i. came_early (length stage.W) (holds_at stage.W f) (holds_at stage.W g) || (comes i && not (stage.kept.carries.stand.0 i)))
                   ∙ sym (early-next stage.W stage.next f g),
               tt,
             ),

@@ -3,7 +3,8 @@ use Rattle.std.specs.Prelude.{◌≡◌, ℕ, ◌+◌, ◌≤◌, ◌==◌, nat_
 use Rattle.std.specs.List.{list_all}
 use Rattle.p3_formula.specs.Forms.{State, is_set, truth, has_atoms, nodes}
 use Rattle.p3_formula.specs.Next.{after}
-use Rattle.p3_formula.specs.GroundSat.{◌implies◌, each_place, some_place, holds_at}
+use Rattle.p3_base.specs.Trajectories.{each, some, came_back, is_awaited, came_early}
+use Rattle.p3_formula.specs.GroundSat.{holds_at}
 use Rattle.p3_formula.specs.GroundPlans.{last_of}
 use Rattle.p3_formula.specs.declared.form.Change.{Change}
 use Rattle.p3_formula.specs.declared.form.Form.{Form}
@@ -47,26 +48,14 @@ atom_count (AtMostOnce f) = 2
 atom_count (SometimeAfter f g) = 1
 atom_count (SometimeBefore f g) = 2
 
--- at some place f holds, and before it at some place it does not, and before that at some place it does
-abbrev pub came_back : List State → Form → Bool
-came_back W f = some_place W (λ k. holds_at W f k && some_place W (λ j. nat_lt j k && not (holds_at W f j) && some_place W (λ i. nat_lt i j && holds_at W f i)))
-
--- at some place f holds, and g neither there nor later
-abbrev pub is_awaited : List State → Form → Form → Bool
-is_awaited W f g = some_place W (λ i. holds_at W f i && each_place W (λ j. nat_le i j implies not (holds_at W g j)))
-
--- at some place f holds, and g at none before it
-abbrev pub came_early : List State → Form → Form → Bool
-came_early W f g = some_place W (λ i. holds_at W f i && each_place W (λ j. nat_lt j i implies not (holds_at W g j)))
-
 -- what they say of the states visited so far, in order
 abbrev pub watched : List State → GroundModal → List Bool
 watched W (AtEnd f) = []
-watched W (Always f) = each_place W (holds_at W f) ∷ []
-watched W (Sometime f) = some_place W (holds_at W f) ∷ []
-watched W (AtMostOnce f) = some_place W (holds_at W f) ∷ came_back W f ∷ []
-watched W (SometimeAfter f g) = is_awaited W f g ∷ []
-watched W (SometimeBefore f g) = some_place W (holds_at W g) ∷ came_early W f g ∷ []
+watched W (Always f) = each (length W) (holds_at W f) ∷ []
+watched W (Sometime f) = some (length W) (holds_at W f) ∷ []
+watched W (AtMostOnce f) = some (length W) (holds_at W f) ∷ came_back (length W) (holds_at W f) ∷ []
+watched W (SometimeAfter f g) = is_awaited (length W) (holds_at W f) (holds_at W g) ∷ []
+watched W (SometimeBefore f g) = some (length W) (holds_at W g) ∷ came_early (length W) (holds_at W f) (holds_at W g) ∷ []
 
 -- the monitor accepts in the state
 abbrev pub accepts : ℕ → GroundModal → State → Bool

@@ -6,7 +6,8 @@ use Rattle.std.proofs.lemmas.List.Folds.{list_all-map, flat_map-map}
 use Rattle.p3_tree.specs.Names.{Name, same_name}
 use Rattle.p3_tree.specs.States.{State, Environment, has_fact, fact_of, meaning}
 use Rattle.p3_tree.specs.Bindings.{bind}
-use Rattle.p3_tree.specs.Formulas.{◌implies◌, holds, holds_layer}
+use Rattle.p3_base.specs.Connectives.{◌implies◌}
+use Rattle.p3_tree.specs.Formulas.{holds, holds_layer}
 use Rattle.p3_tree.specs.Effects.{adds, adds_layer, dels, dels_layer}
 use Rattle.p3_tree.specs.Goals.{hard_holds, hard_layer, named, prefs, prefs_layer}
 use Rattle.p3_tree.specs.Costs.{increases, increases_layer, numeral_value}

@@ -1,12 +1,13 @@
 -- Trajectory constraints over the states that a plan visits (the PDDL3 report). The meaning looks at the places of the whole list of visited states.
-use Rattle.std.specs.Prelude.{ℕ, ◌-◌, nat_le, nat_lt, Bool, not, ◌&&◌, List, [], ◌∷◌, ◌++◌, flat_map, map, length, Option}
-use Rattle.std.specs.List.{list_any, list_all, range_with_len}
+use Rattle.std.specs.Prelude.{ℕ, Bool, List, [], ◌∷◌, ◌++◌, flat_map, map, length, Option}
+use Rattle.std.specs.List.{list_all}
 use mathlib.Core.Former.{Count, one_more}
+use Rattle.p3_base.specs.Trajectories as operator
 use Rattle.p3_tree.specs.Folds.{fold_constraint}
 use Rattle.p3_tree.specs.Names.{Name}
 use Rattle.p3_tree.specs.States.{State, Environment}
 use Rattle.p3_tree.specs.Bindings.{bind}
-use Rattle.p3_tree.specs.Formulas.{holds, ◌implies◌}
+use Rattle.p3_tree.specs.Formulas.{holds}
 use Rattle.p3_tree.specs.Goals.{StatePref, named, prefs}
 use Rattle.p3_tree.specs.Plans.{state_at}
 use Rattle.p3_tree.specs.declared.formula.Formula.{Formula}
@@ -18,27 +19,16 @@ use Rattle.p3_tree.specs.declared.task.Task.{Task}
 
 -- ---- the operators
 
--- the test passes at each place of the list, and at some place
-abbrev pub each_place : List State → (ℕ → Bool) → Bool
-each_place W test = list_all test (range_with_len 0 (length W))
-
-abbrev pub some_place : List State → (ℕ → Bool) → Bool
-some_place W test = list_any test (range_with_len 0 (length W))
-
 abbrev pub holds_at : Task → List State → Environment → Formula → ℕ → Bool
 holds_at T W env formula i = holds T (state_at W i) env formula
 
--- from place i on, the test passes up to some place and nowhere after it
-abbrev pub holds_once_from : List State → (ℕ → Bool) → ℕ → Bool
-holds_once_from W test i = some_place W (λ j. nat_le i j && each_place W (λ k. (nat_le i k && nat_le k j) implies test k) && each_place W (λ k. nat_lt j k implies not (test k)))
-
 unfoldable pub satisfies : Task → List State → Environment → Modal → Bool
-satisfies T W env (AtEnd f) = holds_at T W env f (length W - 1)
-satisfies T W env (Always f) = each_place W (λ i. holds_at T W env f i)
-satisfies T W env (Sometime f) = some_place W (λ i. holds_at T W env f i)
-satisfies T W env (AtMostOnce f) = each_place W (λ i. holds_at T W env f i implies holds_once_from W (holds_at T W env f) i)
-satisfies T W env (SometimeAfter f g) = each_place W (λ i. holds_at T W env f i implies some_place W (λ j. nat_le i j && holds_at T W env g j))
-satisfies T W env (SometimeBefore f g) = each_place W (λ i. holds_at T W env f i implies some_place W (λ j. nat_lt j i && holds_at T W env g j))
+satisfies T W env (AtEnd f) = operator.at_end (length W) (holds_at T W env f)
+satisfies T W env (Always f) = operator.always (length W) (holds_at T W env f)
+satisfies T W env (Sometime f) = operator.sometime (length W) (holds_at T W env f)
+satisfies T W env (AtMostOnce f) = operator.at_most_once (length W) (holds_at T W env f)
+satisfies T W env (SometimeAfter f g) = operator.sometime_after (length W) (holds_at T W env f) (holds_at T W env g)
+satisfies T W env (SometimeBefore f g) = operator.sometime_before (length W) (holds_at T W env f) (holds_at T W env g)
 
 -- ---- constraints
 

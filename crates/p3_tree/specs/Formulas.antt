@@ -1,6 +1,7 @@
 -- Truth of formulas: first-order logic over the declared objects (ADL's conditions).
-use Rattle.std.specs.Prelude.{Bool, not, ◌||◌}
+use Rattle.std.specs.Prelude.{Bool, not}
 use Rattle.std.specs.List.{list_any, list_all}
+use Rattle.p3_base.specs.Connectives.{◌implies◌}
 use Rattle.p3_tree.specs.Folds.{fold_formula}
 use Rattle.p3_tree.specs.Names.{same_name}
 use Rattle.p3_tree.specs.States.{State, Environment, has_fact, fact_of, meaning}
@@ -8,10 +9,6 @@ use Rattle.p3_tree.specs.Bindings.{bind}
 use Rattle.p3_tree.specs.declared.formula.Formula.{Formula}
 use Rattle.p3_tree.specs.declared.formula.Formula.TheOpen.{Formula-F, Atom, Equal, And, Or, Not, Imply, Exists, Forall}
 use Rattle.p3_tree.specs.declared.task.Task.{Task}
-
-infix 35 ◌implies◌
-abbrev pub ◌implies◌ : Bool → Bool → Bool
-first implies second = not first || second
 
 -- each part stands as its truth in an environment
 abbrev pub holds_layer : Task → State → Formula-F (Environment → Bool) → Environment → Bool

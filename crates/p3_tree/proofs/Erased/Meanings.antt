@@ -7,12 +7,14 @@ use mathlib.Core.Former.{Count, one_more}
 use Rattle.p3_tree.specs.Names.{Name, same_name, same_names}
 use Rattle.p3_tree.specs.States.{State, Environment, meanings, has_fact}
 use Rattle.p3_tree.specs.Bindings.{bind}
-use Rattle.p3_tree.specs.Formulas.{◌implies◌, holds, holds_layer}
+use Rattle.p3_base.specs.Connectives.{◌implies◌}
+use Rattle.p3_tree.specs.Formulas.{holds, holds_layer}
 use Rattle.p3_tree.specs.Effects.{adds, adds_layer, dels, dels_layer, next}
 use Rattle.p3_tree.specs.Goals.{hard_holds, hard_layer, StatePref, named, prefs, prefs_layer}
 use Rattle.p3_tree.specs.Costs.{entry_value, given_value, amount_value, increases, increases_layer, total, effect_cost}
 use Rattle.p3_tree.specs.Plans.{state_at}
-use Rattle.p3_tree.specs.Constraints.{each_place, some_place, holds_once_from, satisfies, sat, sat_layer, HardModal, hard_modals, hard_modals_layer, hard_list, Instance, instances_of, instances_of_all, instances_of_one, one_constraint, at_end, instances}
+use Rattle.p3_base.specs.Trajectories as operator
+use Rattle.p3_tree.specs.Constraints.{satisfies, sat, sat_layer, HardModal, hard_modals, hard_modals_layer, hard_list, Instance, instances_of, instances_of_all, instances_of_one, one_constraint, at_end, instances}
 use Rattle.p3_tree.specs.Erased.{erased_ref, erased_amount, erased_init, erased_formula, erased_effect, erased_goal, erased_modal, erased_constraint, erased_constraints, erased, erased_state_pref, erased_hard_modal, erased_instance}
 use Rattle.p3_tree.proofs.Erased.Along.{any_along, all_along, map_along, flat_map_along, filter_map_along, flat_map_into, flat_map_images}
 use Rattle.p3_tree.proofs.Erased.Folds.{erased_formula_layer, fold_formula-erased, erased_effect_layer, fold_effect-erased, erased_goal_layer, fold_goal-erased, erased_constraint_layer, fold_constraint-erased}
@@ -149,11 +151,11 @@ module _ (T : Task) where
     pub satisfies-erased : (env : Environment) (m : Modal) → satisfies (erased T) W env (erased_modal m) ≡ satisfies T W env m
     unfolding satisfies
     satisfies-erased env (modal.AtEnd f) = holds-erased T _ env f
-    satisfies-erased env (modal.Always f) = λ i. each_place W (λ k. holds-erased T (state_at W k) env f i)
-    satisfies-erased env (modal.Sometime f) = λ i. some_place W (λ k. holds-erased T (state_at W k) env f i)
-    satisfies-erased env (modal.AtMostOnce f) = λ i. each_place W (λ k. holds-erased T (state_at W k) env f i implies holds_once_from W (λ j. holds-erased T (state_at W j) env f i) k)
-    satisfies-erased env (modal.SometimeAfter f g) = λ i. each_place W (λ k. holds-erased T (state_at W k) env f i implies some_place W (λ j. nat_le k j && holds-erased T (state_at W j) env g i))
-    satisfies-erased env (modal.SometimeBefore f g) = λ i. each_place W (λ k. holds-erased T (state_at W k) env f i implies some_place W (λ j. nat_lt j k && holds-erased T (state_at W j) env g i))
+    satisfies-erased env (modal.Always f) = λ i. operator.always (length W) (λ k. holds-erased T (state_at W k) env f i)
+    satisfies-erased env (modal.Sometime f) = λ i. operator.sometime (length W) (λ k. holds-erased T (state_at W k) env f i)
+    satisfies-erased env (modal.AtMostOnce f) = λ i. operator.at_most_once (length W) (λ k. holds-erased T (state_at W k) env f i)
+    satisfies-erased env (modal.SometimeAfter f g) = λ i. operator.sometime_after (length W) (λ k. holds-erased T (state_at W k) env f i) (λ k. holds-erased T (state_at W k) env g i)
+    satisfies-erased env (modal.SometimeBefore f g) = λ i. operator.sometime_before (length W) (λ k. holds-erased T (state_at W k) env f i) (λ k. holds-erased T (state_at W k) env g i)
 
     sat_layer-erased : (x : Constraint-F (Environment → Bool)) → sat_layer (erased T) W (erased_constraint_layer same x) ≡ sat_layer T W x
     sat_layer-erased (constraint.Both parts) = λ i env. all_along same (λ part. part env) (λ part. part env) (λ part. refl) parts i

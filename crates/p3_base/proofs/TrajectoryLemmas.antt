@@ -1,4 +1,4 @@
--- Tests at all places below a number, or at some, and at one place more.
+-- Tests at all places, or at some, and at one place more; and what violates an operator is that it is not satisfied.
 use Rattle.std.proofs.Common.{◌≡◌, ◌∙◌, ℕ, zero, suc, ◌+◌, ◌-◌, ◌<◌, ◌≤◌, nat_lt, nat_le, Bool, true, false, not, ◌&&◌, ◌||◌, List, [], ◌∷◌, ◌++◌, refl, sym, ap, arith}
 use Rattle.std.specs.Bool.{Decides, one_answer}
 use Rattle.std.specs.List.{list_any, list_all, range_with_len}
@@ -7,13 +7,8 @@ use Rattle.std.proofs.lemmas.Bool.Decides.{Decides-like, Decides-and, Decides-or
 use Rattle.std.proofs.lemmas.List.Folds.{list_any-append, list_all-append}
 use Rattle.std.proofs.Math.Bool.{and-true, or-false, and_comm, or_comm, not-not}
 use mathlib.Core.Logic.{◌⊎◌, inl, inr, ⊎_elim}
-use Rattle.p3_formula.specs.GroundSat.{◌implies◌}
-
-abbrev pub each : ℕ → (ℕ → Bool) → Bool
-each n p = list_all p (range_with_len 0 n)
-
-abbrev pub some : ℕ → (ℕ → Bool) → Bool
-some n p = list_any p (range_with_len 0 n)
+use Rattle.p3_base.specs.Connectives.{◌implies◌}
+use Rattle.p3_base.specs.Trajectories.{each, some, holds_once_from, at_most_once, sometime_after, sometime_before, came_back, is_awaited, came_early}
 
 last_place : (a n j : ℕ) → a + n ≡ j → range_with_len a (suc n) ≡ range_with_len a n ++ j ∷ []
 last_place a zero j e = ap (λ k. k ∷ []) (omega arith)
@@ -62,10 +57,6 @@ module _ {p q : ℕ → Bool} where
 
 -- ---- a gap, as places tell it
 
--- it holds at some place, before that not at some place, and before that at some place
-abbrev pub came : ℕ → (ℕ → Bool) → Bool
-came n h = some n (λ k. h k && some n (λ j. nat_lt j k && not (h j) && some n (λ i. nat_lt i j && h i)))
-
 abbrev pub HasGap : ℕ → (ℕ → Bool) → Type 0
 HasGap n h = (k : ℕ) × (k < n) × ((h k ≡ true) × ((j : ℕ) × (j < n) × (((j < k) × (h j ≡ false)) × ((i : ℕ) × (i < n) × ((i < j) × (h i ≡ true))))))
 
@@ -75,7 +66,7 @@ Holds n h = (i : ℕ) × (i < n) × (h i ≡ true)
 holds_tells : (n : ℕ) (h : ℕ → Bool) → Decides (some n h) (Holds n h)
 holds_tells n h = some_tells h (λ i. h i ≡ true) (λ i. true_tells (h i)) n
 
-pub came_tells : (n : ℕ) (h : ℕ → Bool) → Decides (came n h) (HasGap n h)
+pub came_tells : (n : ℕ) (h : ℕ → Bool) → Decides (came_back n h) (HasGap n h)
 came_tells n h =
     some_tells _ (λ k. (h k ≡ true) × ((j : ℕ) × (j < n) × (((j < k) × (h j ≡ false)) × ((i : ℕ) × (i < n) × ((i < j) × (h i ≡ true))))))
     (λ k. Decides-and (h k) _ (true_tells (h k))
@@ -113,25 +104,19 @@ module _ (n : ℕ) (h : ℕ → Bool) where
       let i_last : i < n - 1 = ⊎_elim (λ e. absurd (apart h i (n - 1) held off e)) (λ ne. omega arith) (cases_eq i (n - 1)) in
       (n, omega arith, (back, (n - 1, omega arith, ((omega arith, off), (i, omega arith, (i_last, held))))))
 
-  pub came-more : came (suc n) h ≡ (came n h || ((some n h && not (h (n - 1))) && h n))
+  pub came-more : came_back (suc n) h ≡ (came_back n h || ((some n h && not (h (n - 1))) && h n))
   came-more = one_answer _ _ (came_tells (suc n) h)
       (Decides-like _ gap_after gap_before
-      (Decides-or (came n h) _ (came_tells n h)
+      (Decides-or (came_back n h) _ (came_tells n h)
       (Decides-and (some n h && not (h (n - 1))) (h n) (Decides-and (some n h) (not (h (n - 1))) (holds_tells n h) (not_tells (h (n - 1)))) (true_tells (h n)))))
 
 -- ---- a place where g is awaited, and one that comes too early
-
-abbrev pub awaited : ℕ → (ℕ → Bool) → (ℕ → Bool) → Bool
-awaited n h g = some n (λ i. h i && each n (λ j. nat_le i j implies not (g j)))
-
-abbrev pub early : ℕ → (ℕ → Bool) → (ℕ → Bool) → Bool
-early n h g = some n (λ i. h i && each n (λ j. nat_lt j i implies not (g j)))
 
 module _ (n : ℕ) (h g : ℕ → Bool) where
   abbrev Awaits : ℕ → Type 0
   Awaits m = (i : ℕ) × (i < m) × ((h i ≡ true) × ((j : ℕ) → j < m → i ≤ j → g j ≡ false))
 
-  awaits_tells : (m : ℕ) → Decides (awaited m h g) (Awaits m)
+  awaits_tells : (m : ℕ) → Decides (is_awaited m h g) (Awaits m)
   awaits_tells m = some_tells _ (λ i. (h i ≡ true) × ((j : ℕ) → j < m → i ≤ j → g j ≡ false))
       (λ i. Decides-and (h i) _ (true_tells (h i)) (each_tells _ (λ j. i ≤ j → g j ≡ false) (λ j. implies_tells (nat_le i j) (not (g j)) (le_tells i j) (not_tells (g j))) m)) m
 
@@ -149,15 +134,15 @@ module _ (n : ℕ) (h g : ℕ → Bool) where
   awaits_after (inl (i, i_in, (held, never)), off) = (i, omega arith, (held, nor_last i off never))
   awaits_after (inr held, off) = (n, omega arith, (held, nor_last n off (λ j j_in n_j. absurd (omega arith))))
 
-  pub awaited-more : awaited (suc n) h g ≡ ((awaited n h g || h n) && not (g n))
+  pub awaited-more : is_awaited (suc n) h g ≡ ((is_awaited n h g || h n) && not (g n))
   awaited-more = one_answer _ _ (awaits_tells (suc n))
       (Decides-like _ awaits_after awaits_before
-      (Decides-and (awaited n h g || h n) (not (g n)) (Decides-or (awaited n h g) (h n) (awaits_tells n) (true_tells (h n))) (not_tells (g n))))
+      (Decides-and (is_awaited n h g || h n) (not (g n)) (Decides-or (is_awaited n h g) (h n) (awaits_tells n) (true_tells (h n))) (not_tells (g n))))
 
   abbrev Early : ℕ → Type 0
   Early m = (i : ℕ) × (i < m) × ((h i ≡ true) × ((j : ℕ) → j < m → j < i → g j ≡ false))
 
-  early_tells : (m : ℕ) → Decides (early m h g) (Early m)
+  early_tells : (m : ℕ) → Decides (came_early m h g) (Early m)
   early_tells m = some_tells _ (λ i. (h i ≡ true) × ((j : ℕ) → j < m → j < i → g j ≡ false))
       (λ i. Decides-and (h i) _ (true_tells (h i)) (each_tells _ (λ j. j < i → g j ≡ false) (λ j. implies_tells (nat_lt j i) (not (g j)) (Decides-ltb j i) (not_tells (g j))) m)) m
 
@@ -182,10 +167,10 @@ module _ (n : ℕ) (h g : ℕ → Bool) where
   early_after (inl (i, i_in, (held, never))) = (i, omega arith, (held, λ j j_in j_i. never j (omega arith) j_i))
   early_after (inr (held, none)) = (n, omega arith, (held, λ j j_in j_n. nowhere none j j_n))
 
-  pub early-more : early (suc n) h g ≡ (early n h g || (h n && not (some n g)))
+  pub early-more : came_early (suc n) h g ≡ (came_early n h g || (h n && not (some n g)))
   early-more = one_answer _ _ (early_tells (suc n))
       (Decides-like _ early_after early_before
-      (Decides-or (early n h g) _ (early_tells n) (Decides-and (h n) (not (some n g)) (true_tells (h n)) (not_tells (some n g)))))
+      (Decides-or (came_early n h g) _ (early_tells n) (Decides-and (h n) (not (some n g)) (true_tells (h n)) (not_tells (some n g)))))
 
 -- ---- satisfaction, as places tell it
 
@@ -205,22 +190,18 @@ either true n p q = sym (not-not (some n (λ j. p j && q j))) ∙ ap not (dual (
   outside false b = refl
 
 module _ (n : ℕ) (h g : ℕ → Bool) where
-  pub not-awaited : each n (λ i. h i implies some n (λ j. nat_le i j && g j)) ≡ not (awaited n h g)
+  pub not-awaited : sometime_after n h g ≡ not (is_awaited n h g)
   not-awaited = (λ e. each n (λ i. either (h i) n (λ j. nat_le i j) g e)) ∙ sym (dual (λ i. h i && each n (λ j. nat_le i j implies not (g j))) (range_with_len 0 n))
 
-  pub not-early : each n (λ i. h i implies some n (λ j. nat_lt j i && g j)) ≡ not (early n h g)
+  pub not-early : sometime_before n h g ≡ not (came_early n h g)
   not-early = (λ e. each n (λ i. either (h i) n (λ j. nat_lt j i) g e)) ∙ sym (dual (λ i. h i && each n (λ j. nat_lt j i implies not (g j))) (range_with_len 0 n))
-
--- it holds from a place up to another, and nowhere after it
-abbrev pub once_from : ℕ → (ℕ → Bool) → ℕ → Bool
-once_from n h i = some n (λ j. nat_le i j && each n (λ k. (nat_le i k && nat_le k j) implies h k) && each n (λ k. nat_lt j k implies not (h k)))
 
 module _ (n : ℕ) (h : ℕ → Bool) where
   abbrev OnceFrom : ℕ → Type 0
   OnceFrom i = (j : ℕ) × (j < n) × (((i ≤ j) × ((k : ℕ) → k < n → (i ≤ k) × (k ≤ j) → h k ≡ true)) × ((k : ℕ) → k < n → j < k → h k ≡ false))
 
-  once_tells : Decides (each n (λ i. h i implies once_from n h i)) ((i : ℕ) → i < n → h i ≡ true → OnceFrom i)
-  once_tells = each_tells _ (λ i. h i ≡ true → OnceFrom i) (λ i. implies_tells (h i) (once_from n h i) (true_tells (h i))
+  once_tells : Decides (each n (λ i. h i implies holds_once_from n h i)) ((i : ℕ) → i < n → h i ≡ true → OnceFrom i)
+  once_tells = each_tells _ (λ i. h i ≡ true → OnceFrom i) (λ i. implies_tells (h i) (holds_once_from n h i) (true_tells (h i))
       (some_tells _ (λ j. ((i ≤ j) × ((k : ℕ) → k < n → (i ≤ k) × (k ≤ j) → h k ≡ true)) × ((k : ℕ) → k < n → j < k → h k ≡ false))
       (λ j. Decides-and (nat_le i j && _) _ (Decides-and (nat_le i j) _ (le_tells i j)
       (each_tells _ (λ k. (i ≤ k) × (k ≤ j) → h k ≡ true) (λ k. implies_tells (nat_le i k && nat_le k j) (h k) (Decides-and (nat_le i k) (nat_le k j) (le_tells i k) (le_tells k j)) (true_tells (h k))) n))
@@ -264,5 +245,5 @@ module _ (n : ℕ) (h : ℕ → Bool) where
         (λ k_l. true≢false (sym (on j j_in (omega arith, omega arith)) ∙ ceased))
         (cases_lt l k)
 
-  pub not-came : each n (λ i. h i implies once_from n h i) ≡ not (came n h)
-  not-came = one_answer _ _ once_tells (Decides-like _ without_gap no_gap (Decides-not (came n h) (came_tells n h)))
+  pub not-came : at_most_once n h ≡ not (came_back n h)
+  not-came = one_answer _ _ once_tells (Decides-like _ without_gap no_gap (Decides-not (came_back n h) (came_tells n h)))
