@@ -7,3 +7,7 @@ pub mod Worked
 pub mod NextLaws
 pub mod NameLaws
 pub mod LossLaws
+pub mod ReadAtoms
+pub mod WatchedLaws
+pub mod KeptLaws
+pub mod WorkedOperators

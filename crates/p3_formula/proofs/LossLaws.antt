@@ -1,5 +1,5 @@
 -- The loss by names and the loss by instances: each instance that is violated adds the weight of its name.
-use Rattle.std.proofs.Common.{◌≡◌, ◌∙◌, ◌≢◌, ℕ, zero, suc, ◌+◌, ◌*◌, ◌<◌, ◌≤◌, Bool, true, false, ◌&&◌, cond, List, [], ◌∷◌, length, sum_by, get_or, Option, Some, None, refl, sym, ap, arith}
+use Rattle.std.proofs.Common.{◌≡◌, ◌∙◌, ◌≢◌, ℕ, zero, suc, ◌+◌, ◌*◌, ◌<◌, ◌≤◌, Bool, true, false, ◌&&◌, cond, List, [], ◌∷◌, length, sum_by, Option, Some, None, refl, sym, ap, arith}
 use Rattle.std.specs.Prelude.{◌==◌, count_by, slice_index_or, nat_lt}
 use Rattle.std.specs.List.{range_with_len}
 use native.Mathlib.Nat.{mul-add, mul-one, mul-zero}
@@ -8,7 +8,7 @@ use Rattle.std.proofs.lemmas.Bool.Decides.{nat_tests}
 use Rattle.std.proofs.lemmas.List.Sums.{sum_by-cons}
 use Rattle.std.proofs.Math.ListN.{get_or-eq_default}
 use Rattle.p3_formula.specs.GroundPlans.{is_numbered}
-use Rattle.p3_formula.specs.Conditions.{named_weight}
+use Rattle.p3_formula.specs.Weighted.{named_weight}
 
 -- one more where the test passes
 one_more_of : (w c : ℕ) (b : Bool) → w * (cond b 1 0 + c) ≡ cond b w 0 + w * c

@@ -1,4 +1,4 @@
--- The smallest useful task: one step that sets an atom, and a preference of weight 5 on it at the end. And the six operators.
+-- The smallest useful task: one step that sets an atom, and a preference of weight 5 on it at the end.
 use Rattle.std.proofs.Common.{◌≡◌, refl, ℕ, true, false, List, [], ◌∷◌, Some, pos}
 use Rattle.std.specs.Prelude.{codes}
 use Rattle.std.specs.Fmt.{digits}
@@ -6,17 +6,16 @@ use Rattle.p3_base.specs.declared.refusal.Direction.TheVariants.{Minimize}
 use denote.Hole.Carrier.{hidden}
 use Rattle.p3_formula.specs.Conditions.{HasAtomsBelow, HasTidyForms}
 use Rattle.p3_formula.specs.Tidy.{look}
-use Rattle.p3_formula.specs.Forms.{State, truth, has_atoms}
+use Rattle.p3_formula.specs.Forms.{truth, has_atoms}
 use Rattle.p3_formula.specs.Next.{after}
 use Rattle.p3_formula.specs.GroundSat.{ground_sat}
 use Rattle.p3_formula.specs.GroundPlans.{visited_from, is_ground_valid, ground_violated, ground_cost, ground_loss}
+use Rattle.p3_formula.specs.Weighted.{extra_of, ground_extra}
 use Rattle.p3_formula.specs.Targets.{IsNamed, IsSized, reaches_goal, target_cost, ground_lift}
 use Rattle.p3_formula.specs.declared.form.Change.{Change}
-use Rattle.p3_formula.specs.declared.form.Form.{Form}
 use Rattle.p3_formula.specs.declared.form.Form.TheBlock.{hidden-the_row-Form-0, hidden-the_row-Form-1, shape-the_row-Form-0, shape-the_row-Form-1}
 use Rattle.p3_formula.specs.declared.form.Form.TheVariants.{True, Atom, Not, And}
-use Rattle.p3_formula.specs.declared.modal.GroundModal.{GroundModal}
-use Rattle.p3_formula.specs.declared.modal.GroundModal.TheVariants.{AtEnd, Always, Sometime, AtMostOnce, SometimeAfter, SometimeBefore}
+use Rattle.p3_formula.specs.declared.modal.GroundModal.TheVariants.{AtEnd}
 use Rattle.p3_formula.specs.declared.target.Target.{Target}
 use Rattle.p3_formula.specs.declared.target.Weights.{Weights}
 use Rattle.p3_formula.specs.declared.task.GroundTask.{GroundTask}
@@ -104,57 +103,6 @@ pub target_sized : IsSized target
 unfolding computes
 target_sized = record { bits = refl; goal = refl; actions = refl }
 
--- ---- the operators, over states where f and g hold or not
-
-abbrev pub f : Form
-f = Atom 0
-
-abbrev pub g : Form
-g = Atom 1
-
-abbrev pub neither : State
-neither = false ∷ false ∷ []
-
-abbrev pub f_alone : State
-f_alone = true ∷ false ∷ []
-
-abbrev pub g_alone : State
-g_alone = false ∷ true ∷ []
-
-abbrev pub both : State
-both = true ∷ true ∷ []
-
--- states that satisfy the operator, and states that do not
-abbrev Tells : GroundModal → List State → List State → Type 0
-Tells modal good bad = (ground_sat good modal ≡ true) × (ground_sat bad modal ≡ false)
-
-pub at_end : Tells (AtEnd f) (neither ∷ f_alone ∷ []) (f_alone ∷ neither ∷ [])
-unfolding computes
-at_end = (refl, refl)
-
-pub always : Tells (Always f) (f_alone ∷ both ∷ []) (f_alone ∷ neither ∷ f_alone ∷ [])
-unfolding computes
-always = (refl, refl)
-
-pub sometime : Tells (Sometime f) (neither ∷ f_alone ∷ neither ∷ []) (neither ∷ g_alone ∷ [])
-unfolding computes
-sometime = (refl, refl)
-
--- a second state without a gap is no second time
-pub at_most_once : Tells (AtMostOnce f) (neither ∷ f_alone ∷ both ∷ neither ∷ []) (f_alone ∷ neither ∷ f_alone ∷ [])
-unfolding computes
-at_most_once = (refl, refl)
-
--- the same state is late enough
-pub sometime_after : Tells (SometimeAfter f g) (f_alone ∷ both ∷ []) (g_alone ∷ f_alone ∷ neither ∷ [])
-unfolding computes
-sometime_after = (refl, refl)
-
--- but it is not early enough
-pub sometime_before : Tells (SometimeBefore f g) (g_alone ∷ f_alone ∷ []) (both ∷ g_alone ∷ [])
-unfolding computes
-sometime_before = (refl, refl)
-
 -- ---- the task may be compiled, and the target's forms are tidy
 
 pub task_atoms : HasAtomsBelow task
@@ -164,3 +112,15 @@ task_atoms = record { steps = refl; goal = refl; hard = refl; soft = refl }
 pub target_tidy : HasTidyForms target
 unfolding computes look
 target_tidy = record { goal = refl; actions = refl }
+
+-- ---- widths
+
+pub nothing_extra : ground_extra task weights (0 ∷ []) ≡ 0
+unfolding ground_extra
+nothing_extra = refl
+
+pub eight_is_narrow : extra_of 8 ≡ 0
+eight_is_narrow = refl
+
+pub nine_is_wide : extra_of 9 ≡ 10
+nine_is_wide = refl

@@ -1,13 +1,12 @@
 -- What is asked of a ground task and its weights before the task is compiled, and that the forms of a target are tidy.
-use Rattle.std.specs.Prelude.{◌≡◌, ℕ, ◌+◌, ◌*◌, ◌^◌, ◌<◌, ◌≤◌, nat_lt, Bool, true, ◌&&◌, List, [], ◌∷◌, length, sum_by, slice_index_or, unwrap_or, Option, Some, None, IsSome, IsTrue}
-use Rattle.std.specs.List.{All, filter, list_all}
-use Rattle.p3_formula.specs.Forms.{has_atoms}
-use Rattle.p3_formula.specs.Tidy.{is_tidy}
+use Rattle.std.specs.Prelude.{◌≡◌, ℕ, ◌+◌, ◌^◌, ◌<◌, ◌≤◌, nat_lt, Bool, true, ◌&&◌, List, [], ◌∷◌, length, sum_by, IsSome, IsTrue}
+use Rattle.std.specs.List.{All, list_all}
+use Rattle.p3_formula.specs.Forms.{is_below, IsBelow}
+use Rattle.p3_formula.specs.Modals.{is_modal_below}
 use Rattle.p3_formula.specs.Targets.{is_sized_change}
+use Rattle.p3_formula.specs.Tidy.{is_tidy}
+use Rattle.p3_formula.specs.Weighted.{HasNameBelow, AreNamedBelow, weight_of, weighted_cost, width_of}
 use Rattle.p3_formula.specs.declared.form.Change.{Change}
-use Rattle.p3_formula.specs.declared.form.Form.{Form}
-use Rattle.p3_formula.specs.declared.modal.GroundModal.{GroundModal}
-use Rattle.p3_formula.specs.declared.modal.GroundModal.TheVariants.{AtEnd, Always, Sometime, AtMostOnce, SometimeAfter, SometimeBefore}
 use Rattle.p3_formula.specs.declared.modal.GroundPref.{GroundPref}
 use Rattle.p3_formula.specs.declared.modal.GroundSoft.{GroundSoft}
 use Rattle.p3_formula.specs.declared.target.Target.{Target}
@@ -16,21 +15,7 @@ use Rattle.p3_formula.specs.declared.target.Weights.{Weights}
 use Rattle.p3_formula.specs.declared.task.GroundStep.{GroundStep}
 use Rattle.p3_formula.specs.declared.task.GroundTask.{GroundTask}
 
--- ---- atoms
-
-abbrev pub is_below : ℕ → Form → Bool
-is_below count form = has_atoms (λ atom. nat_lt atom count) form
-
-abbrev pub forms_of : GroundModal → List Form
-forms_of (AtEnd f) = f ∷ []
-forms_of (Always f) = f ∷ []
-forms_of (Sometime f) = f ∷ []
-forms_of (AtMostOnce f) = f ∷ []
-forms_of (SometimeAfter f g) = f ∷ g ∷ []
-forms_of (SometimeBefore f g) = f ∷ g ∷ []
-
-abbrev pub is_modal_below : ℕ → GroundModal → Bool
-is_modal_below count modal = list_all (is_below count) (forms_of modal)
+-- ---- atoms, numbers and names
 
 abbrev pub is_step_below : ℕ → GroundStep → Bool
 is_step_below count step =
@@ -39,42 +24,33 @@ is_step_below count step =
 -- all atoms of the task are below its count of atoms
 pub record HasAtomsBelow (G : GroundTask) : Type 0 where
   pub steps : IsTrue (list_all (is_step_below G.atoms) G.steps)
-  pub goal : IsTrue (is_below G.atoms G.goal)
+  pub goal : IsBelow G.atoms G.goal
   pub hard : IsTrue (list_all (is_modal_below G.atoms) G.hard)
   pub soft : IsTrue (list_all (λ (soft : GroundSoft). list_all (is_modal_below G.atoms) soft.parts) G.soft)
 
--- ---- numbers and names
-
--- the numbers rise from one on, and are below the count
+-- the steps have rising numbers, from one on and below the count
 abbrev pub rises : ℕ → ℕ → List GroundStep → Bool
 rises from count [] = true
 rises from count (step ∷ steps) = nat_lt step.number count && nat_lt from (step.number + 1) && rises (step.number + 1) count steps
 
-abbrev pub is_name_below : ℕ → Option ℕ → Bool
-is_name_below count None = true
-is_name_below count (Some name) = nat_lt name count
+-- all names of the task are below the count
+pub record HasNamesBelow (count : ℕ) (G : GroundTask) : Type 0 where
+  pub steps : All (λ (step : GroundStep). AreNamedBelow count step.prefs) G.steps
+  pub soft : All (λ (soft : GroundSoft). HasNameBelow count soft.name) G.soft
 
-abbrev pub are_prefs_named : ℕ → GroundStep → Bool
-are_prefs_named count step = list_all (λ (pref : GroundPref). is_name_below count pref.name) step.prefs
+-- ---- limits
 
--- ---- weights
+-- the greatest split width, and a number that no cost of an action reaches
+abbrev pub greatest_width : ℕ
+greatest_width = 200
 
--- a preference without a name has no weight
-abbrev pub named_weight : List ℕ → Option ℕ → ℕ
-named_weight by_name None = 0
-named_weight by_name (Some name) = slice_index_or by_name name 0
+abbrev pub cost_limit : ℕ
+cost_limit = 2 ^ 62
 
-abbrev pub weight_of : List ℕ → GroundPref → ℕ
-weight_of by_name pref = named_weight by_name pref.name
-
--- the preferences with a weight above 0, in order: as many as the step is wide
-abbrev pub weighted : List ℕ → List GroundPref → List GroundPref
-weighted by_name prefs = filter (λ pref. nat_lt 0 (weight_of by_name pref)) prefs
-
--- a step with a cost has few weighted preferences, and its weighted cost with all weights is small
-pub record IsNarrow (weights : Weights) (step : GroundStep) : Type 0 where
-  pub few : IsSome step.cost → length (weighted weights.by_name step.prefs) ≤ 8
-  pub room : IsSome step.cost → weights.total_cost * unwrap_or step.cost 0 + sum_by (weight_of weights.by_name) step.prefs < 2 ^ 62
+-- a step with a cost is not too wide, and its weighted cost with the weights of all its preferences is small
+pub record IsWithinLimits (weights : Weights) (step : GroundStep) : Type 0 where
+  pub width : IsSome step.cost → width_of weights.by_name step ≤ greatest_width
+  pub cost : IsSome step.cost → weighted_cost weights step + sum_by (weight_of weights.by_name) step.prefs < cost_limit
 
 -- ---- the conditions
 
@@ -82,10 +58,9 @@ pub record IsReady (G : GroundTask) (weights : Weights) : Type 0 where
   pub atoms : HasAtomsBelow G
   pub bits : length G.initial ≡ G.atoms
   pub numbers : IsTrue (rises 0 G.step_count G.steps)
-  pub step_names : IsTrue (list_all (are_prefs_named (length weights.by_name)) G.steps)
-  pub soft_names : IsTrue (list_all (λ (soft : GroundSoft). is_name_below (length weights.by_name) soft.name) G.soft)
+  pub names : HasNamesBelow (length weights.by_name) G
   pub few : length G.soft ≤ 100000
-  pub narrow : All (IsNarrow weights) G.steps
+  pub limits : All (IsWithinLimits weights) G.steps
 
 -- ---- tidy targets
 

@@ -46,12 +46,15 @@ unfoldable pub has_atoms : (ℕ → Bool) → Form → Bool
 has_atoms allowed form = fold_form (within_layer allowed) form
 
 -- each atom of the form is below the count
+abbrev pub is_below : ℕ → Form → Bool
+is_below count form = has_atoms (λ atom. nat_lt atom count) form
+
 abbrev pub IsBelow : ℕ → Form → Type 0
-IsBelow count form = IsTrue (has_atoms (λ atom. nat_lt atom count) form)
+IsBelow count form = IsTrue (is_below count form)
 
 -- so is each atom of the forms
 abbrev pub AreBelow : ℕ → List Form → Type 0
-AreBelow count forms = IsTrue (list_all (has_atoms (λ atom. nat_lt atom count)) forms)
+AreBelow count forms = IsTrue (list_all (is_below count) forms)
 
 -- each atom of the first form is one of the second
 abbrev pub HasAtomsOf : Form → Form → Type 0

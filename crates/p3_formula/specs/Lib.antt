@@ -3,6 +3,9 @@ pub mod Forms
 pub mod GroundSat
 pub mod GroundPlans
 pub mod Next
+pub mod Modals
+pub mod Kept
+pub mod Weighted
 pub mod Targets
 pub mod Tidy
 pub mod Simplified

@@ -3,9 +3,10 @@ use Rattle.std.specs.Prelude.{◌≡◌, ℕ, ◌+◌, ◌==◌, nat_lt, Bool, t
 use Rattle.std.specs.List.{list_all, range_with_len, starts_with}
 use Rattle.std.specs.Fmt.{decimal}
 use Rattle.p3_base.specs.Words.{Name, has_name, is_lowered, is_name, is_number, is_predicate_name}
-use Rattle.p3_formula.specs.Forms.{State, truth, has_atoms}
+use Rattle.p3_formula.specs.Forms.{State, truth, is_below, IsBelow}
 use Rattle.p3_formula.specs.Next.{after}
 use Rattle.p3_formula.specs.GroundPlans.{GroundPlan, GroundValid, ground_loss}
+use Rattle.p3_formula.specs.Weighted.{ground_extra}
 use Rattle.p3_formula.specs.declared.form.Change.{Change}
 use Rattle.p3_formula.specs.declared.target.Target.{Target}
 use Rattle.p3_formula.specs.declared.target.TargetAction.{TargetAction}
@@ -60,15 +61,15 @@ ground_lift G plan = filter_map (lifted_number G) plan
 -- ---- what is asked of a target
 
 abbrev pub is_sized_change : ℕ → Change → Bool
-is_sized_change count change = nat_lt change.atom count && has_atoms (λ atom. nat_lt atom count) change.cond
+is_sized_change count change = nat_lt change.atom count && is_below count change.cond
 
 abbrev pub is_sized_action : ℕ → TargetAction → Bool
-is_sized_action count action = has_atoms (λ atom. nat_lt atom count) action.pre && list_all (is_sized_change count) action.effects
+is_sized_action count action = is_below count action.pre && list_all (is_sized_change count) action.effects
 
 -- all atoms are below the number of predicates, and there is one initial bit for each predicate
 pub record IsSized (X : Target) : Type 0 where
   pub bits : length X.initial ≡ length X.predicates
-  pub goal : IsTrue (has_atoms (λ atom. nat_lt atom (length X.predicates)) X.goal)
+  pub goal : IsBelow (length X.predicates) X.goal
   pub actions : IsTrue (list_all (is_sized_action (length X.predicates)) X.actions)
 
 -- no two of the names are the same
@@ -129,7 +130,7 @@ pub record HasOneOrigin (G : GroundTask) (X : Target) (p : GroundPlan) : Type 0 
 pub record Compiled (G : GroundTask) (weights : Weights) (X : Target) : Type 0 where
   pub sound : (q : TargetPlan) → TargetValid X q → IsSoundFor G weights X q
   pub one_to_one : (p : GroundPlan) → GroundValid G p → HasOneOrigin G X p
-  pub length : (q : TargetPlan) → TargetValid X q → length q ≡ length (ground_lift G q) + 1 + length G.soft
+  pub length : (q : TargetPlan) → TargetValid X q → length q ≡ length (ground_lift G q) + 1 + length G.soft + ground_extra G weights (ground_lift G q)
   pub named : IsNamed X
   pub sized : IsSized X
   pub led : IsLed G X

@@ -1,18 +1,16 @@
 -- Where the monitor is kept, its accept form is satisfaction.
-use Rattle.std.proofs.Common.{◌≡◌, ◌∙◌, ℕ, ◌+◌, not, List, refl, sym, ap, arith}
+use Rattle.std.proofs.Common.{◌≡◌, ◌∙◌, ℕ, ◌+◌, not, List, refl, ap, arith}
 use Rattle.std.proofs.lemmas.Bool.{and_parts}
 use Rattle.p3_formula.specs.Forms.{State, is_set, truth}
-use Rattle.p3_formula.specs.GroundPlans.{last_of}
 use Rattle.p3_formula.specs.GroundSat.{ground_sat}
 use Rattle.p3_formula.specs.declared.form.Form.TheVariants.{Atom, Not}
 use Rattle.p3_formula.specs.declared.modal.GroundModal.{GroundModal}
 use Rattle.p3_formula.specs.declared.modal.GroundModal.TheVariants.{AtEnd, Always, Sometime, AtMostOnce, SometimeAfter, SometimeBefore}
 use Rattle.p3_formula.proofs.FormLemmas.{truth-Atom, truth-Not, has_atoms-Atom, has_atoms-Not}
-use Rattle.p3_formula.proofs.NextLaws.{truth-agree}
-use Rattle.p3_monitors.specs.Kept.{is_read, accepts, Kept, Rides, Begins, GoesOn, HasAccept}
+use Rattle.p3_formula.specs.Kept.{accepts, Kept}
+use Rattle.p3_monitors.specs.KeepsOn.{Rides, Begins, GoesOn, HasAccept}
 use Rattle.p3_monitors.specs.Updates.{accept_form}
-use Rattle.p3_monitors.proofs.ReadAtoms.{reads}
-use Rattle.p3_monitors.proofs.WatchedLaws.{sat-AtMostOnce, sat-SometimeAfter, sat-SometimeBefore}
+use Rattle.p3_formula.proofs.KeptLaws.{accepts_sat}
 use Rattle.p3_monitors.proofs.ChangeLaws.{own_from}
 
 module _ (base : ℕ) where
@@ -27,17 +25,8 @@ module _ (base : ℕ) where
   accept_truth (SometimeAfter f g) state = unset state base
   accept_truth (SometimeBefore f g) state = unset state (base + 1)
 
-  pub accepts_sat : (modal : GroundModal) (W : List State) (state : State) → Kept base modal W state → accepts base modal state ≡ ground_sat W modal
-  unfolding ground_sat
-  accepts_sat (AtEnd f) W state kept = truth-agree state (last_of W) (is_read (AtEnd f)) kept.carries.agrees f (and_parts _ _ (reads (AtEnd f))).0
-  accepts_sat (Always f) W state kept = kept.carries.stand.0
-  accepts_sat (Sometime f) W state kept = kept.carries.stand.0
-  accepts_sat (AtMostOnce f) W state kept = ap not kept.carries.stand.1.0 ∙ sym (sat-AtMostOnce W f f)
-  accepts_sat (SometimeAfter f g) W state kept = ap not kept.carries.stand.0 ∙ sym (sat-SometimeAfter W f g)
-  accepts_sat (SometimeBefore f g) W state kept = ap not kept.carries.stand.1.0 ∙ sym (sat-SometimeBefore W f g)
-
   pub accept_sat : (modal : GroundModal) (W : List State) (state : State) → Kept base modal W state → truth state (accept_form base modal) ≡ ground_sat W modal
-  accept_sat modal W state kept = accept_truth modal state ∙ accepts_sat modal W state kept
+  accept_sat modal W state kept = accept_truth modal state ∙ accepts_sat base modal W state kept
 
   pub kept_throughout : (modal : GroundModal) (W : List State) (state : State) → Rides base modal W state → Kept base modal W state
   kept_throughout modal W state (Begins first _ kept) = kept

@@ -14,10 +14,12 @@ use Rattle.p3_formula.specs.declared.form.Form.{Form}
 use Rattle.p3_formula.specs.declared.modal.GroundModal.{GroundModal}
 use Rattle.p3_formula.proofs.NextLaws.{length-after, is_set-after, is_set-beyond, is_set_after-front, is_set_after-back, truth-agree}
 use Rattle.p3_regress.specs.Regressed.{IsTrueBefore}
-use Rattle.p3_monitors.specs.Kept.{is_read, is_own, atom_count, watched, IsModalBelow, Agree, AreAt, Kept, HasNone, AreOwn, AreOthers, KeepsOn}
+use Rattle.p3_formula.specs.Kept.{is_own, atom_count, watched, AreAt, Kept}
+use Rattle.p3_formula.specs.Modals.{is_read, IsModalBelow, Agree}
+use Rattle.p3_monitors.specs.KeepsOn.{HasNone, AreOwn, AreOthers, KeepsOn}
 use Rattle.p3_monitors.specs.Updates.{change}
-use Rattle.p3_monitors.proofs.ReadAtoms.{same_number, has_more, read_below}
-use Rattle.p3_monitors.proofs.WatchedLaws.{length-watched, last-next}
+use Rattle.p3_formula.proofs.ReadAtoms.{same_number, has_more, read_below}
+use Rattle.p3_formula.proofs.WatchedLaws.{length-watched, last-next}
 
 -- ---- atoms that no change names
 

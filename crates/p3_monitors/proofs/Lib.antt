@@ -1,8 +1,5 @@
-pub mod ReadAtoms
-pub mod WatchedLaws
 pub mod ChangeLaws
 pub mod UpdateLaws
 pub mod AcceptLaws
 pub mod RiderLaws
-pub mod Worked
 pub mod UntouchedLaws

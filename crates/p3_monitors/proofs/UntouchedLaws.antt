@@ -1,11 +1,10 @@
 -- A step that changes no atom of a constraint keeps its monitor on without changes of the monitor's atoms.
-use Rattle.std.proofs.Common.{◌≡◌, ◌∙◌, ℕ, suc, ◌+◌, ◌<◌, ◌≤◌, Bool, true, false, not, ◌&&◌, ◌||◌, List, [], ◌∷◌, ◌++◌, length, refl, sym, ap, subst, arith}
+use Rattle.std.proofs.Common.{◌≡◌, ◌∙◌, ℕ, ◌+◌, ◌<◌, ◌≤◌, Bool, true, false, not, ◌&&◌, ◌||◌, List, [], ◌∷◌, ◌++◌, length, refl, sym, ap, subst, arith}
 use Rattle.std.specs.Prelude.{◌==◌}
 use Rattle.std.specs.List.{list_any}
 use Rattle.std.proofs.Math.Bool.{and-true}
 use Rattle.std.proofs.lemmas.Bool.{and_parts}
 use Rattle.p3_formula.specs.Forms.{State, is_set, truth, has_atoms}
-use Rattle.p3_formula.specs.Next.{after}
 use Rattle.p3_base.specs.Trajectories.{each, some, came_back, is_awaited, came_early}
 use Rattle.p3_formula.specs.GroundSat.{holds_at}
 use Rattle.p3_formula.specs.GroundPlans.{last_of}
@@ -15,9 +14,11 @@ use Rattle.p3_formula.specs.declared.modal.GroundModal.{GroundModal}
 use Rattle.p3_formula.specs.declared.modal.GroundModal.TheVariants.{AtEnd, Always, Sometime, AtMostOnce, SometimeAfter, SometimeBefore}
 use Rattle.p3_formula.proofs.NextLaws.{truth-unchanged}
 use Rattle.p3_regress.specs.Regressed.{IsTrueBefore}
-use Rattle.p3_monitors.specs.Kept.{forms_of, is_read, IsModalBelow, atom_count, watched, AreAt, is_own, HasNone, KeepsOn}
-use Rattle.p3_monitors.proofs.ReadAtoms.{reads, has_more}
-use Rattle.p3_monitors.proofs.WatchedLaws.{length-watched, last-next, each-next, some-next, came-next, awaited-next, early-next}
+use Rattle.p3_formula.specs.Kept.{watched, AreAt, is_own}
+use Rattle.p3_formula.specs.Modals.{is_read, IsModalBelow}
+use Rattle.p3_monitors.specs.KeepsOn.{HasNone, KeepsOn}
+use Rattle.p3_formula.proofs.ReadAtoms.{reads, has_more}
+use Rattle.p3_formula.proofs.WatchedLaws.{length-watched, last-next, each-next, some-next, came-next, awaited-next, early-next}
 use Rattle.p3_monitors.proofs.ChangeLaws.{Stage, reached, own_after, truth_now, truth_later, keeps_on, none_named}
 
 -- ---- one state more in which each form is as in the last

@@ -19,10 +19,12 @@ use Rattle.p3_formula.specs.declared.modal.GroundModal.TheVariants as modal
 use Rattle.p3_formula.proofs.FormLemmas.{truth-Atom, truth-Not, truth-And, has_atoms-Atom, has_atoms-Not, has_atoms-And, nodes-Atom, nodes-Not, nodes-And}
 use Rattle.p3_formula.proofs.NextLaws.{is_set_after-front, is_set_after-back}
 use Rattle.p3_regress.specs.Regressed.{IsTrueBefore, HasAtomsOfBoth, growth}
-use Rattle.p3_monitors.specs.Kept.{forms_of, is_read, IsModalBelow, is_own, AreOwn, condition_nodes}
+use Rattle.p3_formula.specs.Kept.{is_own}
+use Rattle.p3_formula.specs.Modals.{forms_of, is_read, IsModalBelow}
+use Rattle.p3_monitors.specs.KeepsOn.{AreOwn, condition_nodes}
 use Rattle.p3_monitors.specs.Updates.{IsUpdate, change, both, always, sometime, at_most_once, sometime_after, sometime_before}
-use Rattle.p3_monitors.proofs.ReadAtoms.{same_number, reads}
-use Rattle.p3_monitors.proofs.WatchedLaws.{each-next, some-next, came-next, awaited-next, early-next}
+use Rattle.p3_formula.proofs.ReadAtoms.{same_number, reads}
+use Rattle.p3_formula.proofs.WatchedLaws.{each-next, some-next, came-next, awaited-next, early-next}
 use Rattle.p3_monitors.proofs.ChangeLaws.{own_from, own_after, truth_now, truth_later, keeps_on, set_by, cleared_by}
 
 truth-both : (state : State) (first second : Form) → truth state (both first second) ≡ (truth state first && truth state second)

@@ -1,3 +1,3 @@
-pub mod Kept
+pub mod KeepsOn
 pub mod Riders
 pub mod Updates

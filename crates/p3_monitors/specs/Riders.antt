@@ -3,7 +3,9 @@ use Rattle.std.specs.Prelude.{◌≡◌, ℕ, ◌+◌, ◌≤◌, ◌<◌, nat_l
 use Rattle.p3_formula.specs.Forms.{State, is_set}
 use Rattle.p3_formula.specs.Next.{after}
 use Rattle.p3_formula.specs.declared.form.Change.{Change}
-use Rattle.p3_monitors.specs.Kept.{IsModalBelow, Kept, KeepsOn, HasNone, AreOwn, is_own, atom_count}
+use Rattle.p3_formula.specs.Kept.{Kept, is_own, atom_count}
+use Rattle.p3_formula.specs.Modals.{IsModalBelow}
+use Rattle.p3_monitors.specs.KeepsOn.{KeepsOn, HasNone, AreOwn}
 use Rattle.p3_monitors.specs.declared.watching.Monitor.{Monitor}
 
 -- the constraint has only source atoms, of which there are so many, the monitor's own atoms stand from a number on, and the changes are of these and keep it on

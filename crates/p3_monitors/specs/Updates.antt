@@ -5,7 +5,9 @@ use Rattle.p3_formula.specs.declared.form.Form.{Form}
 use Rattle.p3_formula.specs.declared.form.Form.TheVariants.{Atom, Not, And}
 use Rattle.p3_formula.specs.declared.modal.GroundModal.{GroundModal}
 use Rattle.p3_formula.specs.declared.modal.GroundModal.TheVariants as modal
-use Rattle.p3_monitors.specs.Kept.{is_own, HasNone, AreOwn, KeepsOn, HasConditions, modal_nodes, modal_growth, condition_nodes}
+use Rattle.p3_formula.specs.Kept.{is_own}
+use Rattle.p3_formula.specs.Modals.{modal_nodes}
+use Rattle.p3_monitors.specs.KeepsOn.{HasNone, AreOwn, KeepsOn, HasConditions, modal_growth, condition_nodes}
 
 -- the atom is set, or else cleared, where the condition holds
 abbrev pub change : Bool → ℕ → Form → Change

@@ -1,7 +1,7 @@
 //! When a monitor accepts.
 
 ghost use Rattle.std.specs.Prelude.{◌≡◌, ◌≤◌, ◌+◌, ◌-◌, ◌^◌, IfOk};
-ghost use Rattle.p3_monitors.specs.Kept.{atom_count};
+ghost use Rattle.p3_formula.specs.Kept.{atom_count};
 ghost use Rattle.p3_monitors.specs.Updates as made;
 
 use p3_base::{Boxed, NoMemory};

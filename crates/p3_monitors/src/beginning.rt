@@ -2,7 +2,8 @@
 
 ghost use Rattle.std.specs.Prelude.{◌≡◌, IfOk, [], ◌∷◌, length};
 ghost use Rattle.p3_formula.specs.Forms.{IsBelow};
-ghost use Rattle.p3_monitors.specs.Kept.{IsModalBelow, watched};
+ghost use Rattle.p3_formula.specs.Kept.{watched};
+ghost use Rattle.p3_formula.specs.Modals.{IsModalBelow};
 
 use p3_base::{List, NoMemory};
 use p3_formula::{Bits, Form, GroundModal, eval};

@@ -1,7 +1,9 @@
 //! Monitors beside the meaning of their operators, over all short patterns.
 
 ghost use Rattle.std.specs.Prelude.{◌≡◌, ◌≤◌, IfOk, length};
-ghost use Rattle.p3_monitors.specs.Kept.{IsModalBelow, atom_count, is_own, HasNone};
+ghost use Rattle.p3_formula.specs.Kept.{atom_count, is_own};
+ghost use Rattle.p3_formula.specs.Modals.{IsModalBelow};
+ghost use Rattle.p3_monitors.specs.KeepsOn.{HasNone};
 
 use crate::monitor;
 use p3_base::{Boxed, List, NoMemory};

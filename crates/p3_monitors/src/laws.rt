@@ -3,7 +3,7 @@
 ghost use Rattle.std.specs.Prelude.{◌≡◌, List};
 ghost use Rattle.p3_formula.specs.Forms.{State, truth};
 ghost use Rattle.p3_formula.specs.GroundSat.{ground_sat};
-ghost use Rattle.p3_monitors.specs.Kept.{Kept};
+ghost use Rattle.p3_formula.specs.Kept.{Kept};
 ghost use Rattle.p3_monitors.specs.Riders.{RideTogether};
 ghost use Rattle.p3_monitors.specs.declared.watching.Monitor.{Monitor};
 

@@ -3,7 +3,9 @@
 ghost use Rattle.std.specs.Prelude.{◌≡◌, ◌≤◌, ◌+◌, ◌-◌, ◌^◌, ℕ, Bool, List, [], ◌∷◌, length, IfOk};
 ghost use Rattle.p3_formula.specs.Forms.{State, truth};
 ghost use Rattle.p3_formula.specs.GroundSat.{ground_sat};
-ghost use Rattle.p3_monitors.specs.Kept.{IsModalBelow, atom_count, Carries, Kept, Rides, HasAccept};
+ghost use Rattle.p3_formula.specs.Kept.{atom_count, Carries, Kept};
+ghost use Rattle.p3_formula.specs.Modals.{IsModalBelow};
+ghost use Rattle.p3_monitors.specs.KeepsOn.{Rides, HasAccept};
 
 use crate::accepting::accept_form;
 use crate::beginning::initial_bits;
@@ -14,7 +16,7 @@ use p3_formula::{Bits, GroundModal};
 use std::alloc::Global;
 
 /// The monitor of a constraint, with its own atoms from the base on.
-#[tactic(auto, using(crate::proofs::AcceptLaws::accept_sat, crate::proofs::AcceptLaws::accept_truth, crate::proofs::AcceptLaws::accept_atoms, crate::proofs::AcceptLaws::kept_throughout, crate::proofs::WatchedLaws::watched_laws))]
+#[tactic(auto, using(crate::proofs::AcceptLaws::accept_sat, crate::proofs::AcceptLaws::accept_truth, crate::proofs::AcceptLaws::accept_atoms, crate::proofs::AcceptLaws::kept_throughout, p3_formula::proofs::WatchedLaws::watched_laws))]
 pub fn monitor(
     alloc: Global,
     modal: &GroundModal,

@@ -4,7 +4,9 @@ ghost use Rattle.std.specs.Prelude.{◌≡◌, ◌≤◌, ◌+◌, ◌*◌, ◌-
 ghost use Rattle.p3_formula.specs.Forms.{State, truth, is_set};
 ghost use Rattle.p3_formula.specs.Next.{after};
 ghost use Rattle.p3_formula.specs.declared.form.Change.{Change};
-ghost use Rattle.p3_monitors.specs.Kept.{IsModalBelow, atom_count, accepts, is_own, HasNone, KeepsOn, AreOwn, HasConditions, HasAccept, modal_nodes, modal_growth, condition_nodes};
+ghost use Rattle.p3_formula.specs.Kept.{atom_count, accepts, is_own};
+ghost use Rattle.p3_formula.specs.Modals.{IsModalBelow, modal_nodes};
+ghost use Rattle.p3_monitors.specs.KeepsOn.{HasNone, KeepsOn, AreOwn, HasConditions, HasAccept, modal_growth, condition_nodes};
 ghost use Rattle.p3_monitors.specs.Updates.{IsUpdate};
 
 use crate::updates::{always, at_most_once, sometime, sometime_after, sometime_before};

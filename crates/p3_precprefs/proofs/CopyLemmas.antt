@@ -14,7 +14,8 @@ use Rattle.p3_formula.specs.declared.target.Weights.{Weights}
 use Rattle.p3_formula.specs.declared.task.GroundStep.{GroundStep}
 use Rattle.p3_formula.proofs.FormLemmas.{truth-And, truth-Not, has_atoms-And, has_atoms-Not}
 use Rattle.p3_precprefs.specs.declared.copies.StepCopy.{StepCopy}
-use Rattle.p3_precprefs.specs.Copies.{weight_of, weighted, fitting, HasAtomsIn, HasPartsIn, is_violated, violation, HasOneCopy, satisfied, violating, doubled, split_by, split_all, first_copy, IsWithin}
+use Rattle.p3_formula.specs.Weighted.{weight_of, weighted}
+use Rattle.p3_precprefs.specs.Copies.{fitting, HasAtomsIn, HasPartsIn, is_violated, violation, HasOneCopy, satisfied, violating, doubled, split_by, split_all, first_copy, IsWithin}
 
 -- ---- one preference more
 

@@ -10,7 +10,8 @@ use Rattle.p3_formula.specs.declared.modal.GroundPref.{GroundPref}
 use Rattle.p3_formula.specs.declared.target.Weights.{Weights}
 use Rattle.p3_formula.specs.declared.task.GroundStep.{GroundStep}
 use Rattle.p3_precprefs.specs.declared.copies.StepCopy.{StepCopy}
-use Rattle.p3_precprefs.specs.Copies.{weight_of, weighted, both_ways, patterns, AreApart, violated_lists, doubled, split_by, split_all, first_copy}
+use Rattle.p3_formula.specs.Weighted.{weight_of, weighted}
+use Rattle.p3_precprefs.specs.Copies.{both_ways, patterns, AreApart, violated_lists, doubled, split_by, split_all, first_copy}
 
 -- ---- the lists of the copies
 

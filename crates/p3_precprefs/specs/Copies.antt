@@ -1,38 +1,14 @@
 -- The copies of a step, one for each choice of its weighted preferences that are violated.
-use Rattle.std.specs.Prelude.{◌≡◌, ◌≢◌, ℕ, zero, suc, ◌+◌, ◌*◌, ◌<◌, nat_lt, Bool, true, false, not, List, [], ◌∷◌, ◌++◌, map, sum_by, slice_index_or, unwrap_or, if◌then◌else◌, Option, Some, None, IsTrue}
+use Rattle.std.specs.Prelude.{◌≡◌, ◌≢◌, ℕ, zero, suc, ◌+◌, ◌<◌, nat_lt, Bool, true, false, not, List, [], ◌∷◌, ◌++◌, map, sum_by, if◌then◌else◌, IsTrue}
 use Rattle.std.specs.List.{All, filter, flat_map}
 use Rattle.p3_formula.specs.Forms.{State, truth, has_atoms}
 use Rattle.p3_formula.specs.declared.form.Form.{Form}
 use Rattle.p3_formula.specs.declared.form.Form.TheVariants as form
 use Rattle.p3_formula.specs.declared.modal.GroundPref.{GroundPref}
+use Rattle.p3_formula.specs.Weighted.{weight_of, weighted, weighted_cost}
 use Rattle.p3_formula.specs.declared.target.Weights.{Weights}
 use Rattle.p3_formula.specs.declared.task.GroundStep.{GroundStep}
 use Rattle.p3_precprefs.specs.declared.copies.StepCopy.{StepCopy}
-
--- ---- weights
-
--- a preference without a name has no weight
-abbrev pub named_weight : List ℕ → Option ℕ → ℕ
-named_weight by_name None = 0
-named_weight by_name (Some name) = slice_index_or by_name name 0
-
-abbrev pub weight_of : List ℕ → GroundPref → ℕ
-weight_of by_name pref = named_weight by_name pref.name
-
-abbrev pub HasNameBelow : ℕ → Option ℕ → Type 0
-HasNameBelow count None = Unit {0}
-HasNameBelow count (Some name) = name < count
-
-abbrev pub AreNamedBelow : ℕ → List GroundPref → Type 0
-AreNamedBelow count prefs = All (λ (pref : GroundPref). HasNameBelow count pref.name) prefs
-
--- the preferences with a weight above 0, in order
-abbrev pub weighted : List ℕ → List GroundPref → List GroundPref
-weighted by_name prefs = filter (λ pref. nat_lt 0 (weight_of by_name pref)) prefs
-
--- what the step alone adds to the loss
-abbrev pub weighted_cost : Weights → GroundStep → ℕ
-weighted_cost weights step = weights.total_cost * unwrap_or step.cost 0
 
 -- ---- what the copies are to be
 

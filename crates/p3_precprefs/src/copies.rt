@@ -3,6 +3,7 @@
 ghost use Rattle.std.specs.Prelude.{◌≡◌, ◌≤◌, ◌<◌, ◌+◌, ◌*◌, ◌^◌, ℕ, Bool, true, false, [], ◌∷◌, ◌++◌, length, sum_by, unwrap_or, IfOk, IsSome};
 ghost use Rattle.std.specs.List.{All};
 ghost use Rattle.p3_formula.specs.Forms.{State, truth};
+ghost use Rattle.p3_formula.specs.Weighted.{AreNamedBelow, HasNameBelow, weight_of, weighted, weighted_cost};
 ghost use Rattle.p3_precprefs.specs.Copies as made;
 
 use p3_base::{Boxed, List, NoMemory};
@@ -27,18 +28,18 @@ pub fn split(
     weights: &Weights,
 ) -> Result<List<StepCopy>, NoMemory>
     requires cost { IsSome step.now.cost }
-    requires names { made.AreNamedBelow (length weights.now.by_name) step.now.prefs }
-    requires few { length (made.weighted weights.now.by_name step.now.prefs) ≤ 8 }
-    requires room { made.weighted_cost weights.now step.now + sum_by (made.weight_of weights.now.by_name) step.now.prefs < 2 ^ 62 }
+    requires names { AreNamedBelow (length weights.now.by_name) step.now.prefs }
+    requires few { length (weighted weights.now.by_name step.now.prefs) ≤ 8 }
+    requires room { weighted_cost weights.now step.now + sum_by (weight_of weights.now.by_name) step.now.prefs < 2 ^ 62 }
     // Where the step fits, so does one copy, which shows what is violated and costs its weights.
     ensures one_copy { IfOk result (λ copies. (state : State) → truth state step.now.pre ≡ true → made.HasOneCopy weights.now step.now copies state) }
     // Elsewhere no copy fits.
     ensures no_copy { IfOk result (λ copies. (state : State) → truth state step.now.pre ≡ false → made.fitting state copies ≡ []) }
     // Each choice has a copy.
-    ensures patterns { IfOk result (λ copies. made.violated_lists copies ≡ made.patterns (length (made.weighted weights.now.by_name step.now.prefs))) }
+    ensures patterns { IfOk result (λ copies. made.violated_lists copies ≡ made.patterns (length (weighted weights.now.by_name step.now.prefs))) }
     // No two copies show the same, and each has an entry for each weighted preference.
     ensures apart { IfOk result (λ copies. made.AreApart (made.violated_lists copies)) }
-    ensures entries { IfOk result (λ copies. All (λ (copy : StepCopy). length copy.violated ≡ length (made.weighted weights.now.by_name step.now.prefs)) copies) }
+    ensures entries { IfOk result (λ copies. All (λ (copy : StepCopy). length copy.violated ≡ length (weighted weights.now.by_name step.now.prefs)) copies) }
     // They read no atoms but those of the step.
     ensures atoms { IfOk result (λ copies. (allowed : ℕ → Bool) → made.HasPartsIn allowed step.now → All (λ (copy : StepCopy). made.HasAtomsIn allowed copy.pre) copies) }
 {
@@ -51,8 +52,8 @@ fn split_all(
     step: &GroundStep,
     weights: &Weights,
 ) -> Result<List<StepCopy>, NoMemory>
-    requires names { made.AreNamedBelow (length weights.now.by_name) step.now.prefs }
-    requires room { made.weighted_cost weights.now step.now + sum_by (made.weight_of weights.now.by_name) step.now.prefs < 2 ^ 62 }
+    requires names { AreNamedBelow (length weights.now.by_name) step.now.prefs }
+    requires room { weighted_cost weights.now step.now + sum_by (weight_of weights.now.by_name) step.now.prefs < 2 ^ 62 }
     ensures { IfOk result (λ copies. copies ≡ made.split_all weights.now.by_name step.now.prefs (made.first_copy weights.now step.now ∷ [])) }
 {
     let mut copies = first_copies(alloc, step, weights)?;
@@ -68,7 +69,7 @@ fn first_copies(
     step: &GroundStep,
     weights: &Weights,
 ) -> Result<List<StepCopy>, NoMemory>
-    requires room { made.weighted_cost weights.now step.now < 2 ^ 62 }
+    requires room { weighted_cost weights.now step.now < 2 ^ 62 }
     ensures { IfOk result (λ copies. copies ≡ made.first_copy weights.now step.now ∷ []) }
 {
     let mut copies = List::new(alloc);
@@ -90,8 +91,8 @@ fn weighted_cost(weight: u64, cost: Option<u128>) -> u64
 
 /// The weight of a preference: without a name it has none.
 fn weight_of(by_name: &List<u64>, pref: &GroundPref) -> u64
-    requires { made.HasNameBelow (length by_name.now) pref.now.name }
-    ensures { result ≡ made.weight_of by_name.now pref.now }
+    requires { HasNameBelow (length by_name.now) pref.now.name }
+    ensures { result ≡ weight_of by_name.now pref.now }
 {
     match pref.name {
         Some(name) => by_name.items()[name as usize],
@@ -106,8 +107,8 @@ fn split_by(
     copies: List<StepCopy>,
     pref: &GroundPref,
 ) -> Result<List<StepCopy>, NoMemory>
-    requires named { made.HasNameBelow (length by_name.now) pref.now.name }
-    requires weight { made.weight_of by_name.now pref.now < 2 ^ 62 }
+    requires named { HasNameBelow (length by_name.now) pref.now.name }
+    requires weight { weight_of by_name.now pref.now < 2 ^ 62 }
     requires costs { made.IsWithin (2 ^ 62) copies }
     ensures { IfOk result (λ new. new ≡ made.split_by by_name.now copies pref.now) }
 {

@@ -1,7 +1,7 @@
 use Rattle.std.proofs.Common.{◌∙◌}
 use Rattle.std.proofs.Math.Bool.{Bool-set}
 use Rattle.std.proofs.Math.Logic.{∥∥₁_elim}
-use Rattle.p3_monitors.proofs.AcceptLaws.{accepts_sat}
+use Rattle.p3_formula.proofs.KeptLaws.{accepts_sat}
 use Rattle.p3_monitors.proofs.laws.accepting_is_satisfaction.Goals as goal
 
 pub returns : goal.returns

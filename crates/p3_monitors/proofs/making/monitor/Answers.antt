@@ -2,7 +2,8 @@ use Rattle.std.proofs.Common.{◌∙◌, sym, ap, subst}
 use Prim.{∣◌∣₁}
 use Rattle.std.specs.Prelude.{IsTrue}
 use Rattle.p3_formula.specs.Forms.{truth, has_atoms}
-use Rattle.p3_monitors.specs.Kept.{accepts, modal_has, is_own}
+use Rattle.p3_formula.specs.Kept.{accepts, is_own}
+use Rattle.p3_formula.specs.Modals.{modal_has}
 use Rattle.p3_monitors.proofs.AcceptLaws.{accept_truth, accept_atoms}
 use Rattle.p3_monitors.proofs.making.monitor.Goals as goal
 

@@ -3,7 +3,8 @@ use Rattle.std.specs.List.{All}
 use Rattle.std.proofs.lemmas.Result.{IfOk-weaker}
 use Rattle.p3_formula.specs.Forms.{State, truth}
 use Rattle.p3_precprefs.specs.declared.copies.StepCopy.{StepCopy}
-use Rattle.p3_precprefs.specs.Copies.{weighted, HasOneCopy, fitting, AreApart, HasAtomsIn}
+use Rattle.p3_formula.specs.Weighted.{weighted}
+use Rattle.p3_precprefs.specs.Copies.{HasOneCopy, fitting, AreApart, HasAtomsIn}
 use Rattle.p3_precprefs.proofs.CopyLemmas.{one_copy, no_copy, in_atoms}
 use Rattle.p3_precprefs.proofs.PatternLemmas.{all_patterns, apart_patterns, long_patterns, of_lists}
 use Rattle.p3_precprefs.proofs.copies.split.Goals as goal

@@ -1,5 +1,6 @@
 use Rattle.std.proofs.Common.{◌<◌, ◌∙◌, [], ◌∷◌, length, get_or, sym, ap, subst}
-use Rattle.p3_precprefs.specs.Copies.{IsWithin, weighted_cost, first_copy, split_by}
+use Rattle.p3_formula.specs.Weighted.{weighted_cost}
+use Rattle.p3_precprefs.specs.Copies.{IsWithin, first_copy, split_by}
 use Rattle.p3_precprefs.proofs.CopyLemmas.{next_split, next_weight, within_so_far}
 use Rattle.p3_precprefs.proofs.copies.split_all.Goals as goal
 

@@ -12,7 +12,7 @@ use Rattle.p3_formula.specs.GroundSat.{holds_at, ground_sat}
 use Rattle.p3_formula.specs.declared.form.Form.{Form}
 use Rattle.p3_formula.specs.declared.modal.GroundModal.{GroundModal}
 use Rattle.p3_formula.specs.declared.modal.GroundModal.TheVariants.{AtEnd, Always, Sometime, AtMostOnce, SometimeAfter, SometimeBefore}
-use Rattle.p3_monitors.specs.Kept.{watched, atom_count}
+use Rattle.p3_formula.specs.Kept.{watched, atom_count}
 
 pub length-watched : (W : List State) (modal : GroundModal) → length (watched W modal) ≡ atom_count modal
 length-watched W (AtEnd f) = refl

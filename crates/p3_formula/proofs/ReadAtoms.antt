@@ -9,7 +9,7 @@ use Rattle.p3_formula.specs.Forms.{has_atoms, within_layer}
 use Rattle.p3_formula.specs.declared.form.Form.{Form, Row_of-Form, end_of-Form, more_of-Form}
 use Rattle.p3_formula.specs.declared.form.Form.TheVariants.{True, False, Atom, Not', And', Or'}
 use Rattle.p3_formula.specs.declared.modal.GroundModal.{GroundModal}
-use Rattle.p3_monitors.specs.Kept.{forms_of, is_read, IsModalBelow}
+use Rattle.p3_formula.specs.Modals.{forms_of, is_read, IsModalBelow}
 
 pub same_number : (a : ℕ) → (a == a) ≡ true
 same_number a = grind (arith, nat_tests)
