@@ -1,4 +1,5 @@
-pub mod KnownLemmas
+pub mod CopyLemmas
 pub mod NameLemmas
 pub mod ShelfLemmas
+pub mod TakenLemmas
 pub mod TrajectoryLemmas

@@ -1,4 +1,5 @@
 pub mod Connectives
+pub mod Copies
 pub mod Memory
 pub mod Outside
 pub mod Place

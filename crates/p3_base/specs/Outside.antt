@@ -3,6 +3,7 @@ use Rattle.std.specs.Prelude.{ℕ, ◌≡◌, ◌+◌, ◌-◌, ◌^◌, ◌<◌
 use Rattle.std.specs.Option.{option_map}
 use Rattle.std.specs.Ordering.{nat_cmp}
 use Rattle.std.specs.Cmp.Lexicographic.{slice_cmp}
+use Rattle.std.specs.Io.KnownBytes.{Consumes}
 use Rattle.std.specs.FinMap.{FinMap, get, insert}
 use Rattle.std.specs.declared.vec.Vec.{Vec}
 use Rattle.std.specs.declared.alloc.Global.{Global}
@@ -43,6 +44,10 @@ IsTooLong told name limit bytes =
 -- the name holds some of the bytes, the first ones, or all is as before
 abbrev pub IsPartlyWritten : List ℕ → List ℕ → Option Store → Option Store → Type 0
 IsPartlyWritten name bytes old new = (new ≡ old) ⊎ ((n : ℕ) × (new ≡ holding name (take n bytes) old))
+
+-- where a source tells what it has left, it gave the bytes by which what was taken in has grown
+abbrev pub IsTaken : Option (List ℕ) → Option (List ℕ) → List ℕ → List ℕ → Type 0
+IsTaken before after old new = (bytes : List ℕ) × (new ≡ old ++ bytes) × Consumes before after bytes
 
 -- a count is greater than before, or stands at the greatest that it can reach
 abbrev pub Rose : ℕ → ℕ → Type 0

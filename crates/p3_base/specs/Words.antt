@@ -1,5 +1,5 @@
 -- Names and the other words of the grammar. The bytes of a name are lowered, so that names are compared without letter case.
-use Rattle.std.specs.Prelude.{ℕ, ◌==◌, nat_le, Bool, false, not, ◌&&◌, ◌||◌, List, [], ◌∷◌, map, codes, bytes_eq}
+use Rattle.std.specs.Prelude.{ℕ, ◌==◌, nat_le, Bool, true, false, not, ◌&&◌, ◌||◌, List, [], ◌∷◌, map, codes, bytes_eq}
 use Rattle.std.specs.List.{list_any, list_all}
 
 abbrev pub Name : Type 0
@@ -10,6 +10,11 @@ same_name = bytes_eq
 
 abbrev pub has_name : List Name → Name → Bool
 has_name names name = list_any (λ other. same_name other name) names
+
+-- no two of the names are the same
+abbrev pub are_different : List Name → Bool
+are_different [] = true
+are_different (name ∷ names) = not (has_name names name) && are_different names
 
 -- the function that counts the cost of a plan
 abbrev pub total_cost : Name

@@ -1,7 +1,8 @@
 //! The files of the machine.
 
-ghost use Rattle.std.specs.Prelude.{◌≡◌, ◌+◌, ◌≤◌, ◌<◌, [], None, false, length, OnOk, IsErrOf, ◌≢◌, Err};
-ghost use Rattle.std.specs.Io.KnownBytes.{Appends};
+ghost use Rattle.std.specs.Prelude.{◌≡◌, ◌+◌, ◌≤◌, ◌<◌, [], None, false, length, IfOk, OnOk, IsErrOf, ◌≢◌, Err};
+ghost use Rattle.std.specs.Io.KnownBytes.{Appends, Consumes, IsAtEnd};
+ghost use Rattle.p3_base.specs.Outside.{IsTaken};
 
 use crate::{Files, ReadFault, Word, WriteFault};
 use std::alloc::Global;
@@ -111,23 +112,44 @@ fn read_all<T: Read>(
     requires limited { limit < 4294967296 }
     ensures within_limit { OnOk result (length into.new.items ≤ limit) }
     ensures too_long { IsErrOf result ReadFault.TooLong → length into.new.items ≡ limit + 1 }
+    // Where the source tells its bytes, these are the first of them, and all where they are enough.
+    ensures first { IsErrOf result ReadFault.TooLong → Consumes (T.remaining source.old) (T.remaining source.new) into.new.items }
+    ensures all { OnOk result (Consumes (T.remaining source.old) (T.remaining source.new) into.new.items) }
+    ensures at_end { OnOk result (IsAtEnd (T.remaining source.new)) }
 {
     let Ok(mut piece) = Vec::from_elem(alloc, 0u8, PIECE) else {
         return Err(ReadFault::NoMemory);
     };
     while into.len() <= limit {
         let room = (limit + 1 - into.len()).min(PIECE);
-        let Ok(count) = source.read(&mut piece[..room]) else {
-            return Err(ReadFault::Failed);
-        };
-        if count == 0 {
+        if read_piece(source, &mut piece[..room], into)? == 0 {
             return Ok(());
         }
-        let Ok(()) = into.extend_from_slice(&piece[..count]) else {
-            return Err(ReadFault::NoMemory);
-        };
     }
     Err(ReadFault::TooLong)
+}
+
+/// Reads once, at most as much as the piece has room for, and puts at the end what was read. Answers
+/// how many bytes these are: none at the source's end alone.
+fn read_piece<T: Read>(
+    source: &mut T,
+    piece: &mut [u8],
+    into: &mut Vec<u8>,
+) -> Result<usize, ReadFault>
+    requires room { 0 < length piece.old }
+    ensures not_long { result ≢ Err ReadFault.TooLong }
+    ensures count { IfOk result (λ n. length into.new.items ≡ length into.old.items + n) }
+    ensures within { IfOk result (λ n. n ≤ length piece.old) }
+    ensures taken { OnOk result (IsTaken (T.remaining source.old) (T.remaining source.new) into.old.items into.new.items) }
+    ensures at_end { IfOk result (λ n. n ≡ 0 → IsAtEnd (T.remaining source.new)) }
+{
+    let Ok(count) = source.read(piece) else {
+        return Err(ReadFault::Failed);
+    };
+    let Ok(()) = into.extend_from_slice(&piece[..count]) else {
+        return Err(ReadFault::NoMemory);
+    };
+    Ok(count)
 }
 
 /// Writes all bytes. A write that takes nothing is a fault.

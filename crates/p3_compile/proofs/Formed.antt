@@ -4,7 +4,7 @@ use Rattle.std.specs.Prelude.{if◌then◌else◌}
 use Rattle.std.specs.List.{list_any, list_all, range_with_len}
 use Rattle.std.proofs.lemmas.List.Folds.{list_all-append}
 use Rattle.p3_tree.specs.Names.{Name, is_empty}
-use Rattle.p3_tree.specs.Lifting.{prefers, is_goal_free, is_effect_free, is_action_free, Plain, IsVariableFree}
+use Rattle.p3_tree.specs.Lifting.{prefers, is_goal_variable_free, is_effect_variable_free, is_action_variable_free, Plain, IsVariableFree}
 use Rattle.p3_tree.proofs.Computes.{meaning_computes}
 use Rattle.p3_tree.specs.declared.effect.Effect.TheVariants as effect
 use Rattle.p3_tree.specs.declared.task.Action.{Action}
@@ -20,17 +20,17 @@ unfolding meaning_computes
 no_wish true name = refl
 no_wish false name = refl
 
-free_goal : (negated : Bool) (name : Name) → is_goal_free (settling (accepting negated name)) ≡ true
+free_goal : (negated : Bool) (name : Name) → is_goal_variable_free (settling (accepting negated name)) ≡ true
 unfolding meaning_computes
 free_goal true name = refl
 free_goal false name = refl
 
-free_change : (negated : Bool) (name : Name) → is_effect_free (effect.All (changing negated name ∷ [])) ≡ true
+free_change : (negated : Bool) (name : Name) → is_effect_variable_free (effect.All (changing negated name ∷ [])) ≡ true
 unfolding meaning_computes
 free_change true name = refl
 free_change false name = refl
 
-free_forgo : (is_free : Bool) (weight : ℕ) → is_effect_free (effect.All (settled ++ (if is_free then [] else w.increase weight ∷ []))) ≡ true
+free_forgo : (is_free : Bool) (weight : ℕ) → is_effect_variable_free (effect.All (settled ++ (if is_free then [] else w.increase weight ∷ []))) ≡ true
 unfolding meaning_computes
 free_forgo true weight = refl
 free_forgo false weight = refl
@@ -66,11 +66,11 @@ module _ (has_step : Bool) (changed preferred : Name) (change_negated preference
   unfolding meaning_computes
   plain = λ i. not (all_prefer has_step i) && true && true && true
 
-  ends_free : list_all is_action_free ends ≡ true
+  ends_free : list_all is_action_variable_free ends ≡ true
   unfolding meaning_computes
   ends_free = λ i. (free_goal preference_negated preferred i && true) && ((free_goal (not preference_negated) preferred i && free_forgo (eqb weight 0) weight i) && true)
 
-  all_free : (has : Bool) → list_all is_action_free (steps has ++ ends) ≡ true
+  all_free : (has : Bool) → list_all is_action_variable_free (steps has ++ ends) ≡ true
   unfolding meaning_computes
   all_free true = λ i. free_change change_negated changed i && ends_free i
   all_free false = ends_free

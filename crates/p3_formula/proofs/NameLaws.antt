@@ -1,84 +1,12 @@
 -- The steps as which actions count, by their names.
-use Rattle.std.proofs.Common.{◌≡◌, ◌∙◌, ◌≢◌, ℕ, zero, suc, ◌+◌, ◌<◌, ◌≤◌, ◌^◌, ◌%◌, ◌/◌, Bool, true, false, ◌&&◌, List, [], ◌∷◌, ◌++◌, Some, None, refl, sym, ap, arith}
-use Rattle.std.specs.Prelude.{◌==◌, if◌then◌else◌, cond, find, codes}
-use Rattle.std.specs.List.{list_all, range_with_len, starts_with}
-use Rattle.std.specs.Fmt.{decimal, digits, digits_onto, digit_glyph}
-use Rattle.std.proofs.lemmas.Bool.{and_parts}
-use Rattle.std.proofs.lemmas.Bool.Decides.{nat_tests}
-use Rattle.std.proofs.lemmas.Fmt.{decimal_injective}
-use Rattle.p3_base.specs.Words.{Name, is_digit}
-use Rattle.p3_formula.specs.Targets.{counts_as, lifted_number}
+use Rattle.std.proofs.Common.{◌≡◌, ◌∙◌, ◌≢◌, ℕ, zero, suc, ◌+◌, ◌<◌, ◌≤◌, ◌^◌, Bool, true, false, ◌∷◌, Some, None, refl, sym, ap, arith}
+use Rattle.std.specs.Prelude.{◌==◌, cond, find}
+use Rattle.std.specs.List.{range_with_len}
+use Rattle.p3_base.specs.Copies.{is_copy_of}
+use Rattle.p3_base.specs.Words.{Name}
+use Rattle.p3_base.proofs.CopyLemmas.{copy_name, copy_of_own, copy_of_only, copy_of_none}
+use Rattle.p3_formula.specs.Targets.{lifted_number}
 use Rattle.p3_formula.specs.declared.task.GroundTask.{GroundTask}
-
--- ---- decimal numbers are made of digits
-
-glyph_is_digit : (n : ℕ) → is_digit (digit_glyph false (n % 10)) ≡ true
-glyph_is_digit n = grind (arith, nat_tests)
-
-digits_onto_all : (count n : ℕ) (behind : List ℕ) → list_all is_digit behind ≡ true → list_all is_digit (digits_onto count 10 false n behind) ≡ true
-digits_onto_all zero n behind e = e
-digits_onto_all (suc count) n behind e =
-    let more : list_all is_digit (digit_glyph false (n % 10) ∷ behind) ≡ true = λ i. glyph_is_digit n i && e i in
-    by (n / 10 == 0) _ _ more (digits_onto_all count (n / 10) (digit_glyph false (n % 10) ∷ behind) more)
-  where
-    by : (last : Bool) (text others : List ℕ) → list_all is_digit text ≡ true → list_all is_digit others ≡ true
-        → list_all is_digit (if last then text else others) ≡ true
-    by true text others first second = first
-    by false text others first second = second
-
-pub decimal_digits : (n : ℕ) → list_all is_digit (decimal n) ≡ true
-unfolding digits
-decimal_digits n = digits_onto_all 64 n [] refl
-
--- ---- the number in a name
-
--- the needle stands in front
-abbrev begins : List ℕ → List ℕ → Bool
-begins xs [] = true
-begins [] (n ∷ needle) = false
-begins (x ∷ xs) (n ∷ needle) = (n == x) && begins xs needle
-
-begins_with : (xs needle : List ℕ) → starts_with ◌==◌ xs needle ≡ begins xs needle
-begins_with xs [] = refl
-begins_with [] (n ∷ needle) = refl
-begins_with (x ∷ xs) (n ∷ needle) = ap (λ b. (n == x) && b) (begins_with xs needle)
-
-same_here : (n : ℕ) → (n == n) ≡ true
-same_here n = grind (arith, nat_tests)
-
--- its own digits, and a `v` behind them
-own_digits : (ds rest : List ℕ) → begins (ds ++ 118 ∷ rest) (ds ++ 118 ∷ []) ≡ true
-own_digits [] rest = refl
-own_digits (d ∷ ds) rest = λ i. same_here d i && own_digits ds rest i
-
--- no others
-only_digits : (ds es rest : List ℕ) → list_all is_digit ds ≡ true → list_all is_digit es ≡ true → begins (ds ++ 118 ∷ rest) (es ++ 118 ∷ []) ≡ true → ds ≡ es
-only_digits [] [] rest d e is = refl
-only_digits [] (e ∷ es) rest d is_es is =
-    let digit = (and_parts (is_digit e) (list_all is_digit es) is_es).0 in
-    let same = (and_parts (e == 118) _ is).0 in
-    absurd (let no : (e == 118) ≡ false = grind (arith, nat_tests, digit) in let bad : true ≡ false = sym same ∙ no in cc)
-only_digits (d ∷ ds) [] rest is_ds e is =
-    let digit = (and_parts (is_digit d) (list_all is_digit ds) is_ds).0 in
-    let same = (and_parts (118 == d) _ is).0 in
-    absurd (let no : (118 == d) ≡ false = grind (arith, nat_tests, digit) in let bad : true ≡ false = sym same ∙ no in cc)
-only_digits (d ∷ ds) (e ∷ es) rest is_ds is_es is =
-    let both = and_parts (e == d) (begins (ds ++ 118 ∷ rest) (es ++ 118 ∷ [])) is in
-    let same : d ≡ e = grind (arith, nat_tests, both.0) in
-    let later = only_digits ds es rest (and_parts (is_digit d) (list_all is_digit ds) is_ds).1 (and_parts (is_digit e) (list_all is_digit es) is_es).1 both.1 in
-    λ i. same i ∷ later i
-
--- the name of a copy of a step
-abbrev pub copy_name : ℕ → Name → Name
-copy_name number rest = codes "s" ++ (decimal number ++ (codes "v" ++ rest))
-
-pub counts_as_own : (number : ℕ) (rest : Name) → counts_as (copy_name number rest) number ≡ true
-counts_as_own number rest = begins_with (copy_name number rest) (codes "s" ++ decimal number ++ codes "v") ∙ own_digits (decimal number) rest
-
-pub counts_as_only : (number other : ℕ) (rest : Name) → number < 2 ^ 64 → other < 2 ^ 64 → counts_as (copy_name number rest) other ≡ true → number ≡ other
-counts_as_only number other rest small little is =
-    decimal_injective number other small little
-    (only_digits (decimal number) (decimal other) rest (decimal_digits number) (decimal_digits other) (sym (begins_with (copy_name number rest) (codes "s" ++ decimal other ++ codes "v")) ∙ is))
 
 -- ---- the first number of a range that passes a test
 
@@ -99,10 +27,10 @@ found_none test none (suc count) from = ap (λ b. cond b (Some from) (find test 
 -- a copy of a step counts as that step
 pub copy_lifted : (G : GroundTask) (number : ℕ) (rest : Name) → number < G.step_count → G.step_count ≤ 2 ^ 64 → lifted_number G (copy_name number rest) ≡ Some number
 copy_lifted G number rest within small =
-    found (counts_as (copy_name number rest)) number (2 ^ 64) (counts_as_own number rest)
-    (λ n little is. counts_as_only number n rest (omega (arith, within, small)) little is) G.step_count 0 (omega arith) (omega (arith, within)) (omega (arith, small))
+    found (λ n. is_copy_of n (copy_name number rest)) number (2 ^ 64) (copy_of_own number rest)
+    (λ n little is. copy_of_only number n rest (omega (arith, within, small)) little is) G.step_count 0 (omega arith) (omega (arith, within)) (omega (arith, small))
 
 -- a name that begins with another letter counts as none
 pub other_not_lifted : (G : GroundTask) (byte : ℕ) (rest : Name) → (115 == byte) ≡ false → lifted_number G (byte ∷ rest) ≡ None
 other_not_lifted G byte rest differ =
-    found_none (counts_as (byte ∷ rest)) (λ n. begins_with (byte ∷ rest) (codes "s" ++ decimal n ++ codes "v") ∙ ap (λ b. b && begins rest (decimal n ++ codes "v")) differ) G.step_count 0
+    found_none (λ n. is_copy_of n (byte ∷ rest)) (λ n. copy_of_none n byte rest differ) G.step_count 0

@@ -10,7 +10,8 @@ use Rattle.p3_formula.specs.Forms.{truth, has_atoms}
 use Rattle.p3_formula.specs.Next.{after}
 use Rattle.p3_formula.specs.GroundSat.{ground_sat}
 use Rattle.p3_formula.specs.GroundPlans.{visited_from, is_ground_valid, ground_violated, ground_cost, ground_loss}
-use Rattle.p3_formula.specs.Weighted.{extra_of, ground_extra}
+use Rattle.p3_base.specs.Copies.{extra_of}
+use Rattle.p3_formula.specs.Weighted.{ground_extra}
 use Rattle.p3_formula.specs.Targets.{IsNamed, IsSized, reaches_goal, target_cost, ground_lift}
 use Rattle.p3_formula.specs.declared.form.Change.{Change}
 use Rattle.p3_formula.specs.declared.form.Form.TheBlock.{hidden-the_row-Form-0, hidden-the_row-Form-1, shape-the_row-Form-0, shape-the_row-Form-1}

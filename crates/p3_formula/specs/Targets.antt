@@ -1,8 +1,8 @@
 -- The plans of a target, how they lift to ground plans, and what it is that a target is a compiled ground task (Keyder and Geffner's end phase; names of steps are this project's profile).
 use Rattle.std.specs.Prelude.{◌≡◌, ℕ, ◌+◌, ◌==◌, nat_lt, Bool, true, false, not, ◌&&◌, ◌||◌, List, [], ◌∷◌, ◌++◌, length, map, find, filter_map, sum_by, codes, Option, Some, None, IsTrue, Contains, bytes_eq}
-use Rattle.std.specs.List.{list_all, range_with_len, starts_with}
-use Rattle.std.specs.Fmt.{decimal}
-use Rattle.p3_base.specs.Words.{Name, has_name, is_lowered, is_name, is_number, is_predicate_name}
+use Rattle.std.specs.List.{list_all, range_with_len}
+use Rattle.p3_base.specs.Copies.{is_copy_of}
+use Rattle.p3_base.specs.Words.{Name, are_different, is_lowered, is_name, is_number, is_predicate_name}
 use Rattle.p3_formula.specs.Forms.{State, truth, is_below, IsBelow}
 use Rattle.p3_formula.specs.Next.{after}
 use Rattle.p3_formula.specs.GroundPlans.{GroundPlan, GroundValid, ground_loss}
@@ -47,13 +47,9 @@ target_cost X plan = sum_by (λ name. cost_by (action_of X name)) plan
 
 -- ---- lifting
 
--- `s`, the number and `v`: what the names of the copies of a step begin with
-abbrev pub counts_as : Name → ℕ → Bool
-counts_as name number = starts_with ◌==◌ name (codes "s" ++ decimal number ++ codes "v")
-
--- the step as which an action counts, if it does
+-- the step as which an action counts, if it does: the one whose copy it is by its name
 abbrev pub lifted_number : GroundTask → Name → Option ℕ
-lifted_number G name = find (counts_as name) (range_with_len 0 G.step_count)
+lifted_number G name = find (λ number. is_copy_of number name) (range_with_len 0 G.step_count)
 
 unfoldable pub ground_lift : GroundTask → TargetPlan → GroundPlan
 ground_lift G plan = filter_map (lifted_number G) plan
@@ -71,11 +67,6 @@ pub record IsSized (X : Target) : Type 0 where
   pub bits : length X.initial ≡ length X.predicates
   pub goal : IsBelow (length X.predicates) X.goal
   pub actions : IsTrue (list_all (is_sized_action (length X.predicates)) X.actions)
-
--- no two of the names are the same
-abbrev pub are_different : List Name → Bool
-are_different [] = true
-are_different (name ∷ names) = not (has_name names name) && are_different names
 
 -- it ends with the letter `c` and a number
 abbrev pub ends_with_c_number : Name → Bool

@@ -1,6 +1,7 @@
 -- The weights of a step's preferences, which are those of their names, and how many actions more a wide step takes.
-use Rattle.std.specs.Prelude.{ℕ, ◌+◌, ◌*◌, ◌<◌, nat_lt, List, length, sum_by, slice_index_or, unwrap_or, if◌then◌else◌, Option, Some, None}
+use Rattle.std.specs.Prelude.{ℕ, ◌*◌, ◌<◌, nat_lt, List, length, sum_by, slice_index_or, unwrap_or, Option, Some, None}
 use Rattle.std.specs.List.{All, filter}
+use Rattle.p3_base.specs.Copies.{extra_of}
 use Rattle.p3_formula.specs.GroundPlans.{GroundPlan, step_of}
 use Rattle.p3_formula.specs.declared.modal.GroundPref.{GroundPref}
 use Rattle.p3_formula.specs.declared.target.Weights.{Weights}
@@ -39,10 +40,6 @@ weighted_cost weights step = weights.total_cost * unwrap_or step.cost 0
 -- as many preferences of the step have a weight above 0
 abbrev pub width_of : List ℕ → GroundStep → ℕ
 width_of by_name step = length (weighted by_name step.prefs)
-
--- beside its first action, a step that is wider than 8 takes one for each such preference and one at its end
-abbrev pub extra_of : ℕ → ℕ
-extra_of width = if nat_lt 8 width then width + 1 else 0
 
 abbrev pub extra_by : List ℕ → Option GroundStep → ℕ
 extra_by by_name None = 0

@@ -43,13 +43,13 @@ and_true false test e = absurd (cc)
 pub state_counts : (T : Task) (s : State) (env : Environment) (variables : List Typed) (at : ℕ) (name : Ref) (body : Formula) → StateCounts T s env variables at name body
 unfolding trees_compute prefs
 state_counts T s env variables at name body = record {
-  outside = count_each (λ inner. record { name = Some name.name; body = body; env = inner }) (λ (pref : StatePref). is_called name.name pref.name && not (holds T s pref.env pref.body)) (λ inner. not (holds T s inner body)) (λ inner. and_true _ _ (called_itself name.name)) (bind T env variables);
+  outside = count_each (λ inner. record { at = at; name = Some name.name; body = body; env = inner }) (λ (pref : StatePref). is_called name.name pref.name && not (holds T s pref.env pref.body)) (λ inner. not (holds T s inner body)) (λ inner. and_true _ _ (called_itself name.name)) (bind T env variables);
   inside = count_one (is_called name.name (Some name.name)) (holds T s env (Forall variables body)) (called_itself name.name);
 }
 
 pub trajectory_counts : (T : Task) (W : List State) (env : Environment) (variables : List Typed) (at : ℕ) (name : Ref) (body : Constraint) → TrajectoryCounts T W env variables at name body
 unfolding trees_compute instances_of
 trajectory_counts T W env variables at name body = record {
-  outside = count_each (λ inner. record { name = Some name.name; body = body; env = inner }) (λ (instance : Instance). is_called name.name instance.name && not (sat T W instance.env instance.body)) (λ inner. not (sat T W inner body)) (λ inner. and_true _ _ (called_itself name.name)) (bind T env variables);
+  outside = count_each (λ inner. record { at = at; name = Some name.name; body = body; env = inner }) (λ (instance : Instance). is_called name.name instance.name && not (sat T W instance.env instance.body)) (λ inner. not (sat T W inner body)) (λ inner. and_true _ _ (called_itself name.name)) (bind T env variables);
   inside = count_one (is_called name.name (Some name.name)) (sat T W env (constraint.Each variables body)) (called_itself name.name);
 }

@@ -4,12 +4,14 @@ use Rattle.std.specs.Prelude.{unwrap_or}
 use Rattle.std.specs.List.{cons_option}
 use Rattle.std.proofs.lemmas.Bool.{and_parts}
 use Rattle.p3_tree.specs.States.{State, start}
+use Rattle.p3_tree.specs.Costs.{cost_places}
 use Rattle.p3_tree.specs.Plans.{Plan, fits, state_after, step_cost}
 use Rattle.p3_tree.specs.Constraints.{instances}
 use Rattle.p3_tree.specs.Validity.{Valid, is_valid}
 use Rattle.p3_tree.specs.Metrics.{value, loss, base_loss}
 use Rattle.p3_tree.specs.Offences.{WellFormed}
-use Rattle.p3_tree.specs.Lifting.{Plain, IsVariableFree, lifted_step, lift, IsSound, HasOneSource, Faithful}
+use Rattle.p3_tree.specs.Lifting.{Plain, IsVariableFree, lifted_step, lift}
+use Rattle.p3_tree.specs.Faithful.{extra, IsSound, HasOneSource, Faithful}
 use Rattle.p3_tree.proofs.PlanLemmas.{fit_from, state_from, cost_of}
 use Rattle.p3_tree.specs.declared.task.Step.{Step}
 use Rattle.p3_tree.specs.declared.task.Task.{Task}
@@ -106,6 +108,7 @@ module _ (W : Words) where
       pub valid : (n : ℕ) → IsCount n → Valid T (repeated n)
       pub loss_above : (n : ℕ) → IsCount n → (loss T (repeated n) -ℤ base_loss T) ≡ pos (cond (held n) 0 W.weight)
       pub one_instance : length (instances T) ≡ 1
+      pub no_extra : (p : Plan) → extra T p ≡ 0
 
     pub record Pair : Type 0 where
       pub fitting : Fitting
@@ -284,11 +287,11 @@ module _ (W : Words) where
                 shaped.2 ∙ ap (canonical W.at_first) many;
           }
 
-      lengths : (q : Plan) → Valid U q → length q ≡ length (lift T q) + 1 + length (instances T)
+      lengths : (q : Plan) → Valid U q → length q ≡ length (lift T q) + 1 + length (instances T) + extra T (lift T q)
       lengths q valid =
           let shaped : (n : ℕ) × IsCount n × (q ≡ canonical W.at_first n) = is_canonical q valid in
-          subst (λ other. length other ≡ length (lift T other) + 1 + length (instances T)) (sym shaped.2)
-          (rw (lifts shaped.0 W.at_first shaped.1, pair.reading.one_instance) (omega (arith, length-canonical shaped.0 W.at_first, length-repeated shaped.0)))
+          subst (λ other. length other ≡ length (lift T other) + 1 + length (instances T) + extra T (lift T other)) (sym shaped.2)
+          (rw (lifts shaped.0 W.at_first shaped.1, pair.reading.one_instance, pair.reading.no_extra (repeated shaped.0)) (omega (arith, length-canonical shaped.0 W.at_first, length-repeated shaped.0)))
 
-      pub one_instance_faithful : WellFormed U → Plain U → IsVariableFree U → Faithful T U
-      one_instance_faithful well_formed plain variable_free = record { well_formed = well_formed; plain = plain; variable_free = variable_free; sound = sound; one_to_one = one_source; length = lengths }
+      pub one_instance_faithful : WellFormed U → Plain U → IsVariableFree U → cost_places U ≡ 0 → Faithful T U
+      one_instance_faithful well_formed plain variable_free whole = record { well_formed = well_formed; plain = plain; variable_free = variable_free; whole = whole; sound = sound; one_to_one = one_source; length = lengths }

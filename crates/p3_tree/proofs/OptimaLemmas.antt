@@ -3,7 +3,8 @@ use Rattle.std.proofs.Common.{◌≡◌, ◌≤ℤ◌, ◌-ℤ◌, ℤ, subst, a
 use Rattle.std.proofs.lemmas.Int.{ints}
 use Rattle.p3_tree.specs.Plans.{Plan}
 use Rattle.p3_tree.specs.Metrics.{value, loss, base_loss}
-use Rattle.p3_tree.specs.Lifting.{lift, HasOneSource, Faithful}
+use Rattle.p3_tree.specs.Lifting.{lift}
+use Rattle.p3_tree.specs.Faithful.{HasOneSource, Faithful}
 use Rattle.p3_tree.specs.Laws.{IsCheapest, IsBest}
 use Rattle.p3_tree.specs.declared.task.Task.{Task}
 

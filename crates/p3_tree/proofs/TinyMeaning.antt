@@ -9,7 +9,7 @@ use Rattle.p3_tree.specs.Formulas.{holds}
 use Rattle.p3_tree.specs.Effects.{adds, dels}
 use Rattle.p3_tree.specs.Goals.{hard_holds, prefs}
 use Rattle.p3_tree.specs.Costs.{increases}
-use Rattle.p3_tree.specs.Metrics.{num_value}
+use Rattle.p3_tree.specs.Metrics.{Quantity, quantity}
 use Rattle.p3_tree.specs.Tiny.{Literal, is_empty, atom_in, literal_of_formula, literal_of_effect, literal_without, is_nothing, is_unconstrained, Wish, named_wish, wish_of, Summand, weighted, product_of, summand_of}
 use Rattle.p3_tree.specs.declared.state.Fact.{Fact}
 use Rattle.p3_tree.specs.declared.term.Ref.{Ref}
@@ -28,7 +28,7 @@ use Rattle.p3_tree.specs.declared.constraint.Constraint.TheVariants as constrain
 use Rattle.p3_tree.specs.declared.metric.Num.{Num, out-Num, roll-Num, roll-out-Num}
 use Rattle.p3_tree.specs.declared.metric.Num.TheBlock.{shown-the_row-Num-1}
 use Rattle.p3_tree.specs.declared.metric.Num.TheVariants as num
-use Rattle.p3_tree.proofs.MeaningLemmas.{num_value-Product}
+use Rattle.p3_tree.proofs.MeaningLemmas.{quantity-Product}
 use Rattle.p3_tree.specs.declared.task.Task.{Task}
 
 -- the atom of a literal, and the literal's truth
@@ -135,8 +135,9 @@ unconstrained_is (constraint.Soft' at name shape body) e = absurd (cc)
 module _ (T : Task) (env : Environment) where
   pub record Wishes (g : PreGoal) (wish : Wish) : Type 0 where
     pub hard : (s : State) → hard_holds T s env g ≡ true
+    pub at : ℕ
     pub body : Formula
-    pub prefs : prefs T env g ≡ record { name = Some wish.name.name; body = body; env = env } ∷ []
+    pub prefs : prefs T env g ≡ record { at = at; name = Some wish.name.name; body = body; env = env } ∷ []
     pub literal : literal_of_formula body ≡ Some wish.literal
 
   named_parts : (name : Option Ref) (literal : Option Literal) (wish : Wish) → named_wish name literal ≡ Some wish → (name ≡ Some wish.name) × (literal ≡ Some wish.literal)
@@ -151,11 +152,14 @@ module _ (T : Task) (env : Environment) where
   wishes (goal.Each' variables shape body) wish e = absurd (cc)
   wishes (goal.Soft pref) wish e =
       let parts : (pref.name ≡ Some wish.name) × (literal_of_formula pref.body ≡ Some wish.literal) = named_parts pref.name (literal_of_formula pref.body) wish e in
-      record { hard = λ s. refl; body = pref.body; prefs = (λ i. record { name = option_map (λ (ref : Ref). ref.name) (parts.0 i); body = pref.body; env = env } ∷ []); literal = parts.1 }
+      record { hard = λ s. refl; at = pref.at; body = pref.body; prefs = (λ i. record { at = pref.at; name = option_map (λ (ref : Ref). ref.name) (parts.0 i); body = pref.body; env = env } ∷ []); literal = parts.1 }
 
 -- ---- metrics
 
-module _ (counts : Name → ℕ) (total : ℕ) where
+module _ (T : Task) (counts : Name → ℕ) (total : ℕ) where
+  abbrev units : Num → ℤ
+  units n = (quantity T counts total n).units
+
   one_times : (n : ℕ) → 1 * n ≡ n
   one_times n = omega arith
 
@@ -168,19 +172,19 @@ module _ (counts : Name → ℕ) (total : ℕ) where
       ap (λ n. pos (n * counts name.name)) (one_times digits) ∙ ap summand_value same
   weighted_by false digits name summand e = absurd (cc)
 
-  weighted_value : (number count : Num) (summand : Summand) → weighted (out-Num number) (out-Num count) ≡ Some summand → (pos 1 *ℤ num_value counts total number) *ℤ num_value counts total count ≡ summand_value summand
-  unfolding out-Num out num_value
+  weighted_value : (number count : Num) (summand : Summand) → weighted (out-Num number) (out-Num count) ≡ Some summand → (pos 1 *ℤ units number) *ℤ units count ≡ summand_value summand
+  unfolding out-Num out quantity
   weighted_value (num.Number number) (num.Violated name) summand e = weighted_by _ number.digits name summand e
   weighted_value _ _ summand e = absurd (cc)
 
-  product_value : (at : ℕ) (parts : List Num) (summand : Summand) → product_of parts ≡ Some summand → num_value counts total (num.Product at parts) ≡ summand_value summand
+  product_value : (at : ℕ) (parts : List Num) (summand : Summand) → product_of parts ≡ Some summand → units (num.Product at parts) ≡ summand_value summand
   product_value at [] summand e = absurd (cc)
   product_value at (number ∷ []) summand e = absurd (cc)
-  product_value at (number ∷ count ∷ []) summand e = num_value-Product counts total at (number ∷ count ∷ []) ∙ weighted_value number count summand e
+  product_value at (number ∷ count ∷ []) summand e = ap (λ (whole : Quantity). whole.units) (quantity-Product T counts total at (number ∷ count ∷ [])) ∙ weighted_value number count summand e
   product_value at (number ∷ count ∷ other ∷ parts) summand e = absurd (cc)
 
-  pub summand_counts : (n : Num) (summand : Summand) → summand_of n ≡ Some summand → num_value counts total n ≡ summand_value summand
-  unfolding summand_of out-Num out num_value
+  pub summand_counts : (n : Num) (summand : Summand) → summand_of n ≡ Some summand → units n ≡ summand_value summand
+  unfolding summand_of out-Num out quantity
   summand_counts (num.Number numeral) summand e = absurd (cc)
   summand_counts (num.TotalCost at) summand e = absurd (cc)
   summand_counts (num.Violated name) summand e =
@@ -190,5 +194,5 @@ module _ (counts : Name → ℕ) (total : ℕ) where
   summand_counts (num.Sub' at a first b second) summand e = absurd (cc)
   summand_counts (num.Sum' at shape parts) summand e = absurd (cc)
   summand_counts (num.Product' at shape parts) summand e =
-      ap (num_value counts total) (sym (roll-out-Num (num.Product' at shape parts)) ∙ ap roll-Num (num.outs-Product' at shape parts) ∙ num.rolls-Product at _)
+      ap units (sym (roll-out-Num (num.Product' at shape parts)) ∙ ap roll-Num (num.outs-Product' at shape parts) ∙ num.rolls-Product at _)
       ∙ product_value at (shown-the_row-Num-1 shape parts) summand e

@@ -1,22 +1,26 @@
 -- A tiny task as the task read: its plans repeat the one action, and its loss is the weight of the preference where that does not hold at the end.
 use Rattle.std.proofs.Common.{◌≡◌, ◌∙◌, inl, inr, ℕ, ◌+◌, ◌*◌, zero, suc, add-zero, refl, sym, ap, subst, Bool, true, false, not, ◌&&◌, ◌||◌, List, [], ◌∷◌, ◌++◌, cond, length, map, true≢false, Some, None, pos, ◌-ℤ◌, is_some, arith}
-use Rattle.std.specs.Prelude.{find}
+use Rattle.std.specs.Prelude.{find, count_by, int_lt}
 use Rattle.std.specs.List.{list_all}
 use Rattle.std.proofs.Math.Bool.{and-true}
 use Rattle.std.proofs.lemmas.Bool.{and_parts}
 use Rattle.std.proofs.lemmas.Int.{ints}
+use Rattle.std.proofs.lemmas.List.Sums.{sum_by-cons}
 use Rattle.std.proofs.lemmas.Slice.Eq.{bytes_eq-Decides}
 use Rattle.p3_base.specs.declared.refusal.Direction.TheVariants.{Minimize}
 use Rattle.p3_tree.specs.Names.{Name, same_name}
 use Rattle.p3_tree.specs.States.{State, Environment, has_fact, start}
 use Rattle.p3_tree.specs.Bindings.{extended, are_arguments}
 use Rattle.p3_tree.specs.Effects.{next}
-use Rattle.p3_tree.specs.Goals.{hard_holds, prefs}
+use Rattle.p3_base.specs.Copies.{extra_of}
+use Rattle.p3_tree.specs.Goals.{StatePref, hard_holds, prefs}
 use Rattle.p3_tree.specs.Costs.{amount_value, total, effect_cost, initial_cost}
 use Rattle.p3_tree.specs.Plans.{Plan, action_named, arguments, fits, fits_by, state_by, state_after, visited, last_state, steps_fit}
 use Rattle.p3_tree.specs.Constraints.{Instance, hard_list, hard_modals, instances_of, instances, at_end, sat, satisfies}
 use Rattle.p3_tree.specs.Validity.{Valid, is_valid, is_met, goal_holds}
-use Rattle.p3_tree.specs.Metrics.{is_called, unsatisfied, false_in, prefs_by, step_prefs, violated, cost, num_value, signed, direction_by, value_by, loss_at, loss, base_loss, no_counts}
+use Rattle.p3_tree.specs.Metrics.{is_called, unsatisfied, false_in, prefs_by, step_prefs, violated, cost, quantity, quantity_by, signed, direction_by, loss_at, loss, base_loss, no_counts}
+use Rattle.p3_tree.specs.Limits.{weight_of, width}
+use Rattle.p3_tree.specs.Faithful.{extra_by, extra}
 use Rattle.p3_tree.specs.Tiny.{Literal, is_empty, literal_of_effect, Wish, wish_of, Summand, summand_of}
 use Rattle.p3_tree.proofs.Computes.{trees_compute}
 use Rattle.p3_tree.proofs.StateLemmas.{has_fact-next}
@@ -60,11 +64,11 @@ module _ (T : Task) (one : OnePreference T) where
   wishing = wishes T [] T.problem.goal.body one.wish one.wished
 
   the_instance : Instance
-  the_instance = record { name = Some one.wish.name.name; body = constraint.Single (AtEnd wishing.body); env = [] }
+  the_instance = record { at = wishing.at; name = Some one.wish.name.name; body = constraint.Single (AtEnd wishing.body); env = [] }
 
   instances_is : instances T ≡ the_instance ∷ []
   unfolding instances the_instance instances_of trees_compute
-  instances_is = λ i. instances_of T (one.domain_free i) [] ++ instances_of T (one.problem_free i) [] ++ map at_end (wishing.prefs i)
+  instances_is = λ i. instances_of T (one.domain_free i) [] ++ (instances_of T (one.problem_free i) [] ++ map at_end (wishing.prefs i))
 
   hard_list_is : hard_list T ≡ []
   unfolding hard_list hard_modals trees_compute
@@ -96,9 +100,9 @@ module _ (T : Task) (one : OnePreference T) where
 
   value_is : (counts : Name → ℕ) (total : ℕ) → loss_at T counts total ≡ pos (one.summand.weight * counts one.summand.name.name)
   value_is counts total =
-      (λ i. signed (direction_by (one.given i)) (value_by counts total (one.given i)))
-      ∙ (λ i. signed (one.minimal i) (num_value counts total one.metric.body))
-      ∙ summand_counts counts total one.metric.body one.summand one.summed
+      (λ i. signed (direction_by (one.given i)) (quantity_by T counts total (one.given i)).units)
+      ∙ (λ i. signed (one.minimal i) (quantity T counts total one.metric.body).units)
+      ∙ summand_counts T counts total one.metric.body one.summand one.summed
 
   pub base_is : base_loss T ≡ pos (one.summand.weight * 0)
   unfolding base_loss
@@ -237,6 +241,23 @@ module _ (T : Task) (act : OneAction T) where
   no_false name s [] = refl
   no_false name s (st ∷ plan) = (λ i. (ap (λ action. false_in T s name (prefs_by T st action)) (named_is st.action) ∙ no_prefs name s st (same_name act.action.name.name st.action)) i + no_false name (state_after T s st) plan i)
 
+  -- ---- no step is wide
+
+  narrow : width T act.action ≡ 0
+  unfolding width prefs trees_compute
+  narrow = ap (λ g. count_by (λ (pref : StatePref). int_lt (pos 0) (weight_of T pref.name)) (prefs T [] g)) act.no_condition
+
+  extra_by_is : (named : Bool) → extra_by T (cond named (Some act.action) None) ≡ 0
+  extra_by_is true = ap extra_of narrow
+  extra_by_is false = refl
+
+  no_extra : (plan : Plan) → extra T plan ≡ 0
+  unfolding extra
+  no_extra [] = refl
+  no_extra (st ∷ plan) =
+      sum_by-cons (λ (step : Step). extra_by T (action_named T step.action)) st plan
+      ∙ (λ i. (ap (extra_by T) (named_is st.action) ∙ extra_by_is (same_name act.action.name.name st.action)) i + no_extra plan i)
+
 -- ---- the task read, with an action
 
 -- the words are those of the task
@@ -280,6 +301,7 @@ module _ (W : Words) (T U : Task) (one : OnePreference T) (act : OneAction T) (a
     valid = λ n count. valid_is T one (repeated W n) ∙ steps_fit-walk T (repeated W n) ∙ ap (fit_from T (start T)) (repeated_is n) ∙ all_fit (start T) n;
     loss_above = λ n count. ap (λ p. loss T p -ℤ base_loss T) (repeated_is n) ∙ loss_is T one (steps_of n) (no_false T act one.wish.name.name) ∙ (λ i. pos (cond (held_is n i) 0 (sym agrees.weight i)));
     one_instance = one_instance T one;
+    no_extra = no_extra T act;
   }
 
 -- ---- the task read, without any action
@@ -308,6 +330,13 @@ module _ (W : Words) (T U : Task) (one : OnePreference T) (agrees : AgreesWithou
   no_false_without s [] = refl
   no_false_without s (st ∷ plan) = λ i. ap (λ action. false_in T s one.wish.name.name (prefs_by T st action)) (unnamed st.action) i + no_false_without (state_after T s st) plan i
 
+  no_extra_without : (plan : Plan) → extra T plan ≡ 0
+  unfolding extra
+  no_extra_without [] = refl
+  no_extra_without (st ∷ plan) =
+      sum_by-cons (λ (step : Step). extra_by T (action_named T step.action)) st plan
+      ∙ (λ i. ap (extra_by T) (unnamed st.action) i + no_extra_without plan i)
+
   no_steps : (n : ℕ) → IsCount W n → n ≡ 0
   no_steps n (inl has) = absurd (true≢false (sym has ∙ agrees.has_step))
   no_steps n (inr none) = none
@@ -319,4 +348,5 @@ module _ (W : Words) (T U : Task) (one : OnePreference T) (agrees : AgreesWithou
     loss_above = λ n count. subst (λ m. (loss T (repeated W m) -ℤ base_loss T) ≡ pos (cond (held W m) 0 W.weight)) (sym (no_steps n count))
         (loss_is T one [] no_false_without ∙ (λ i. pos (cond (sym agrees.at_first i) 0 (sym agrees.weight i))));
     one_instance = one_instance T one;
+    no_extra = no_extra_without;
   }

@@ -61,10 +61,21 @@ hard_modals T env constraint = fold_constraint (hard_modals_layer T) constraint 
 unfoldable pub hard_list : Task → List HardModal
 hard_list T = hard_modals T [] T.domain.constraints.body ++ hard_modals T [] T.problem.constraints.body
 
+-- all operators, those within preferences too: a constraint is satisfied where they are
+abbrev pub operators_layer : Task → layer.Constraint-F (Environment → List HardModal) → Environment → List HardModal
+operators_layer T (layer.Both parts) env = flat_map (λ part. part env) parts
+operators_layer T (layer.Each variables body) env = flat_map body (bind T env variables)
+operators_layer T (layer.Single modal) env = record { modal = modal; env = env } ∷ []
+operators_layer T (layer.Soft at name body) env = body env
+
+unfoldable pub operators : Task → Environment → Constraint → List HardModal
+operators T env constraint = fold_constraint (operators_layer T) constraint env
+
 -- ---- instances of preferences
 
--- a preference over the visited states, at a binding of the variables outside it
+-- a preference over the visited states, at a binding of the variables outside it; its word `preference` stands at the offset
 pub record Instance : Type 0 where
+  pub at : ℕ
   pub name : Option Name
   pub body : Constraint
   pub env : Environment
@@ -78,7 +89,7 @@ unfoldable mutual
   instances_of T (Both' _ parts) env = instances_of_all T parts env
   instances_of T (Each' variables _ body) env = flat_map (instances_of_one T body) (bind T env variables)
   instances_of T (Single modal) env = []
-  instances_of T (Soft' at name _ body) env = record { name = named name; body = one_constraint body; env = env } ∷ []
+  instances_of T (Soft' at name _ body) env = record { at = at; name = named name; body = one_constraint body; env = env } ∷ []
 
   pub instances_of_all : Task → {n : Count} → Row_of-Constraint n → Environment → List Instance
   instances_of_all T end_of-Constraint env = []
@@ -89,8 +100,14 @@ unfoldable mutual
 
 -- a preference over the last state
 abbrev pub at_end : StatePref → Instance
-at_end pref = record { name = pref.name; body = Single (AtEnd pref.body); env = pref.env }
+at_end pref = record { at = pref.at; name = pref.name; body = Single (AtEnd pref.body); env = pref.env }
 
--- the instances of a task: of the domain's constraints, of the problem's, and of the goal
+-- the instances of the domain, and those of the problem: of its constraints, and then of the goal
+abbrev pub domain_instances : Task → List Instance
+domain_instances T = instances_of T T.domain.constraints.body []
+
+abbrev pub problem_instances : Task → List Instance
+problem_instances T = instances_of T T.problem.constraints.body [] ++ map at_end (prefs T [] T.problem.goal.body)
+
 unfoldable pub instances : Task → List Instance
-instances T = instances_of T T.domain.constraints.body [] ++ instances_of T T.problem.constraints.body [] ++ map at_end (prefs T [] T.problem.goal.body)
+instances T = domain_instances T ++ problem_instances T

@@ -188,13 +188,13 @@ erased T = record { domain = erased_domain T.domain; problem = erased_problem T.
 -- ---- what definitions give of trees
 
 abbrev pub erased_state_pref : StatePref → StatePref
-erased_state_pref pref = record { name = pref.name; body = erased_formula pref.body; env = pref.env }
+erased_state_pref pref = record { at = 0; name = pref.name; body = erased_formula pref.body; env = pref.env }
 
 abbrev pub erased_hard_modal : HardModal → HardModal
 erased_hard_modal entry = record { modal = erased_modal entry.modal; env = entry.env }
 
 abbrev pub erased_instance : Instance → Instance
-erased_instance instance = record { name = instance.name; body = erased_constraint instance.body; env = instance.env }
+erased_instance instance = record { at = 0; name = instance.name; body = erased_constraint instance.body; env = instance.env }
 
 abbrev pub erased_use : Use → Use
 erased_use (Objects objects) = Objects (erased_all_typed objects)

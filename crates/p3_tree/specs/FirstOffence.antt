@@ -1,14 +1,12 @@
 -- The first offence of a task that is not well-formed: the kinds in order, each in the domain and then in the problem, and there the word of least offset.
 use Rattle.std.specs.Prelude.{nat_lt, List, [], ◌∷◌, fold, if◌then◌else◌, Option, Some, None, option_map}
-use Rattle.std.specs.Option.{option_or}
 use Rattle.p3_base.specs.declared.refusal.Code.{Code}
 use Rattle.p3_base.specs.declared.refusal.Code.TheVariants.{Duplicate, Unknown, Arity, TypeClash}
+use Rattle.p3_tree.specs.Refusals.Places.{first_some}
+pub use Rattle.p3_tree.specs.Sides.{Half, InDomain, InProblem}
 use Rattle.p3_tree.specs.Offences.{domain_duplicates, problem_duplicates, domain_unknowns, problem_unknowns, domain_miscounts, problem_miscounts, domain_clashes, problem_clashes}
 use Rattle.p3_tree.specs.declared.term.Ref.{Ref}
 use Rattle.p3_tree.specs.declared.task.Task.{Task}
-
-pub data Half : Type 0 where
-  InDomain InProblem : Half
 
 pub record Offence : Type 0 where
   pub code : Code
@@ -22,10 +20,6 @@ least_word (word ∷ words) = Some (fold (λ least other. if nat_lt other.at lea
 
 abbrev pub offence : Code → Half → List Ref → Option Offence
 offence code half words = option_map (λ word. record { code = code; half = half; word = word }) (least_word words)
-
-abbrev pub first_some : List (Option Offence) → Option Offence
-first_some [] = None
-first_some (first ∷ others) = option_or first (first_some others)
 
 unfoldable pub first_offence : Task → Option Offence
 first_offence T = first_some (

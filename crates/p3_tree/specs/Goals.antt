@@ -1,5 +1,5 @@
 -- Preconditions and goals: a hard part and preferences (the PDDL3 report).
-use Rattle.std.specs.Prelude.{Bool, true, List, [], ◌∷◌, flat_map, option_map, Option}
+use Rattle.std.specs.Prelude.{ℕ, Bool, true, List, [], ◌∷◌, flat_map, map, option_map, Option}
 use Rattle.std.specs.List.{list_all}
 use Rattle.p3_tree.specs.Folds.{fold_goal}
 use Rattle.p3_tree.specs.Names.{Name}
@@ -26,8 +26,9 @@ hard_holds T s env goal = fold_goal (hard_layer T s) goal env
 abbrev pub named : Option Ref → Option Name
 named name = option_map (λ ref. ref.name) name
 
--- a preference over one state, at a binding of the variables outside it
+-- a preference over one state, at a binding of the variables outside it; its word `preference` stands at the offset
 pub record StatePref : Type 0 where
+  pub at : ℕ
   pub name : Option Name
   pub body : Formula
   pub env : Environment
@@ -37,7 +38,11 @@ abbrev pub prefs_layer : Task → PreGoal-F (Environment → List StatePref) →
 prefs_layer T (Plain formula) env = []
 prefs_layer T (Both parts) env = flat_map (λ part. part env) parts
 prefs_layer T (Each variables body) env = flat_map body (bind T env variables)
-prefs_layer T (Soft pref) env = record { name = named pref.name; body = pref.body; env = env } ∷ []
+prefs_layer T (Soft pref) env = record { at = pref.at; name = named pref.name; body = pref.body; env = env } ∷ []
 
 unfoldable pub prefs : Task → Environment → PreGoal → List StatePref
 prefs T env goal = fold_goal (prefs_layer T) goal env
+
+-- the names of preferences, in order
+abbrev pub pref_names : List StatePref → List (Option Name)
+pref_names list = map (λ (pref : StatePref). pref.name) list

@@ -1,17 +1,14 @@
--- Plain tasks, steps by number, and what it is that a translation is faithful.
-use Rattle.std.specs.Prelude.{◌≡◌, ℕ, ◌+◌, ◌==◌, Bool, true, false, not, ◌&&◌, ◌-ℤ◌, List, ◌++◌, map, flat_map, filter_map, find, length, codes, decimal, Option, Some, None, option_map, IsTrue}
-use Rattle.std.specs.List.{list_any, list_all, enumerate_from, starts_with}
+-- Plain tasks, tasks without variables, and steps by number.
+use Rattle.std.specs.Prelude.{ℕ, ◌==◌, Bool, true, false, not, ◌&&◌, List, map, flat_map, filter_map, find, Option, Some, None, option_map, IsTrue}
+use Rattle.std.specs.List.{list_any, list_all, enumerate_from}
 use Rattle.p3_base.specs.declared.refusal.Direction.{Direction}
 use Rattle.p3_base.specs.declared.refusal.Direction.TheVariants.{Minimize}
+use Rattle.p3_base.specs.Copies.{is_copy_of}
 use Rattle.p3_tree.specs.Folds.{fold_formula, fold_effect, fold_goal, fold_constraint}
-use Rattle.p3_tree.specs.Names.{Name, is_empty}
+use Rattle.p3_tree.specs.Names.{is_empty}
 use Rattle.p3_tree.specs.Bindings.{tuples}
 use Rattle.p3_tree.specs.Costs.{initial_cost}
 use Rattle.p3_tree.specs.Plans.{Plan}
-use Rattle.p3_tree.specs.Constraints.{instances}
-use Rattle.p3_tree.specs.Validity.{Valid}
-use Rattle.p3_tree.specs.Metrics.{value, loss, base_loss}
-use Rattle.p3_tree.specs.Offences.{WellFormed}
 use Rattle.p3_tree.specs.declared.formula.Formula.{Formula}
 use Rattle.p3_tree.specs.declared.formula.Formula.TheOpen as formula
 use Rattle.p3_tree.specs.declared.effect.Effect.{Effect}
@@ -80,54 +77,54 @@ formula_layer (formula.Imply first second) = first && second
 formula_layer (formula.Exists variables body) = false
 formula_layer (formula.Forall variables body) = false
 
-unfoldable pub is_formula_free : Formula → Bool
-is_formula_free tree = fold_formula formula_layer tree
+unfoldable pub is_formula_variable_free : Formula → Bool
+is_formula_variable_free tree = fold_formula formula_layer tree
 
 abbrev pub effect_layer : effect.Effect-F Bool → Bool
 effect_layer (effect.Add pred args) = true
 effect_layer (effect.Del pred args) = true
 effect_layer (effect.All parts) = list_all (λ part. part) parts
 effect_layer (effect.Each variables body) = false
-effect_layer (effect.If condition body) = is_formula_free condition && body
+effect_layer (effect.If condition body) = is_formula_variable_free condition && body
 effect_layer (effect.Cost at amount) = true
 
-unfoldable pub is_effect_free : Effect → Bool
-is_effect_free tree = fold_effect effect_layer tree
+unfoldable pub is_effect_variable_free : Effect → Bool
+is_effect_variable_free tree = fold_effect effect_layer tree
 
 abbrev pub goal_layer : goal.PreGoal-F Bool → Bool
-goal_layer (goal.Plain body) = is_formula_free body
+goal_layer (goal.Plain body) = is_formula_variable_free body
 goal_layer (goal.Both parts) = list_all (λ part. part) parts
 goal_layer (goal.Each variables body) = false
-goal_layer (goal.Soft pref) = is_formula_free pref.body
+goal_layer (goal.Soft pref) = is_formula_variable_free pref.body
 
-unfoldable pub is_goal_free : PreGoal → Bool
-is_goal_free tree = fold_goal goal_layer tree
+unfoldable pub is_goal_variable_free : PreGoal → Bool
+is_goal_variable_free tree = fold_goal goal_layer tree
 
-abbrev pub is_modal_free : Modal → Bool
-is_modal_free (modal.AtEnd f) = is_formula_free f
-is_modal_free (modal.Always f) = is_formula_free f
-is_modal_free (modal.Sometime f) = is_formula_free f
-is_modal_free (modal.AtMostOnce f) = is_formula_free f
-is_modal_free (modal.SometimeAfter f g) = is_formula_free f && is_formula_free g
-is_modal_free (modal.SometimeBefore f g) = is_formula_free f && is_formula_free g
+abbrev pub is_modal_variable_free : Modal → Bool
+is_modal_variable_free (modal.AtEnd f) = is_formula_variable_free f
+is_modal_variable_free (modal.Always f) = is_formula_variable_free f
+is_modal_variable_free (modal.Sometime f) = is_formula_variable_free f
+is_modal_variable_free (modal.AtMostOnce f) = is_formula_variable_free f
+is_modal_variable_free (modal.SometimeAfter f g) = is_formula_variable_free f && is_formula_variable_free g
+is_modal_variable_free (modal.SometimeBefore f g) = is_formula_variable_free f && is_formula_variable_free g
 
 abbrev pub constraint_layer : constraint.Constraint-F Bool → Bool
 constraint_layer (constraint.Both parts) = list_all (λ part. part) parts
 constraint_layer (constraint.Each variables body) = false
-constraint_layer (constraint.Single operator) = is_modal_free operator
+constraint_layer (constraint.Single operator) = is_modal_variable_free operator
 constraint_layer (constraint.Soft at name body) = body
 
-unfoldable pub is_constraint_free : Constraint → Bool
-is_constraint_free tree = fold_constraint constraint_layer tree
+unfoldable pub is_constraint_variable_free : Constraint → Bool
+is_constraint_variable_free tree = fold_constraint constraint_layer tree
 
-abbrev pub is_action_free : Action → Bool
-is_action_free action = is_empty action.params && is_goal_free action.pre.body && is_effect_free action.effect.body
+abbrev pub is_action_variable_free : Action → Bool
+is_action_variable_free action = is_empty action.params && is_goal_variable_free action.pre.body && is_effect_variable_free action.effect.body
 
 -- no types, constants, objects, parameters, quantifiers or equalities
 unfoldable pub is_variable_free : Task → Bool
 is_variable_free T = is_empty T.domain.kinds && is_empty T.domain.constants && is_empty T.problem.objects
-    && list_all (λ header. is_empty header.params) T.domain.predicates && list_all (λ header. is_empty header.params) T.domain.functions && list_all is_action_free T.domain.actions
-    && is_constraint_free T.domain.constraints.body && is_goal_free T.problem.goal.body && is_constraint_free T.problem.constraints.body
+    && list_all (λ header. is_empty header.params) T.domain.predicates && list_all (λ header. is_empty header.params) T.domain.functions && list_all is_action_variable_free T.domain.actions
+    && is_constraint_variable_free T.domain.constraints.body && is_goal_variable_free T.problem.goal.body && is_constraint_variable_free T.problem.constraints.body
 
 abbrev pub IsVariableFree : Task → Type 0
 IsVariableFree T = IsTrue (is_variable_free T)
@@ -141,13 +138,9 @@ steps_of T action = map (λ tuple. record { action = action.name.name; args = tu
 unfoldable pub steps : Task → List Step
 steps T = flat_map (steps_of T) T.domain.actions
 
--- `s`, the number and `v`: what the names of the copies of a step begin with
-abbrev pub copy_prefix : ℕ → Name
-copy_prefix number = codes "s" ++ decimal number ++ codes "v"
-
 -- a step of the written task counts as the step of a number where its name has the prefix of that number, and it has no arguments
 abbrev pub counts_as : Step → ℕ × Step → Bool
-counts_as written numbered = is_empty written.args && starts_with ◌==◌ written.action (copy_prefix numbered.0)
+counts_as written numbered = is_empty written.args && is_copy_of numbered.0 written.action
 
 -- the step as which a step of the written task counts, if it does
 unfoldable pub lifted_step : Task → Step → Option Step
@@ -156,25 +149,3 @@ lifted_step T written = option_map (λ (numbered : ℕ × Step). numbered.1) (fi
 -- the steps as which the written steps count; the others are dropped
 unfoldable pub lift : Task → Plan → Plan
 lift T plan = filter_map (lifted_step T) plan
-
--- ---- faithful translations
-
--- a valid plan of the written task is one of the task read, and its cost is the loss above the base
-pub record IsSound (T U : Task) (q : Plan) : Type 0 where
-  pub valid : Valid T (lift T q)
-  pub cost : value U q ≡ loss T (lift T q) -ℤ base_loss T
-
--- exactly one valid plan of the written task lifts to the plan
-pub record HasOneSource (T U : Task) (p : Plan) : Type 0 where
-  pub source : Plan
-  pub valid : Valid U source
-  pub lifts : lift T source ≡ p
-  pub only : (q : Plan) → Valid U q → lift T q ≡ p → q ≡ source
-
-pub record Faithful (T U : Task) : Type 0 where
-  pub well_formed : WellFormed U
-  pub plain : Plain U
-  pub variable_free : IsVariableFree U
-  pub sound : (q : Plan) → Valid U q → IsSound T U q
-  pub one_to_one : (p : Plan) → Valid T p → HasOneSource T U p
-  pub length : (q : Plan) → Valid U q → length q ≡ length (lift T q) + 1 + length (instances T)

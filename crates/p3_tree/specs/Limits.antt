@@ -4,9 +4,9 @@ use Rattle.p3_tree.specs.Folds.{fold_formula, fold_effect, fold_goal, fold_const
 use Rattle.p3_tree.specs.Names.{Name, same_name}
 use Rattle.p3_tree.specs.Types.{objects}
 use Rattle.p3_tree.specs.Goals.{StatePref, prefs}
-use Rattle.p3_tree.specs.Costs.{numeral_value, increases}
+use Rattle.p3_tree.specs.Costs.{cost_units, increases}
 use Rattle.p3_tree.specs.Constraints.{instances}
-use Rattle.p3_tree.specs.Metrics.{num_value, no_counts, one_count, weight, cost_weight}
+use Rattle.p3_tree.specs.Metrics.{quantity, no_counts, one_count, weight, cost_weight}
 use Rattle.p3_tree.specs.Lifting.{steps}
 use Rattle.p3_tree.specs.declared.term.Typed.{Typed}
 use Rattle.p3_tree.specs.declared.formula.Formula.{Formula}
@@ -107,27 +107,29 @@ unfoldable pub width : Task → Action → ℕ
 width T action = count_by (λ (pref : StatePref). int_lt (pos 0) (weight_of T pref.name)) (action_prefs T action)
 
 -- the value, where the entry is of the function
-abbrev pub value_of_entry : Name → Init → Option ℕ
-value_of_entry function (init.Value other args number) = if same_name other.name function then Some (numeral_value number) else None
-value_of_entry function (init.True pred args) = None
-value_of_entry function (init.False pred args) = None
+abbrev pub value_of_entry : Task → Name → Init → Option ℕ
+value_of_entry T function (init.Value other args number) = if same_name other.name function then Some (cost_units T number) else None
+value_of_entry T function (init.True pred args) = None
+value_of_entry T function (init.False pred args) = None
 
 -- the number, or the greatest value that the initial state gives to the function, 0 where it gives none
 abbrev pub greatest_amount : Task → Amount → ℕ
-greatest_amount T (amount.Number numeral) = numeral_value numeral
-greatest_amount T (amount.Value function args) = fold max 0 (filter_map (value_of_entry function.name) T.problem.init)
+greatest_amount T (amount.Number numeral) = cost_units T numeral
+greatest_amount T (amount.Value function args) = fold max 0 (filter_map (value_of_entry T function.name) T.problem.init)
 
 -- the cost bound: the weighted costs, and the weights of all preferences of the precondition
 unfoldable pub cost_bound : Task → Action → ℤ
 cost_bound T action = cost_weight T *ℤ pos (sum_by (greatest_amount T) (increases action.effect.body)) +ℤ fold ◌+ℤ◌ (pos 0) (map (λ (pref : StatePref). weight_of T pref.name) (action_prefs T action))
 
--- ---- coefficients of a metric expression
+-- ---- coefficients of a metric expression, in its own units
 
-abbrev pub constant : Num → ℤ
-constant num = num_value no_counts 0 num
+-- where all counts and the total cost are 0
+abbrev pub constant : Task → Num → ℤ
+constant T num = (quantity T no_counts 0 num).units
 
-abbrev pub coefficient : Num → Name → ℤ
-coefficient num name = num_value (one_count name) 0 num -ℤ constant num
+-- what one count adds, and what one unit of the total cost adds
+abbrev pub coefficient : Task → Num → Name → ℤ
+coefficient T num name = (quantity T (one_count name) 0 num).units -ℤ constant T num
 
-abbrev pub cost_coefficient : Num → ℤ
-cost_coefficient num = num_value no_counts 1 num -ℤ constant num
+abbrev pub cost_coefficient : Task → Num → ℤ
+cost_coefficient T num = (quantity T no_counts 1 num).units -ℤ constant T num

@@ -7,10 +7,11 @@ use Rattle.p3_tree.specs.Bindings.{bind, are_arguments}
 use Rattle.p3_tree.specs.Formulas.{holds}
 use Rattle.p3_tree.specs.Effects.{adds, dels, next}
 use Rattle.p3_tree.specs.Goals.{hard_holds, prefs}
+use Rattle.p3_tree.specs.Costs.{cost_places}
 use Rattle.p3_tree.specs.Plans.{Plan, step_cost, fits, state_after, visited, Reached}
-use Rattle.p3_tree.specs.Constraints.{satisfies, sat, hard_list, instances}
+use Rattle.p3_tree.specs.Constraints.{satisfies, sat, hard_list, operators, instances}
 use Rattle.p3_tree.specs.Validity.{is_valid, first_fault}
-use Rattle.p3_tree.specs.Metrics.{violated, cost, value, loss, base_loss, weight, cost_weight}
+use Rattle.p3_tree.specs.Metrics.{violated, cost, metric_places, value, loss, base_loss, weight, cost_weight}
 use Rattle.p3_tree.specs.Offences.{WellFormed}
 use Rattle.p3_tree.specs.Lifting.{is_plain, is_variable_free, steps, lift}
 use Rattle.p3_tree.specs.Limits.{formula_size, effect_size, goal_size, constraint_size, width, cost_bound, constant, coefficient, cost_coefficient}
@@ -42,6 +43,7 @@ pub record OffsetFree (T : Task) : Type 0 where
   pub hard_holds : (s : State) (env : Environment) (g : PreGoal) → hard_holds (erased T) s env (erased_goal g) ≡ hard_holds T s env g
   pub prefs : (env : Environment) (g : PreGoal) → prefs (erased T) env (erased_goal g) ≡ map erased_state_pref (prefs T env g)
   -- steps and plans
+  pub cost_places : cost_places (erased T) ≡ cost_places T
   pub step_cost : (step : Step) → step_cost (erased T) step ≡ step_cost T step
   pub fits : (s : State) (step : Step) → fits (erased T) s step ≡ fits T s step
   pub state_after : (s : State) (step : Step) → state_after (erased T) s step ≡ state_after T s step
@@ -51,12 +53,14 @@ pub record OffsetFree (T : Task) : Type 0 where
   pub satisfies : (W : List State) (env : Environment) (m : Modal) → satisfies (erased T) W env (erased_modal m) ≡ satisfies T W env m
   pub sat : (W : List State) (env : Environment) (c : Constraint) → sat (erased T) W env (erased_constraint c) ≡ sat T W env c
   pub hard_list : hard_list (erased T) ≡ map erased_hard_modal (hard_list T)
+  pub operators : (env : Environment) (c : Constraint) → operators (erased T) env (erased_constraint c) ≡ map erased_hard_modal (operators T env c)
   pub instances : instances (erased T) ≡ map erased_instance (instances T)
   -- validity, counts and the metric
   pub is_valid : (plan : Plan) → is_valid (erased T) plan ≡ is_valid T plan
   pub first_fault : (plan : Plan) → first_fault (erased T) plan ≡ first_fault T plan
   pub violated : (plan : Plan) (name : Name) → violated (erased T) plan name ≡ violated T plan name
   pub cost : (plan : Plan) → cost (erased T) plan ≡ cost T plan
+  pub metric_places : metric_places (erased T) ≡ metric_places T
   pub value : (plan : Plan) → value (erased T) plan ≡ value T plan
   pub loss : (plan : Plan) → loss (erased T) plan ≡ loss T plan
   pub base_loss : base_loss (erased T) ≡ base_loss T
@@ -75,6 +79,6 @@ pub record OffsetFree (T : Task) : Type 0 where
   pub constraint_size : (c : Constraint) → constraint_size (erased T) (erased_constraint c) ≡ constraint_size T c
   pub width : (action : Action) → width (erased T) (erased_action action) ≡ width T action
   pub cost_bound : (action : Action) → cost_bound (erased T) (erased_action action) ≡ cost_bound T action
-  pub constant : (num : Num) → constant (erased_num num) ≡ constant num
-  pub coefficient : (num : Num) (name : Name) → coefficient (erased_num num) name ≡ coefficient num name
-  pub cost_coefficient : (num : Num) → cost_coefficient (erased_num num) ≡ cost_coefficient num
+  pub constant : (num : Num) → constant (erased T) (erased_num num) ≡ constant T num
+  pub coefficient : (num : Num) (name : Name) → coefficient (erased T) (erased_num num) name ≡ coefficient T num name
+  pub cost_coefficient : (num : Num) → cost_coefficient (erased T) (erased_num num) ≡ cost_coefficient T num

@@ -1,5 +1,5 @@
 -- Texts of plans (the plan files of the planning competitions): for each step `(`, its action, its arguments and `)`.
-use Rattle.std.specs.Prelude.{◌≡◌, ℕ, ◌+◌, ◌≤◌, ◌==◌, nat_lt, Bool, false, not, ◌||◌, List, [], ◌∷◌, ◌++◌, map, flat_map, length, if◌then◌else◌, Option, Some, None, IsTrue}
+use Rattle.std.specs.Prelude.{◌≡◌, ℕ, ◌+◌, ◌==◌, nat_lt, Bool, false, not, ◌||◌, List, [], ◌∷◌, ◌++◌, map, flat_map, length, if◌then◌else◌, Option, Some, None, IsTrue}
 use Rattle.std.specs.List.{list_all}
 use Rattle.p3_base.specs.declared.refusal.Code.{Code}
 use Rattle.p3_base.specs.declared.refusal.Code.TheVariants.{BadByte, Unbalanced, Malformed, TooManySteps}

@@ -1,8 +1,11 @@
 pub mod Build
+pub mod Decimals
 pub mod FirstExample
 pub mod Limits
+pub mod Lines
 pub mod Offences
 pub mod Preferences
+pub mod Refusals
 pub mod Steps
 pub mod Texts
 pub mod Trajectories

@@ -1,6 +1,9 @@
 //! Laws of the definitions. Each is the contract of a function without a body.
 
 ghost use Rattle.std.specs.Prelude.{◌≡◌, ◌⊎◌, ◌↔◌, ◌&&◌, ◌||◌, not, ℕ, List, IsTrue};
+ghost use Rattle.p3_base.specs.declared.refusal.Refusal.{Refusal};
+ghost use Rattle.p3_base.specs.declared.refusal.Side.{Side};
+ghost use Rattle.p3_tree.specs.Refusals.First.{AreAccepted, Given, IsFirstRefusal, given_task};
 ghost use Rattle.p3_tree.specs.declared.term.Ref.{Ref};
 ghost use Rattle.p3_tree.specs.declared.term.Typed.{Typed};
 ghost use Rattle.p3_tree.specs.declared.formula.Formula.{Formula};
@@ -16,12 +19,14 @@ ghost use Rattle.p3_tree.specs.Plans.{Plan};
 ghost use Rattle.p3_tree.specs.Validity.{Valid, first_fault};
 ghost use Rattle.p3_tree.specs.Offences.{WellFormed};
 ghost use Rattle.p3_tree.specs.FirstOffence.{first_offence};
-ghost use Rattle.p3_tree.specs.Lifting.{lift, Faithful};
+ghost use Rattle.p3_tree.specs.Lifting.{lift};
+ghost use Rattle.p3_tree.specs.Faithful.{Faithful};
 ghost use Rattle.p3_tree.specs.Laws.{Chain, IsCheapest, IsBest, StateCounts, TrajectoryCounts};
 ghost use Rattle.p3_tree.specs.Grammar.Texts.{Reads};
 ghost use Rattle.p3_tree.specs.Erased.{erased};
 ghost use Rattle.p3_tree.specs.Offsets.{OffsetFree};
-ghost use Rattle.p3_tree.specs.Worked.FirstExample.{read, written, FirstExample};
+ghost use Rattle.p3_tree.specs.Worked.FirstExample.{FirstExample};
+ghost use Rattle.p3_tree.specs.Worked.Decimals.{NumbersWithAPoint};
 ghost use Rattle.p3_tree.specs.Worked.Limits.{CountsForLimits};
 ghost use Rattle.p3_tree.specs.Worked.Offences.{DomainOffences, ProblemOffences};
 ghost use Rattle.p3_tree.specs.Worked.Preferences.{ATypeMayHaveNoObjects, CountsOfOneNameAdd, GreatValuesMayBeBetter};
@@ -75,11 +80,6 @@ pub fn offsets_have_no_meaning()
     ensures faithful { (T U : Task) → Faithful (erased T) (erased U) ↔ Faithful T U }
 {}
 
-/// What is written for the first example is a faithful translation of it.
-pub fn first_example_is_faithful()
-    ensures { Faithful read written }
-{}
-
 /// What small tasks mean.
 pub fn worked_cases()
     ensures first_example { FirstExample }
@@ -97,6 +97,22 @@ pub fn worked_cases()
     ensures domain_offences { DomainOffences }
     ensures problem_offences { ProblemOffences }
     ensures limits { CountsForLimits }
+    ensures decimals { NumbersWithAPoint }
     ensures texts { TextsOfTasks }
     ensures refused { TextsOfNoTask }
+{}
+
+/// What a command reads shows one first refusal at most.
+pub fn one_first_refusal()
+    ensures {
+        (given : Given) (r s : Refusal) → IsFirstRefusal given r → IsFirstRefusal given s → r ≡ s
+    }
+{}
+
+/// Nothing is refused of accepted texts.
+pub fn accepted_texts_are_not_refused()
+    ensures {
+        (side : Side) (d p : List ℕ) (T : Task) → AreAccepted side d p T
+        → (r : Refusal) → IsFirstRefusal (given_task side d p) r → ⊥
+    }
 {}

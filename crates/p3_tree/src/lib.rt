@@ -6,8 +6,10 @@ mod effect;
 mod expression;
 mod formula;
 mod goal;
+mod groundwork;
 mod laws;
 mod metric;
+mod printed;
 mod state;
 mod task;
 mod term;
@@ -17,12 +19,18 @@ pub use effect::{Amount, Effect, Numeral};
 pub use expression::Expression;
 pub use formula::Formula;
 pub use goal::{PreGoal, Pref};
+pub use groundwork::{
+    all_uses_are_known, conjuncts_hold, constraints_are_their_operators,
+    effects_are_their_literals, preferences_are_the_same_for_all_arguments, static_atoms_stay,
+    steps_have_one_number,
+};
 pub use laws::{
-    atoms_of_the_next_state, below_is_the_closure, counts_by_place, first_example_is_faithful,
-    offsets_have_no_meaning, one_task_at_most, optima_are_kept, valid_where_no_fault,
-    well_formed_where_no_offence, worked_cases,
+    accepted_texts_are_not_refused, atoms_of_the_next_state, below_is_the_closure, counts_by_place, offsets_have_no_meaning,
+    one_first_refusal, one_task_at_most, optima_are_kept, valid_where_no_fault, well_formed_where_no_offence,
+    worked_cases,
 };
 pub use metric::{Metric, Num};
+pub use printed::{printed_cases, refused_cases};
 pub use state::{Binding, Fact};
 pub use task::{Action, Domain, Header, Init, Kind, Part, Plan, Problem, Step, Task};
 pub use term::{Ref, Term, Typed};

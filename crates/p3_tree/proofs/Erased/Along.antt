@@ -1,5 +1,5 @@
 -- Functions over a list of images, where each image gives what its item gives.
-use Rattle.std.proofs.Common.{◌≡◌, ◌∙◌, ◌+◌, refl, sym, ap, Bool, true, false, ◌&&◌, ◌||◌, List, [], ◌∷◌, ◌++◌, map, Option, Some, cond}
+use Rattle.std.proofs.Common.{◌≡◌, ◌∙◌, ◌+◌, refl, sym, ap, Bool, true, false, ◌&&◌, ◌||◌, List, [], ◌∷◌, ◌++◌, map, Option, Some, None, cond}
 use Rattle.std.specs.Prelude.{flat_map, filter_map, find, fold, option_map}
 use Rattle.std.specs.List.{list_any, list_all, prefix_len, cons_option}
 use Rattle.std.proofs.lemmas.List.{map-append}
@@ -47,6 +47,14 @@ module _ {A B : Type 0} (f : A → B) where
       pub flat_map_into : (p : B → List D) (q : A → List C) → ((x : A) → p (f x) ≡ map g (q x)) → (xs : List A) → flat_map p (map f xs) ≡ map g (flat_map q xs)
       flat_map_into p q same [] = refl
       flat_map_into p q same (x ∷ xs) = (λ i. same x i ++ flat_map_into p q same xs i) ∙ sym (map-append g (q x) (flat_map q xs))
+
+      pub filter_map_into : (p : B → Option D) (q : A → Option C) → ((x : A) → p (f x) ≡ option_map g (q x)) → (xs : List A) → filter_map p (map f xs) ≡ map g (filter_map q xs)
+      filter_map_into p q same [] = refl
+      filter_map_into p q same (x ∷ xs) = (λ i. cons_option (same x i) (filter_map_into p q same xs i)) ∙ one (q x) (filter_map q xs)
+        where
+          one : (found : Option C) (rest : List C) → cons_option (option_map g found) (map g rest) ≡ map g (cons_option found rest)
+          one None rest = refl
+          one (Some item) rest = refl
 
 -- of one list
 pub flat_map_images : {A C D : Type 0} (g : C → D) (p : A → List D) (q : A → List C) → ((x : A) → p x ≡ map g (q x)) → (xs : List A) → flat_map p xs ≡ map g (flat_map q xs)

@@ -6,7 +6,7 @@ use Rattle.p3_base.specs.declared.refusal.Direction.{Direction}
 use Rattle.p3_base.specs.declared.refusal.Direction.TheVariants.{Minimize, Maximize}
 use Rattle.p3_tree.specs.Names.{is_empty}
 use Rattle.p3_tree.specs.Plans.{Plan}
-use Rattle.p3_tree.specs.Lifting.{constrains, constrains_layer, prefers, prefers_layer, is_cost_metric, is_plain, is_formula_free, formula_layer, is_effect_free, effect_layer, is_goal_free, goal_layer, is_modal_free, is_constraint_free, constraint_layer, is_action_free, is_variable_free, steps_of, steps, counts_as, lifted_step, lift}
+use Rattle.p3_tree.specs.Lifting.{constrains, constrains_layer, prefers, prefers_layer, is_cost_metric, is_plain, is_formula_variable_free, formula_layer, is_effect_variable_free, effect_layer, is_goal_variable_free, goal_layer, is_modal_variable_free, is_constraint_variable_free, constraint_layer, is_action_variable_free, is_variable_free, steps_of, steps, counts_as, lifted_step, lift}
 use Rattle.p3_tree.specs.Erased.{erased_typed, erased_formula, erased_effect, erased_goal, erased_modal, erased_constraint, erased_num, erased_metric, erased_kind, erased_header, erased_action, erased}
 use Rattle.p3_tree.proofs.Erased.Along.{any_along, all_along, flat_map_along}
 use Rattle.p3_tree.proofs.Erased.Folds.{erased_formula_layer, fold_formula-erased, erased_effect_layer, fold_effect-erased, erased_goal_layer, fold_goal-erased, erased_constraint_layer, fold_constraint-erased}
@@ -88,56 +88,56 @@ formula_layer-erased (formula.And parts) = all_parts parts
 formula_layer-erased (formula.Or parts) = all_parts parts
 formula_layer-erased _ = refl
 
-is_formula_free-erased : (f : Formula) → is_formula_free (erased_formula f) ≡ is_formula_free f
-unfolding is_formula_free
-is_formula_free-erased f = fold_formula-erased formula_layer formula_layer itself formula_layer-erased f
+is_formula_variable_free-erased : (f : Formula) → is_formula_variable_free (erased_formula f) ≡ is_formula_variable_free f
+unfolding is_formula_variable_free
+is_formula_variable_free-erased f = fold_formula-erased formula_layer formula_layer itself formula_layer-erased f
 
 effect_layer-erased : (x : Effect-F Bool) → effect_layer (erased_effect_layer itself x) ≡ effect_layer x
 effect_layer-erased (effect.All parts) = all_parts parts
-effect_layer-erased (effect.If condition body) = ap (λ free. free && body) (is_formula_free-erased condition)
+effect_layer-erased (effect.If condition body) = ap (λ free. free && body) (is_formula_variable_free-erased condition)
 effect_layer-erased _ = refl
 
-is_effect_free-erased : (e : Effect) → is_effect_free (erased_effect e) ≡ is_effect_free e
-unfolding is_effect_free
-is_effect_free-erased e = fold_effect-erased effect_layer effect_layer itself effect_layer-erased e
+is_effect_variable_free-erased : (e : Effect) → is_effect_variable_free (erased_effect e) ≡ is_effect_variable_free e
+unfolding is_effect_variable_free
+is_effect_variable_free-erased e = fold_effect-erased effect_layer effect_layer itself effect_layer-erased e
 
 goal_layer-erased : (x : PreGoal-F Bool) → goal_layer (erased_goal_layer itself x) ≡ goal_layer x
-goal_layer-erased (goal.Plain body) = is_formula_free-erased body
+goal_layer-erased (goal.Plain body) = is_formula_variable_free-erased body
 goal_layer-erased (goal.Both parts) = all_parts parts
 goal_layer-erased (goal.Each variables body) = refl
-goal_layer-erased (goal.Soft pref) = is_formula_free-erased pref.body
+goal_layer-erased (goal.Soft pref) = is_formula_variable_free-erased pref.body
 
-is_goal_free-erased : (g : PreGoal) → is_goal_free (erased_goal g) ≡ is_goal_free g
-unfolding is_goal_free
-is_goal_free-erased g = fold_goal-erased goal_layer goal_layer itself goal_layer-erased g
+is_goal_variable_free-erased : (g : PreGoal) → is_goal_variable_free (erased_goal g) ≡ is_goal_variable_free g
+unfolding is_goal_variable_free
+is_goal_variable_free-erased g = fold_goal-erased goal_layer goal_layer itself goal_layer-erased g
 
-is_modal_free-erased : (m : Modal) → is_modal_free (erased_modal m) ≡ is_modal_free m
-is_modal_free-erased (modal.AtEnd f) = is_formula_free-erased f
-is_modal_free-erased (modal.Always f) = is_formula_free-erased f
-is_modal_free-erased (modal.Sometime f) = is_formula_free-erased f
-is_modal_free-erased (modal.AtMostOnce f) = is_formula_free-erased f
-is_modal_free-erased (modal.SometimeAfter f g) = λ i. is_formula_free-erased f i && is_formula_free-erased g i
-is_modal_free-erased (modal.SometimeBefore f g) = λ i. is_formula_free-erased f i && is_formula_free-erased g i
+is_modal_variable_free-erased : (m : Modal) → is_modal_variable_free (erased_modal m) ≡ is_modal_variable_free m
+is_modal_variable_free-erased (modal.AtEnd f) = is_formula_variable_free-erased f
+is_modal_variable_free-erased (modal.Always f) = is_formula_variable_free-erased f
+is_modal_variable_free-erased (modal.Sometime f) = is_formula_variable_free-erased f
+is_modal_variable_free-erased (modal.AtMostOnce f) = is_formula_variable_free-erased f
+is_modal_variable_free-erased (modal.SometimeAfter f g) = λ i. is_formula_variable_free-erased f i && is_formula_variable_free-erased g i
+is_modal_variable_free-erased (modal.SometimeBefore f g) = λ i. is_formula_variable_free-erased f i && is_formula_variable_free-erased g i
 
 constraint_layer-erased : (x : Constraint-F Bool) → constraint_layer (erased_constraint_layer itself x) ≡ constraint_layer x
 constraint_layer-erased (constraint.Both parts) = all_parts parts
-constraint_layer-erased (constraint.Single operator) = is_modal_free-erased operator
+constraint_layer-erased (constraint.Single operator) = is_modal_variable_free-erased operator
 constraint_layer-erased _ = refl
 
-is_constraint_free-erased : (c : Constraint) → is_constraint_free (erased_constraint c) ≡ is_constraint_free c
-unfolding is_constraint_free
-is_constraint_free-erased c = fold_constraint-erased constraint_layer constraint_layer itself constraint_layer-erased c
+is_constraint_variable_free-erased : (c : Constraint) → is_constraint_variable_free (erased_constraint c) ≡ is_constraint_variable_free c
+unfolding is_constraint_variable_free
+is_constraint_variable_free-erased c = fold_constraint-erased constraint_layer constraint_layer itself constraint_layer-erased c
 
-is_action_free-erased : (action : Action) → is_action_free (erased_action action) ≡ is_action_free action
-is_action_free-erased action = λ i. is_empty-map erased_typed action.params i && is_goal_free-erased action.pre.body i && is_effect_free-erased action.effect.body i
+is_action_variable_free-erased : (action : Action) → is_action_variable_free (erased_action action) ≡ is_action_variable_free action
+is_action_variable_free-erased action = λ i. is_empty-map erased_typed action.params i && is_goal_variable_free-erased action.pre.body i && is_effect_variable_free-erased action.effect.body i
 
 pub is_variable_free-erased : (T : Task) → is_variable_free (erased T) ≡ is_variable_free T
 unfolding is_variable_free
 is_variable_free-erased T = λ i. is_empty-map erased_kind T.domain.kinds i && is_empty-map erased_typed T.domain.constants i && is_empty-map erased_typed T.problem.objects i
     && all_along erased_header (λ header. is_empty header.params) (λ header. is_empty header.params) (λ header. is_empty-map erased_typed header.params) T.domain.predicates i
     && all_along erased_header (λ header. is_empty header.params) (λ header. is_empty header.params) (λ header. is_empty-map erased_typed header.params) T.domain.functions i
-    && all_along erased_action is_action_free is_action_free is_action_free-erased T.domain.actions i
-    && is_constraint_free-erased T.domain.constraints.body i && is_goal_free-erased T.problem.goal.body i && is_constraint_free-erased T.problem.constraints.body i
+    && all_along erased_action is_action_variable_free is_action_variable_free is_action_variable_free-erased T.domain.actions i
+    && is_constraint_variable_free-erased T.domain.constraints.body i && is_goal_variable_free-erased T.problem.goal.body i && is_constraint_variable_free-erased T.problem.constraints.body i
 
 -- ---- steps and lifting
 

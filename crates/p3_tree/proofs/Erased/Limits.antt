@@ -1,18 +1,18 @@
 -- The counts for limits are the same without offsets.
 use Rattle.std.proofs.Common.{◌≡◌, ◌∙◌, ℕ, ◌+◌, ◌*◌, refl, ap, List, [], map, length, Option, None, Some, cond, pos, ◌+ℤ◌, ◌-ℤ◌, ◌*ℤ◌}
-use Rattle.std.specs.Prelude.{fold, sum, sum_by, max, int_lt}
+use Rattle.std.specs.Prelude.{if◌then◌else◌, fold, sum, sum_by, max, int_lt}
 use Rattle.std.proofs.lemmas.List.{map-id}
-use Rattle.p3_tree.specs.Names.{Name}
+use Rattle.p3_tree.specs.Names.{Name, same_name}
 use Rattle.p3_tree.specs.Goals.{StatePref}
 use Rattle.p3_tree.specs.Costs.{increases}
-use Rattle.p3_tree.specs.Metrics.{no_counts, one_count}
+use Rattle.p3_tree.specs.Metrics.{Quantity, quantity, no_counts, one_count}
 use Rattle.p3_tree.specs.Limits.{binding_count, formula_size, formula_layer, effect_size, effect_layer, goal_size, goal_layer, modal_size, constraint_size, constraint_layer, weight_of, action_prefs, width, value_of_entry, greatest_amount, cost_bound, constant, coefficient, cost_coefficient}
 use Rattle.p3_tree.specs.Erased.{erased_typed, erased_all_typed, erased_amount, erased_formula, erased_effect, erased_goal, erased_modal, erased_constraint, erased_num, erased_action, erased_init, erased, erased_state_pref}
 use Rattle.p3_tree.proofs.Erased.Along.{fold_along, map_along, filter_map_along}
 use Rattle.p3_tree.proofs.Erased.Folds.{erased_formula_layer, fold_formula-erased, erased_effect_layer, fold_effect-erased, erased_goal_layer, fold_goal-erased, erased_constraint_layer, fold_constraint-erased}
 use Rattle.p3_tree.proofs.Erased.Words.{objects-erased}
-use Rattle.p3_tree.proofs.Erased.Meanings.{increases-erased, prefs-erased}
-use Rattle.p3_tree.proofs.Erased.Plans.{num_value-erased, weight-erased, cost_weight-erased}
+use Rattle.p3_tree.proofs.Erased.Meanings.{prefs-erased, increases-erased, cost_units-erased}
+use Rattle.p3_tree.proofs.Erased.Plans.{quantity-erased, weight-erased, cost_weight-erased}
 use Rattle.p3_tree.specs.declared.term.Typed.{Typed}
 use Rattle.p3_tree.specs.declared.formula.Formula.{Formula, Formula-F}
 use Rattle.p3_tree.specs.declared.formula.Formula.TheOpen as formula
@@ -107,13 +107,13 @@ module _ (T : Task) where
       ap (fold (λ count (pref : StatePref). count + cond (int_lt (pos 0) (weight_of (erased T) pref.name)) 1 0) 0) (action_prefs-erased action)
       ∙ fold_along erased_state_pref _ _ (λ count pref i. count + cond (int_lt (pos 0) (weight_of-erased pref.name i)) 1 0) 0 (action_prefs T action)
 
-  value_of_entry-erased : (function : Name) (entry : Init) → value_of_entry function (erased_init entry) ≡ value_of_entry function entry
-  value_of_entry-erased function (init.Value other args number) = refl
+  value_of_entry-erased : (function : Name) (entry : Init) → value_of_entry (erased T) function (erased_init entry) ≡ value_of_entry T function entry
+  value_of_entry-erased function (init.Value other args number) = ap (λ units. if same_name other.name function then Some units else None) (cost_units-erased T number)
   value_of_entry-erased function _ = refl
 
   greatest_amount-erased : (a : Amount) → greatest_amount (erased T) (erased_amount a) ≡ greatest_amount T a
-  greatest_amount-erased (amount.Number numeral) = refl
-  greatest_amount-erased (amount.Value function args) = ap (fold max 0) (filter_map_along erased_init (value_of_entry function.name) (value_of_entry function.name) (value_of_entry-erased function.name) T.problem.init)
+  greatest_amount-erased (amount.Number numeral) = cost_units-erased T numeral
+  greatest_amount-erased (amount.Value function args) = ap (fold max 0) (filter_map_along erased_init (value_of_entry (erased T) function.name) (value_of_entry T function.name) (value_of_entry-erased function.name) T.problem.init)
 
   amounts-erased : (action : Action) → sum_by (greatest_amount (erased T)) (increases (erased_action action).effect.body) ≡ sum_by (greatest_amount T) (increases action.effect.body)
   amounts-erased action = ap (sum_by (greatest_amount (erased T))) (increases-erased action.effect.body) ∙ fold_along erased_amount _ _ (λ sum a i. sum + greatest_amount-erased a i) 0 (increases action.effect.body)
@@ -125,11 +125,16 @@ module _ (T : Task) where
   unfolding cost_bound
   cost_bound-erased action = λ i. cost_weight-erased T i *ℤ pos (amounts-erased action i) +ℤ fold ◌+ℤ◌ (pos 0) (weights-erased action i)
 
-pub constant-erased : (num : Num) → constant (erased_num num) ≡ constant num
-constant-erased num = num_value-erased no_counts 0 num
+  -- ---- coefficients
 
-pub coefficient-erased : (num : Num) (name : Name) → coefficient (erased_num num) name ≡ coefficient num name
-coefficient-erased num name = λ i. num_value-erased (one_count name) 0 num i -ℤ constant-erased num i
+  units-erased : (counts : Name → ℕ) (total : ℕ) (num : Num) → (quantity (erased T) counts total (erased_num num)).units ≡ (quantity T counts total num).units
+  units-erased counts total num = ap (λ (whole : Quantity). whole.units) (quantity-erased T counts total num)
 
-pub cost_coefficient-erased : (num : Num) → cost_coefficient (erased_num num) ≡ cost_coefficient num
-cost_coefficient-erased num = λ i. num_value-erased no_counts 1 num i -ℤ constant-erased num i
+  pub constant-erased : (num : Num) → constant (erased T) (erased_num num) ≡ constant T num
+  constant-erased num = units-erased no_counts 0 num
+
+  pub coefficient-erased : (num : Num) (name : Name) → coefficient (erased T) (erased_num num) name ≡ coefficient T num name
+  coefficient-erased num name = λ i. units-erased (one_count name) 0 num i -ℤ constant-erased num i
+
+  pub cost_coefficient-erased : (num : Num) → cost_coefficient (erased T) (erased_num num) ≡ cost_coefficient T num
+  cost_coefficient-erased num = λ i. units-erased no_counts 1 num i -ℤ constant-erased num i

@@ -1,23 +1,24 @@
 -- Plans, their faults and their values are the same without offsets.
-use Rattle.std.proofs.Common.{◌≡◌, ◌∙◌, ◌↔◌, ℕ, ◌+◌, refl, sym, ap, not, ◌&&◌, List, [], ◌∷◌, map, Option, None, Some, is_some, ltb, cond, ℤ, pos, ◌-ℤ◌, ◌+ℤ◌, ◌*ℤ◌}
+use Rattle.std.proofs.Common.{◌≡◌, ◌∙◌, ◌↔◌, ℕ, ◌+◌, refl, sym, ap, not, ◌&&◌, List, [], ◌∷◌, map, Option, None, Some, is_some, ltb, cond, pos, ◌-ℤ◌}
 use Rattle.std.specs.Prelude.{filter_map, slice_get, option_map, option_and_then, position, if◌then◌else◌, zip, sum_by, unwrap_or}
 use Rattle.std.specs.Option.{option_or}
 use Rattle.std.specs.List.{list_all, enumerate_from, prefix_len}
-use Rattle.std.proofs.lemmas.List.{length-map}
+use Rattle.std.proofs.lemmas.List.{length-map, map-id}
+use Rattle.p3_tree.specs.Folds.{fold_num}
 use Rattle.p3_tree.specs.Names.{Name, total_cost}
 use Rattle.p3_tree.specs.States.{has_fact, State, start}
 use Rattle.p3_tree.specs.Effects.{next}
 use Rattle.p3_tree.specs.Goals.{StatePref, hard_holds, prefs}
-use Rattle.p3_tree.specs.Costs.{initial_cost, effect_cost}
+use Rattle.p3_tree.specs.Costs.{cost_places, initial_cost, effect_cost}
 use Rattle.p3_tree.specs.Plans.{Plan, action_named, arguments, cost_by, fits_by, state_by, step_cost, fits, state_after, visited_from, visited, last_state, moves, steps_fit, Reached}
 use Rattle.p3_tree.specs.Constraints.{HardModal, satisfies, hard_list, Instance, instances}
 use Rattle.p3_tree.specs.Validity.{goal_holds, is_met, is_valid, Arguments, Precondition, NoCost, misfit, misfit_by, AtStep, AtGoal, AtConstraint, step_fault, goal_fault, constraint_fault, first_fault}
-use Rattle.p3_tree.specs.Metrics.{is_called, unsatisfied, false_in, prefs_by, step_prefs, violated, cost, num_layer, num_value, value_by, direction_by, signed, loss_at, value, loss, no_counts, base_loss, one_count, weight, cost_weight}
+use Rattle.p3_tree.specs.Metrics.{is_called, unsatisfied, false_in, prefs_by, step_prefs, violated, cost, Quantity, sum_of, product_of, quantity_layer, quantity, quantity_by, metric_quantity, metric_places, direction_by, signed, loss_at, value, loss, no_counts, base_loss, one_count, weight, cost_weight}
 use Rattle.p3_tree.specs.Erased.{erased_action, erased_metric, erased_num, erased, erased_state_pref, erased_hard_modal, erased_instance}
 use Rattle.p3_tree.proofs.Erased.Along.{all_along, find_along, prefix_along, fold_along}
 use Rattle.p3_tree.proofs.Erased.Folds.{erased_num_layer, fold_num-erased}
 use Rattle.p3_tree.proofs.Erased.Words.{start-erased, extended-erased, are_arguments-erased}
-use Rattle.p3_tree.proofs.Erased.Meanings.{holds-erased, next-erased, hard_holds-erased, prefs-erased, given_value-erased, effect_cost-erased, satisfies-erased, sat-erased, hard_list-erased, instances-erased}
+use Rattle.p3_tree.proofs.Erased.Meanings.{holds-erased, next-erased, hard_holds-erased, prefs-erased, cost_places-erased, given_value-erased, effect_cost-erased, satisfies-erased, sat-erased, hard_list-erased, instances-erased}
 use Rattle.p3_tree.specs.declared.metric.Metric.{Metric}
 use Rattle.p3_tree.specs.declared.metric.Num.{Num, Num-F}
 use Rattle.p3_tree.specs.declared.metric.Num.TheOpen.{Number, TotalCost, Violated, Neg, Sub, Sum, Product}
@@ -171,34 +172,43 @@ module _ (T : Task) where
 
 -- ---- the metric
 
-num_layer-erased : (counts : Name → ℕ) (total : ℕ) (x : Num-F ℤ) → num_layer counts total (erased_num_layer (λ number. number) x) ≡ num_layer counts total x
-num_layer-erased counts total (Number numeral) = refl
-num_layer-erased counts total (TotalCost at) = refl
-num_layer-erased counts total (Violated name) = refl
-num_layer-erased counts total (Neg at part) = refl
-num_layer-erased counts total (Sub at first second) = refl
-num_layer-erased counts total (Sum at parts) = fold_along (λ number. number) ◌+ℤ◌ ◌+ℤ◌ (λ sum number. refl) (pos 0) parts
-num_layer-erased counts total (Product at parts) = fold_along (λ number. number) ◌*ℤ◌ ◌*ℤ◌ (λ product number. refl) (pos 1) parts
-
-pub num_value-erased : (counts : Name → ℕ) (total : ℕ) (num : Num) → num_value counts total (erased_num num) ≡ num_value counts total num
-unfolding num_value
-num_value-erased counts total num = fold_num-erased (num_layer counts total) (num_layer counts total) (λ number. number) (num_layer-erased counts total) num
-
-value_by-erased : (counts : Name → ℕ) (total : ℕ) (metric : Option Metric) → value_by counts total (option_map erased_metric metric) ≡ value_by counts total metric
-value_by-erased counts total None = refl
-value_by-erased counts total (Some metric) = num_value-erased counts total metric.body
+quantity_layer-erased : (counts : Name → ℕ) (total : Quantity) (x : Num-F Quantity) → quantity_layer counts total (erased_num_layer (λ part. part) x) ≡ quantity_layer counts total x
+quantity_layer-erased counts total (Number numeral) = refl
+quantity_layer-erased counts total (TotalCost at) = refl
+quantity_layer-erased counts total (Violated name) = refl
+quantity_layer-erased counts total (Neg at part) = refl
+quantity_layer-erased counts total (Sub at first second) = refl
+quantity_layer-erased counts total (Sum at parts) = ap sum_of (map-id parts)
+quantity_layer-erased counts total (Product at parts) = ap product_of (map-id parts)
 
 direction_by-erased : (metric : Option Metric) → direction_by (option_map erased_metric metric) ≡ direction_by metric
 direction_by-erased None = refl
 direction_by-erased (Some metric) = refl
 
 module _ (T : Task) where
+  pub quantity-erased : (counts : Name → ℕ) (total : ℕ) (num : Num) → quantity (erased T) counts total (erased_num num) ≡ quantity T counts total num
+  unfolding quantity
+  quantity-erased counts total num =
+      ap (λ places. fold_num (quantity_layer counts (record { places = places; units = pos total })) (erased_num num)) (cost_places-erased T)
+      ∙ fold_num-erased (quantity_layer counts _) (quantity_layer counts _) (λ part. part) (quantity_layer-erased counts (record { places = cost_places T; units = pos total })) num
+
+  quantity_by-erased : (counts : Name → ℕ) (total : ℕ) (metric : Option Metric) → quantity_by (erased T) counts total (option_map erased_metric metric) ≡ quantity_by T counts total metric
+  quantity_by-erased counts total None = refl
+  quantity_by-erased counts total (Some metric) = quantity-erased counts total metric.body
+
+  metric_quantity-erased : (counts : Name → ℕ) (total : ℕ) → metric_quantity (erased T) counts total ≡ metric_quantity T counts total
+  metric_quantity-erased counts total = quantity_by-erased counts total T.problem.metric
+
+  pub metric_places-erased : metric_places (erased T) ≡ metric_places T
+  unfolding metric_places
+  metric_places-erased = ap (λ (whole : Quantity). whole.places) (metric_quantity-erased no_counts 0)
+
   loss_at-erased : (counts : Name → ℕ) (total : ℕ) → loss_at (erased T) counts total ≡ loss_at T counts total
-  loss_at-erased counts total = λ i. signed (direction_by-erased T.problem.metric i) (value_by-erased counts total T.problem.metric i)
+  loss_at-erased counts total = λ i. signed (direction_by-erased T.problem.metric i) (metric_quantity-erased counts total i).units
 
   pub value-erased : (plan : Plan) → value (erased T) plan ≡ value T plan
   unfolding value
-  value-erased plan = (λ i. value_by (λ name. violated-erased T plan name i) (cost-erased T plan i) (option_map erased_metric T.problem.metric)) ∙ value_by-erased (violated T plan) (cost T plan) T.problem.metric
+  value-erased plan = ap (λ (whole : Quantity). whole.units) ((λ i. metric_quantity (erased T) (λ name. violated-erased T plan name i) (cost-erased T plan i)) ∙ metric_quantity-erased (violated T plan) (cost T plan))
 
   pub loss-erased : (plan : Plan) → loss (erased T) plan ≡ loss T plan
   unfolding loss

@@ -1,7 +1,8 @@
 -- Words, lists and places of the grammar. A place gives the tree of each of its texts, so that a text has one tree at most.
-use Rattle.std.specs.Prelude.{◌≡◌, ℕ, ◌+◌, ◌-◌, ◌*◌, Bool, List, [], ◌∷◌, map, fold, length, if◌then◌else◌, Option, Some, None}
+use Rattle.std.specs.Prelude.{◌≡◌, Bool, List, [], ◌∷◌, map, length, if◌then◌else◌, Option, Some, None}
 use mathlib.Core.Former.{Count}
-pub use Rattle.p3_base.specs.Words.{is_digit, is_name, is_variable, is_number, reserved_words, is_function_name, is_predicate_name}
+pub use Rattle.p3_base.specs.Words.{is_digit, is_name, is_variable, reserved_words, is_function_name, is_predicate_name}
+pub use Rattle.p3_tree.specs.Decimals.{is_decimal, digits_of, digits_value, places_of}
 use Rattle.p3_tree.specs.Names.{Name, same_name}
 use Rattle.p3_tree.specs.declared.expression.Expression.{Expression, Word, Group', Row_of-Expression, end_of-Expression, more_of-Expression}
 use Rattle.p3_tree.specs.declared.term.Ref.{Ref}
@@ -92,13 +93,10 @@ function_place = word_if is_function_name
 abbrev pub predicate_place : Place Ref
 predicate_place = word_if is_predicate_name
 
-abbrev pub digits_value : Name → ℕ
-digits_value digits = fold (λ value digit. value * 10 + (digit - 48)) 0 digits
-
 abbrev pub numeral_place : Place Numeral
 numeral_place e = do
-  word ← word_if is_number e
-  Some (record { at = word.at; len = length word.name; digits = digits_value word.name; places = 0 })
+  word ← word_if is_decimal e
+  Some (record { at = word.at; len = length word.name; digits = digits_value (digits_of word.name); places = places_of word.name })
 
 -- ---- lists that begin with a word
 

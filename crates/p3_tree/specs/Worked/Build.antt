@@ -42,8 +42,12 @@ typed word types = record { name = ref word; types = map ref types }
 abbrev pub part : {A : Type 0} → A → Part A
 part body = record { at = 0; body = body }
 
+-- digits of which so many stand behind a point
+abbrev pub decimal_numeral : ℕ → ℕ → Numeral
+decimal_numeral digits places = record { at = 0; len = 0; digits = digits; places = places }
+
 abbrev pub numeral : ℕ → Numeral
-numeral digits = record { at = 0; len = 0; digits = digits; places = 0 }
+numeral digits = decimal_numeral digits 0
 
 -- ---- formulas, effects and goals
 
@@ -76,8 +80,11 @@ metric direction body = Some (record { direction = direction; body = body })
 abbrev pub count : String → Num
 count name = num.Violated (ref name)
 
+abbrev pub weighted_by : Numeral → String → Num
+weighted_by weight name = num.Product 0 (num.Number weight ∷ count name ∷ [])
+
 abbrev pub weighted : ℕ → String → Num
-weighted weight name = num.Product 0 (num.Number (numeral weight) ∷ count name ∷ [])
+weighted weight name = weighted_by (numeral weight) name
 
 -- ---- declarations
 
@@ -102,8 +109,11 @@ fact pred args = init.True (ref pred) (map term args)
 abbrev pub facts : List String → List Init
 facts preds = map (λ pred. fact pred []) preds
 
+abbrev pub given_by : String → List String → Numeral → Init
+given_by function args value = init.Value (ref function) (map term args) value
+
 abbrev pub given : String → List String → ℕ → Init
-given function args value = init.Value (ref function) (map term args) (numeral value)
+given function args value = given_by function args (numeral value)
 
 -- ---- plans
 

@@ -7,19 +7,23 @@ use Rattle.p3_tree.specs.Validity.{Valid}
 use Rattle.p3_tree.specs.Metrics.{value, loss, base_loss, weight}
 use Rattle.p3_tree.specs.Offences.{WellFormed}
 use Rattle.p3_tree.specs.Lifting.{Plain, IsVariableFree, steps, lift}
-use Rattle.p3_tree.specs.Worked.Build.{ref, part, atom, add, del, increase_by, soft, metric, weighted, header, predicates, action, facts, given, step, bare_steps, no_goal, empty_domain, empty_problem}
+use Rattle.p3_tree.specs.Worked.Build.{ref, part, atom, add, del, increase_by, soft, metric, weighted_by, numeral, header, predicates, action, facts, given, step, bare_steps, no_goal, empty_domain, empty_problem}
 use Rattle.p3_tree.specs.declared.formula.Formula.TheVariants.{Not}
+use Rattle.p3_tree.specs.declared.effect.Numeral.{Numeral}
 use Rattle.p3_tree.specs.declared.effect.Effect.TheVariants as effect
 use Rattle.p3_tree.specs.declared.goal.PreGoal.TheVariants as goal
 use Rattle.p3_tree.specs.declared.metric.Num.TheVariants.{TotalCost}
 use Rattle.p3_tree.specs.declared.task.Task.{Task}
 
 -- (:action a :effect (p)), (:goal (preference g (p))), (:metric minimize (* 5 (is-violated g)))
-unfoldable pub read : Task
-read = record {
+abbrev pub read_by : Numeral → Task
+read_by weight = record {
   domain = record empty_domain { predicates = predicates ("p" ∷ []); actions = action "a" [] no_goal (add "p" []) ∷ [] };
-  problem = record empty_problem { goal = part (soft "g" (atom "p" [])); metric = metric Minimize (weighted 5 "g") };
+  problem = record empty_problem { goal = part (soft "g" (atom "p" [])); metric = metric Minimize (weighted_by weight "g") };
 }
+
+unfoldable pub read : Task
+read = read_by (numeral 5)
 
 unfoldable pub written : Task
 written = record {

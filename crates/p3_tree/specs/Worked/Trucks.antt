@@ -8,8 +8,9 @@ use Rattle.p3_tree.specs.Validity.{first_fault, AtStep, UnknownAction, Arguments
 use Rattle.p3_tree.specs.Metrics.{violated, cost, value}
 use Rattle.p3_tree.specs.Offences.{WellFormed}
 use Rattle.p3_tree.specs.Lifting.{steps, lift}
-use Rattle.p3_tree.specs.Worked.Build.{ref, typed, part, atom, add, del, increase_by_value, soft, soft_constraint, metric, weighted, kind_below, kind, header, action, fact, given, step, bare_steps, empty_domain, empty_problem}
+use Rattle.p3_tree.specs.Worked.Build.{ref, typed, part, atom, add, del, increase_by_value, soft, soft_constraint, metric, weighted, kind_below, kind, header, action, numeral, fact, given, given_by, step, bare_steps, empty_domain, empty_problem}
 use Rattle.p3_tree.specs.declared.formula.Formula.TheVariants as formula
+use Rattle.p3_tree.specs.declared.effect.Numeral.{Numeral}
 use Rattle.p3_tree.specs.declared.effect.Effect.TheVariants as effect
 use Rattle.p3_tree.specs.declared.goal.PreGoal.TheVariants as goal
 use Rattle.p3_tree.specs.declared.constraint.Modal.TheVariants.{Always, AtMostOnce, SometimeBefore}
@@ -52,13 +53,14 @@ road a b = given "road-length" (a ∷ b ∷ []) 4
 abbrev pub long_road : String → String → Init
 long_road a b = given "road-length" (a ∷ b ∷ []) 7
 
-abbrev pub trucks_problem : Problem
-trucks_problem = record empty_problem {
+-- the road from a to b has the length
+abbrev pub trucks_problem_by : Numeral → Problem
+trucks_problem_by length = record empty_problem {
   name = ref "deliver-2";
   domain = ref "trucks-pref";
   objects = typed "t1" ("truck" ∷ []) ∷ typed "c1" ("crate" ∷ []) ∷ typed "c2" ("crate" ∷ []) ∷ typed "a" ("place" ∷ []) ∷ typed "b" ("place" ∷ []) ∷ typed "c" ("place" ∷ []) ∷ [];
   init = fact "at" ("t1" ∷ "a" ∷ []) ∷ fact "at" ("c1" ∷ "a" ∷ []) ∷ fact "at" ("c2" ∷ "a" ∷ []) ∷ given "total-cost" [] 0
-      ∷ road "a" "b" ∷ road "b" "a" ∷ long_road "b" "c" ∷ long_road "c" "b" ∷ [];
+      ∷ given_by "road-length" ("a" ∷ "b" ∷ []) length ∷ road "b" "a" ∷ long_road "b" "c" ∷ long_road "c" "b" ∷ [];
   goal = part (goal.Both (goal.Plain (atom "at" ("c1" ∷ "b" ∷ [])) ∷ soft "home" (atom "at" ("c2" ∷ "c" ∷ [])) ∷ soft "back" (atom "at" ("t1" ∷ "a" ∷ [])) ∷ []));
   constraints = part (constraint.Both (
       constraint.Single (Always (formula.Forall (typed "?t" ("truck" ∷ []) ∷ []) (formula.Exists (typed "?p" ("place" ∷ []) ∷ []) (atom "at" ("?t" ∷ "?p" ∷ [])))))
@@ -66,6 +68,9 @@ trucks_problem = record empty_problem {
       ∷ soft_constraint "late" (constraint.Single (SometimeBefore (atom "at" ("t1" ∷ "c" ∷ [])) (atom "at" ("c1" ∷ "b" ∷ [])))) ∷ []));
   metric = metric Minimize (num.Sum 0 (num.TotalCost 0 ∷ weighted 6 "light" ∷ weighted 20 "back" ∷ weighted 15 "home" ∷ weighted 3 "once" ∷ weighted 1 "late" ∷ []));
 }
+
+abbrev pub trucks_problem : Problem
+trucks_problem = trucks_problem_by (numeral 4)
 
 unfoldable pub trucks : Task
 trucks = record { domain = trucks_domain; problem = trucks_problem }

@@ -1,0 +1,113 @@
+-- The worked cases of what is printed compute.
+use Rattle.std.proofs.Common.{refl}
+use Rattle.p3_tree.specs.FirstOffence.{first_offence}
+use Rattle.p3_tree.specs.PreferenceNames.{named_in_goal, named_in_constraint, ordered_names}
+use Rattle.p3_tree.specs.Refusals.Constructs.{constructs, constructs_of, constructs_all}
+use Rattle.p3_tree.specs.Refusals.Texts.{unbalanced_from, too_deep_from, text_refusal}
+use Rattle.p3_tree.specs.Refusals.Metric.{mentions, operations, nonlinear}
+use Rattle.p3_tree.specs.Refusals.First.{task_refusal}
+use Rattle.p3_tree.specs.Worked.Refusals.{refused, RefusedTexts, RefusedNames, RefusedTasks, NotRefused}
+use Rattle.p3_tree.specs.Worked.Lines.{LinesOfTasks, LinesOfPlans, SamplesForOneAndThree, WordsOfCommands}
+use Rattle.p3_tree.proofs.Computes.{meaning_computes, texts_compute}
+
+-- refusals and printed lines
+unfoldable refusals_compute : Unit {0}
+unfolding meaning_computes texts_compute first_offence named_in_goal named_in_constraint ordered_names constructs constructs_of constructs_all unbalanced_from too_deep_from text_refusal mentions operations nonlinear task_refusal refused
+refusals_compute = tt
+
+pub refused_texts : RefusedTexts
+unfolding refusals_compute
+refused_texts = record {
+  empty_text = refl;
+  unbalanced_problem = refl;
+  left_out_operator = refl;
+  derived_predicate = refl;
+  too_deep = refl;
+  foreign_byte = refl;
+  texts_first = refl;
+  numeric_condition = refl;
+  long_number = refl;
+  too_many_places = refl;
+}
+
+pub refused_names : RefusedNames
+unfolding refusals_compute
+refused_names = record {
+  duplicate_variable = refl;
+  unknown_predicate = refl;
+  too_few_arguments = refl;
+  type_clash = refl;
+  unknown_preference = refl;
+}
+
+pub refused_tasks : RefusedTasks
+unfolding refusals_compute
+refused_tasks = record {
+  negative_weight = refl;
+  dear_action = refl;
+  too_many_steps = refl;
+  not_linear = refl;
+  large_product = refl;
+  too_many_places_of_a_product = refl;
+  dear_value = refl;
+  large_goal = refl;
+  many_preferences = refl;
+  wide_action = refl;
+}
+
+pub not_refused : NotRefused
+unfolding refusals_compute
+not_refused = record {
+  fine = refl;
+  greatest_cost = refl;
+  deep_enough = refl;
+  wide_action = refl;
+}
+
+pub lines_of_tasks : LinesOfTasks
+unfolding refusals_compute
+lines_of_tasks = record {
+  rewarded = refl;
+  half = refl;
+  trucks = refl;
+  wide = refl;
+  wide_extra = refl;
+  narrow_extra = refl;
+}
+
+pub lines_of_plans : LinesOfPlans
+unfolding refusals_compute
+lines_of_plans = record {
+  delivery = refl;
+  rewarded_nothing = refl;
+}
+
+pub samples_for_one_and_three : SamplesForOneAndThree
+unfolding refusals_compute
+samples_for_one_and_three = record {
+  problem_of_one = refl;
+  plan_of_one = refl;
+  problem_of_three = refl;
+  text_of_plan = refl;
+  read_plan = record { known = refl; marks = refl; words = refl };
+  summary = refl;
+}
+
+pub words_of_commands : WordsOfCommands
+unfolding refusals_compute
+words_of_commands = record {
+  compile = refl;
+  over_inputs = refl;
+  one_output = refl;
+  no_name = refl;
+  lift = refl;
+  embed = refl;
+  evaluate = refl;
+  generate = refl;
+  too_few = refl;
+  too_many = refl;
+  superfluous_zero = refl;
+  other_case = refl;
+  none = refl;
+}
+

@@ -1,0 +1,7 @@
+pub mod Constructs
+pub mod Counts
+pub mod First
+pub mod Malformed
+pub mod Metric
+pub mod Places
+pub mod Texts

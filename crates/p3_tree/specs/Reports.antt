@@ -1,0 +1,5 @@
+pub mod Lines
+pub mod Plans
+pub mod Quantities
+pub mod Refusals
+pub mod Tasks

@@ -1,0 +1,28 @@
+-- The steps of a task by their numbers.
+use Rattle.std.specs.Prelude.{◌≡◌, ℕ, true, List, slice_get, Some}
+use Rattle.std.specs.List.{AllZip}
+use Rattle.p3_tree.specs.Bindings.{are_arguments}
+use Rattle.p3_tree.specs.Plans.{Plan, action_named}
+use Rattle.p3_tree.specs.Lifting.{steps}
+use Rattle.p3_tree.specs.declared.task.Action.{Action}
+use Rattle.p3_tree.specs.declared.task.Step.{Step}
+use Rattle.p3_tree.specs.declared.task.Task.{Task}
+
+abbrev pub HasNumber : Task → Step → ℕ → Type 0
+HasNumber T step number = slice_get (steps T) number ≡ Some step
+
+-- the steps of a plan and their numbers, one after the other
+abbrev pub AreNumbers : Task → Plan → List ℕ → Type 0
+AreNumbers T plan numbers = AllZip (HasNumber T) plan numbers
+
+-- the step's action exists, and its arguments are objects of the parameters' types
+pub record IsOwn (T : Task) (step : Step) : Type 0 where
+  pub action : Action
+  pub named : action_named T step.action ≡ Some action
+  pub args : are_arguments T action.params step.args ≡ true
+
+-- the steps with a number are those whose action exists and whose arguments fit, and none has two numbers
+pub record HasStepNumbers (T : Task) : Type 0 where
+  pub own : (number : ℕ) (step : Step) → HasNumber T step number → IsOwn T step
+  pub found : (step : Step) → IsOwn T step → (number : ℕ) × HasNumber T step number
+  pub one : (i j : ℕ) (step : Step) → HasNumber T step i → HasNumber T step j → i ≡ j
