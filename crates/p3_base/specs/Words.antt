@@ -51,11 +51,6 @@ abbrev pub is_variable : Name → Bool
 is_variable (byte ∷ next ∷ bytes) = byte == 63
 is_variable _ = false
 
--- a number is digits only
-abbrev pub is_number : Name → Bool
-is_number [] = false
-is_number (byte ∷ bytes) = list_all is_digit (byte ∷ bytes)
-
 -- no predicate or function has these names
 abbrev pub reserved_words : List Name
 reserved_words = map codes ("and" ∷ "or" ∷ "not" ∷ "imply" ∷ "exists" ∷ "forall" ∷ "when" ∷ "preference" ∷ "increase" ∷ "either" ∷ "define" ∷ "is-violated" ∷ "total-time"

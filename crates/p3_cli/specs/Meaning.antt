@@ -5,7 +5,7 @@ use Rattle.p3_base.specs.Outside.{Store, bytes_under, with_put}
 use Rattle.p3_base.specs.declared.refusal.Direction.{Direction}
 use Rattle.p3_base.specs.declared.refusal.Direction.TheVariants.{Minimize, Maximize}
 use Rattle.p3_tree.specs.Grammar.Texts.{Reads}
-use Rattle.p3_tree.specs.Lifting.{Faithful}
+use Rattle.p3_tree.specs.Faithful.{Faithful}
 use Rattle.p3_tree.specs.Limits.{step_count, instance_count}
 use Rattle.p3_tree.specs.Metrics.{base_loss, direction}
 use Rattle.p3_tree.specs.Offences.{WellFormed}

@@ -3,7 +3,7 @@ use Rattle.std.specs.Prelude.{ℕ, ◌≡◌, if◌then◌else◌, List, ◌++�
 use Rattle.std.specs.Fmt.{decimal}
 use Rattle.p3_base.specs.declared.refusal.Role.{Role}
 use Rattle.p3_base.specs.declared.refusal.Role.TheVariants as role
-use Rattle.p3_tree.specs.Lifting.{Faithful}
+use Rattle.p3_tree.specs.Faithful.{Faithful}
 use Rattle.p3_tree.specs.Tiny.{declares_all}
 use Rattle.p3_tree.specs.declared.task.Domain.{Domain}
 use Rattle.p3_tree.specs.declared.task.Problem.{Problem}

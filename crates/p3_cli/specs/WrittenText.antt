@@ -2,7 +2,7 @@
 use Rattle.std.specs.Prelude.{◌≡◌, ℕ, List}
 use Rattle.p3_tree.specs.Erased.{erased}
 use Rattle.p3_tree.specs.Grammar.Texts.{Reads}
-use Rattle.p3_tree.specs.Lifting.{Faithful}
+use Rattle.p3_tree.specs.Faithful.{Faithful}
 use Rattle.p3_tree.specs.declared.task.Task.{Task}
 
 -- the grammar reads the texts as a task that differs from this one in offsets and in the lengths of numerals alone

@@ -2,8 +2,10 @@
 use Rattle.std.proofs.Common.{◌≡◌, ◌∙◌, ℕ, refl, ap, Bool, true, false, not, ◌&&◌, ◌||◌, List, [], ◌∷◌, ◌++◌, cond, eqb, length, map}
 use Rattle.std.specs.Prelude.{if◌then◌else◌}
 use Rattle.std.specs.List.{list_any, list_all, range_with_len}
+use Rattle.std.proofs.Math.Nat.{zero-mul}
 use Rattle.std.proofs.lemmas.List.Folds.{list_all-append}
 use Rattle.p3_tree.specs.Names.{Name, is_empty}
+use Rattle.p3_tree.specs.Costs.{initial_cost}
 use Rattle.p3_tree.specs.Lifting.{prefers, is_goal_variable_free, is_effect_variable_free, is_action_variable_free, Plain, IsVariableFree}
 use Rattle.p3_tree.proofs.Computes.{meaning_computes}
 use Rattle.p3_tree.specs.declared.effect.Effect.TheVariants as effect
@@ -62,9 +64,13 @@ module _ (has_step : Bool) (changed preferred : Name) (change_negated preference
   all_prefer true = ends_prefer
   all_prefer false = ends_prefer
 
+  starts_free : initial_cost U ≡ 0
+  unfolding meaning_computes
+  starts_free = zero-mul _
+
   pub plain : Plain U
   unfolding meaning_computes
-  plain = λ i. not (all_prefer has_step i) && true && true && true
+  plain = λ i. not (all_prefer has_step i) && true && eqb (starts_free i) 0 && true
 
   ends_free : list_all is_action_variable_free ends ≡ true
   unfolding meaning_computes

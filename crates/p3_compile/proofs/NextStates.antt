@@ -6,10 +6,10 @@ use Rattle.std.proofs.Math.Bool.{and-true}
 use Rattle.p3_tree.specs.Names.{Name, same_name}
 use Rattle.p3_tree.specs.States.{State, has_fact, start}
 use Rattle.p3_tree.specs.Effects.{adds, dels, next}
-use Rattle.p3_tree.specs.Costs.{initial_cost, effect_cost}
+use Rattle.p3_tree.specs.Costs.{cost_places, initial_cost, effect_cost}
 use Rattle.p3_tree.specs.Plans.{Plan, cost_by, state_after, state_by, step_cost}
 use Rattle.p3_tree.specs.Validity.{is_valid}
-use Rattle.p3_tree.specs.Metrics.{cost, num_value, value}
+use Rattle.p3_tree.specs.Metrics.{cost, quantity, value}
 use Rattle.p3_tree.specs.Lifting.{steps, counts_as}
 use Rattle.p3_tree.proofs.Computes.{meaning_computes}
 use Rattle.p3_tree.proofs.StateLemmas.{has_fact-changed}
@@ -26,7 +26,7 @@ use Rattle.p3_tree.specs.declared.task.Step.{Step}
 use Rattle.p3_tree.specs.declared.task.Task.{Task}
 use Rattle.p3_compile.specs.Written as w
 use Rattle.p3_compile.specs.Written.{atom, changing, added, finish_action, settled}
-use Rattle.p3_compile.proofs.Targets.{fact, adds_change, dels_change, step_act, target, words, step_has_cost, settled_cost, forgo_has_cost, last_three, named_copy, named_last, is_fit, copy_fits, finish_fits, collect_fits, forgo_fits}
+use Rattle.p3_compile.proofs.Targets.{fact, adds_change, dels_change, step_act, target, words, step_has_cost, settled_cost, forgo_has_cost, whole_units, last_three, named_copy, named_last, is_fit, copy_fits, finish_fits, collect_fits, forgo_fits}
 
 -- a name apart from those of the running atom and the chain
 pub record Apart (name : Name) : Type 0 where
@@ -171,17 +171,18 @@ module _ (has_step : Bool) (changed preferred : Name) (change_negated preference
   finish_free = refl
 
   value_by_cost : (q : Plan) → value U q ≡ pos (cost U q)
-  unfolding value num_value
+  unfolding value quantity
   value_by_cost q = refl
 
-  pub costing : (T : Task) → initial_cost U ≡ 0 → Costing V T U
+  pub costing : (T : Task) → initial_cost U ≡ 0 → cost_places U ≡ 0 → Costing V T U
   unfolding step_cost last_three
-  costing T free = record {
+  costing T free whole = record {
     value = λ q. value_by_cost q ∙ ap pos (cost-walk U q ∙ ap (λ first. first + cost_of U q) free ∙ zero-add (cost_of U q));
     copy = λ has. ap (option_and_then (cost_by U V.copy)) (named_copy has_step changed preferred change_negated preference_negated weight headers entries source at_first later has) ∙ step_has_cost has_step changed preferred change_negated preference_negated weight headers entries [];
     finish = ap (option_and_then (cost_by U V.finish)) (named_last has_step changed preferred change_negated preference_negated weight headers entries source at_first later (codes "finish") refl) ∙ finish_free;
     collect = ap (option_and_then (cost_by U V.collect)) (named_last has_step changed preferred change_negated preference_negated weight headers entries source at_first later (codes "collect0") refl) ∙ settled_cost has_step changed preferred change_negated preference_negated weight headers entries [];
-    forgo = ap (option_and_then (cost_by U V.forgo)) (named_last has_step changed preferred change_negated preference_negated weight headers entries source at_first later (codes "forgo0") refl) ∙ forgo_has_cost has_step changed preferred change_negated preference_negated weight headers entries [];
+    forgo = ap (option_and_then (cost_by U V.forgo)) (named_last has_step changed preferred change_negated preference_negated weight headers entries source at_first later (codes "forgo0") refl) ∙ forgo_has_cost has_step changed preferred change_negated preference_negated weight headers entries []
+        ∙ ap Some (whole_units has_step changed preferred change_negated preference_negated weight headers entries whole);
   }
 
   pub lifting_with_step : (T : Task) → steps T ≡ source ∷ [] → LiftingTo V T U

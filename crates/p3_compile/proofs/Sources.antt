@@ -11,6 +11,7 @@ use Rattle.std.proofs.lemmas.Bool.{false_from_ne_true}
 use Rattle.std.proofs.lemmas.Bool.Decides.{nat_tests}
 use Rattle.p3_tree.specs.Names.{Name, same_name}
 use Rattle.p3_tree.specs.States.{State, has_fact, initial_fact}
+use Rattle.p3_tree.specs.Costs.{value_numeral}
 use Rattle.p3_tree.specs.Tiny.{pred_of_entry}
 use Rattle.p3_tree.specs.declared.term.Ref.{Ref}
 use Rattle.p3_tree.specs.declared.task.Header.{Header}
@@ -122,6 +123,15 @@ one_source entries from header later name = by (is_true entries header)
         simple true = refl
         simple false = refl
     by false = refl
+
+-- none of them gives a value
+pub no_values : (entries : List Init) (from : ℕ) (headers : List Header) → filter_map value_numeral (filter_map (true_atom entries) (enumerate_from from headers)) ≡ []
+no_values entries from [] = refl
+no_values entries from (header ∷ headers) = by (is_true entries header) (filter_map (true_atom entries) (enumerate_from (from + 1) headers)) (no_values entries (from + 1) headers)
+  where
+    by : (holds : Bool) (later : List Init) → filter_map value_numeral later ≡ [] → filter_map value_numeral (cons_option (if holds then Some (true_entry (source_atom from)) else None) later) ≡ []
+    by true later e = e
+    by false later e = e
 
 -- no other atom is among them
 pub no_other : (entries : List Init) (name : Name) → ((n : ℕ) → same_name (source_atom n) name ≡ false) → (from : ℕ) (headers : List Header) → has_fact (source_facts entries from headers) (fact name) ≡ false

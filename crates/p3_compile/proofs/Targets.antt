@@ -1,7 +1,8 @@
 -- The written task of a tiny task, given by its words: which steps fit, what holds after them, and what they cost.
-use Rattle.std.proofs.Common.{◌≡◌, ◌∙◌, ℕ, add-zero, refl, sym, ap, Bool, true, false, not, ◌&&◌, List, [], ◌∷◌, ◌++◌, cond, eqb, map, Option, Some, None, is_some}
-use Rattle.std.specs.Prelude.{codes, find, if◌then◌else◌}
+use Rattle.std.proofs.Common.{◌≡◌, ◌∙◌, ℕ, ◌*◌, ◌-◌, ◌^◌, add-zero, append-nil, refl, sym, ap, Bool, true, false, not, ◌&&◌, List, [], ◌∷◌, ◌++◌, cond, eqb, map, Option, Some, None, is_some}
+use Rattle.std.specs.Prelude.{codes, filter_map, flat_map, find, if◌then◌else◌}
 use Rattle.std.proofs.Math.Bool.{and-true}
+use Rattle.std.proofs.Math.Nat.{zero-mul, mul-one}
 use Rattle.std.proofs.lemmas.Bool.{eqb-true, and_parts, not-true}
 use Rattle.std.proofs.lemmas.Slice.Eq.{bytes_eq-Decides}
 use Rattle.p3_tree.specs.Names.{Name, same_name, is_empty}
@@ -9,7 +10,7 @@ use Rattle.p3_tree.specs.States.{State, Environment, has_fact}
 use Rattle.p3_tree.specs.Bindings.{are_arguments}
 use Rattle.p3_tree.specs.Effects.{adds, dels}
 use Rattle.p3_tree.specs.Goals.{hard_holds}
-use Rattle.p3_tree.specs.Costs.{increases, effect_cost, amount_value, total}
+use Rattle.p3_tree.specs.Costs.{increases, amount_numeral, value_numerals, most_places, cost_places, cost_units, effect_cost, amount_value, total}
 use Rattle.p3_tree.specs.Plans.{action_named, fits, fits_by}
 use Rattle.p3_tree.specs.Metrics.{cost}
 use Rattle.p3_tree.proofs.Computes.{meaning_computes}
@@ -17,6 +18,7 @@ use Rattle.p3_tree.proofs.MeaningLemmas.{hard_holds-Both, increases-All}
 use Rattle.p3_tree.proofs.OneInstance.{Words, Fit, Copies, Finishes, Collects, Forgoes}
 use Rattle.p3_tree.proofs.TinyMeaning.{signed_by}
 use Rattle.p3_tree.specs.declared.state.Fact.{Fact}
+use Rattle.p3_tree.specs.declared.effect.Numeral.{Numeral}
 use Rattle.p3_tree.specs.declared.effect.Effect.TheVariants as effect
 use Rattle.p3_tree.specs.declared.task.Action.{Action}
 use Rattle.p3_tree.specs.declared.task.Header.{Header}
@@ -120,13 +122,45 @@ module _ (has_step : Bool) (changed preferred : Name) (change_negated preference
   unfolding meaning_computes
   settled_cost env = refl
 
-  forgo_cost : (is_free : Bool) → eqb weight 0 ≡ is_free → (env : Environment) → effect_cost target env (effect.All (settled ++ (if is_free then [] else w.increase weight ∷ []))) ≡ Some weight
+  forgo_cost : (is_free : Bool) → eqb weight 0 ≡ is_free → (env : Environment) → effect_cost target env (effect.All (settled ++ (if is_free then [] else w.increase weight ∷ []))) ≡ Some (cost_units target (w.numeral weight))
   unfolding meaning_computes
-  forgo_cost true e env = ap Some (sym (eqb-true weight 0 e))
-  forgo_cost false e env = ap Some (add-zero weight)
+  forgo_cost true e env = ap Some (sym (ap (λ n. n * 10 ^ (cost_places target - 0)) (eqb-true weight 0 e) ∙ zero-mul _))
+  forgo_cost false e env = ap Some (add-zero _)
 
-  pub forgo_has_cost : (env : Environment) → effect_cost target env forgo_act.effect.body ≡ Some weight
+  pub forgo_has_cost : (env : Environment) → effect_cost target env forgo_act.effect.body ≡ Some (cost_units target (w.numeral weight))
   forgo_has_cost env = forgo_cost (eqb weight 0) refl env
+
+  -- ---- no number has a point
+
+  abbrev numerals : Action → List Numeral
+  numerals act = filter_map amount_numeral (increases act.effect.body)
+
+  abbrev ends : List Action
+  ends = finish_action ∷ collect_act ∷ forgo_act ∷ []
+
+  forgo_numerals : (is_free : Bool) → filter_map amount_numeral (increases (effect.All (settled ++ (if is_free then [] else w.increase weight ∷ [])))) ≡ cond is_free [] (w.numeral weight ∷ [])
+  unfolding meaning_computes
+  forgo_numerals true = refl
+  forgo_numerals false = refl
+
+  numerals_of_ends : flat_map numerals ends ≡ cond (eqb weight 0) [] (w.numeral weight ∷ [])
+  unfolding meaning_computes
+  numerals_of_ends = append-nil _ ∙ forgo_numerals (eqb weight 0)
+
+  numerals_of_actions : (has : Bool) → flat_map numerals (cond has (step_act ∷ []) [] ++ ends) ≡ cond (eqb weight 0) [] (w.numeral weight ∷ [])
+  numerals_of_actions true = (λ i. filter_map amount_numeral (step_increases i) ++ flat_map numerals ends) ∙ numerals_of_ends
+  numerals_of_actions false = numerals_of_ends
+
+  pub whole_by : value_numerals target ≡ w.numeral 0 ∷ [] → cost_places target ≡ 0
+  unfolding cost_places
+  whole_by values = (λ i. most_places (map (λ (numeral : Numeral). numeral.places) (numerals_of_actions has_step i ++ values i))) ∙ by (eqb weight 0)
+    where
+      by : (is_free : Bool) → most_places (map (λ (numeral : Numeral). numeral.places) (cond is_free [] (w.numeral weight ∷ []) ++ w.numeral 0 ∷ [])) ≡ 0
+      by true = refl
+      by false = refl
+
+  pub whole_units : cost_places target ≡ 0 → cost_units target (w.numeral weight) ≡ weight
+  whole_units whole = ap (λ places. weight * 10 ^ (places - 0)) whole ∙ mul-one weight
 
   -- ---- which steps fit
 

@@ -4,6 +4,7 @@ use Rattle.std.specs.Prelude.{codes, filter_map, flat_map, option_map}
 use Rattle.std.specs.List.{list_any, list_all}
 use Rattle.std.specs.Option.{option_and_then, option_map_or}
 use Rattle.std.proofs.Math.Bool.{or-true, or-false}
+use Rattle.std.proofs.Math.Nat.{zero-mul}
 use Rattle.std.proofs.lemmas.Bool.{and_parts}
 use Rattle.std.proofs.lemmas.List.Elements.{filter_map-append}
 use Rattle.std.proofs.lemmas.List.Folds.{list_any-append}
@@ -11,8 +12,9 @@ use Rattle.std.proofs.lemmas.Slice.Eq.{bytes_eq-Decides}
 use Rattle.p3_tree.specs.Names.{Name, same_name}
 use Rattle.p3_tree.specs.States.{State, has_fact, same_fact, initial_fact, start}
 use Rattle.p3_tree.specs.Bindings.{tuples}
-use Rattle.p3_tree.specs.Costs.{given_value, initial_cost}
-use Rattle.p3_tree.specs.Lifting.{steps, steps_of, Faithful}
+use Rattle.p3_tree.specs.Costs.{value_numeral, value_numerals, cost_places, given_value, initial_cost}
+use Rattle.p3_tree.specs.Lifting.{steps, steps_of}
+use Rattle.p3_tree.specs.Faithful.{Faithful}
 use Rattle.p3_tree.specs.Tiny.{Literal, IsTinyTask, is_tiny_task, is_tiny_domain, is_tiny_problem, is_well_formed_domain, has_tiny_domain_shape, has_declared_effect, has_declared_entry, has_declared_wish, declares_all, is_declared, summand_of}
 use Rattle.p3_tree.proofs.OneInstance.{Words, Running, one_instance_faithful}
 use Rattle.p3_tree.proofs.TinyMeaning.{truth, signed_by, fact_of_literal}
@@ -24,12 +26,12 @@ use Rattle.p3_tree.specs.declared.task.Step.{Step}
 use Rattle.p3_tree.specs.declared.task.Task.{Task}
 use Rattle.p3_compile.specs.Written as w
 use Rattle.p3_compile.specs.Written.{ref, action, atom, changing, atom_name, place_of, source_atom, written_by, written_of, wished_of, weight_of, domain_of, problem_of, step_action}
-use Rattle.p3_compile.proofs.Targets.{target, fact, bare}
+use Rattle.p3_compile.proofs.Targets.{target, fact, bare, whole_by}
 use Rattle.p3_compile.proofs.NextStates.{V, fitting, costing, lifting_with_step, lifting_without_step}
 use Rattle.p3_compile.proofs.Formed.{plain, variable_free}
 use Rattle.p3_compile.proofs.FineUses.{declares}
 use Rattle.p3_compile.proofs.WellFormed.{source_declared, written_well_formed}
-use Rattle.p3_compile.proofs.Sources.{source_apart, same_sources, place_within, name_at, source_facts, no_other, source_at_start, true_at_start}
+use Rattle.p3_compile.proofs.Sources.{source_apart, same_sources, place_within, name_at, source_facts, no_other, source_at_start, true_at_start, no_values}
 
 module _ (T : Task) (one : OnePreference T) (small : length T.domain.predicates < 2 ^ 64) (declared : list_any (λ header. same_name header.name.name one.wish.literal.pred.name) T.domain.predicates ≡ true) where
   abbrev preferred : Name
@@ -75,7 +77,14 @@ module _ (T : Task) (one : OnePreference T) (small : length T.domain.predicates 
 
   free_start : (has : Bool) (changed : Name) (negated : Bool) → initial_cost (U_of has changed negated) ≡ 0
   unfolding given_value
-  free_start has changed negated = refl
+  free_start has changed negated = zero-mul _
+
+  values : (has : Bool) (changed : Name) (negated : Bool) → value_numerals (U_of has changed negated) ≡ w.numeral 0 ∷ []
+  values has changed negated = ap (λ rest. w.numeral 0 ∷ rest)
+      (filter_map-append value_numeral (w.true_atoms T.domain.predicates T.problem.init) (w.true_entry (codes "go") ∷ []) ∙ ap (λ rest. rest ++ []) (no_values T.problem.init 0 T.domain.predicates))
+
+  whole : (has : Bool) (changed : Name) (negated : Bool) → cost_places (U_of has changed negated) ≡ 0
+  whole has changed negated = whole_by has changed preferred negated one.wish.literal.is_negated one.summand.weight (w.predicates T.domain.predicates) (w.entries T.domain.predicates T.problem.init) (values has changed negated)
 
   preferred_declared : declares (w.predicates T.domain.predicates) preferred ≡ true
   preferred_declared = source_declared T.domain.predicates (place_of T.domain.predicates one.wish.literal.pred.name) (place_within T.domain.predicates one.wish.literal.pred declared)
@@ -128,13 +137,14 @@ module _ (T : Task) (one : OnePreference T) (small : length T.domain.predicates 
           fitting = fitting true changed preferred act.literal.is_negated one.wish.literal.is_negated one.summand.weight (w.predicates T.domain.predicates) (w.entries T.domain.predicates T.problem.init) (the_step T act) at_first same
               (source_apart (place_of T.domain.predicates act.literal.pred.name)) (source_apart (place_of T.domain.predicates one.wish.literal.pred.name)) (same_sources T.domain.predicates act.literal.pred one.wish.literal.pred small act_declared declared) T
               (begins true changed act.literal.is_negated (the_step T act) same);
-          costing = costing true changed preferred act.literal.is_negated one.wish.literal.is_negated one.summand.weight (w.predicates T.domain.predicates) (w.entries T.domain.predicates T.problem.init) (the_step T act) at_first same T (free_start true changed act.literal.is_negated);
+          costing = costing true changed preferred act.literal.is_negated one.wish.literal.is_negated one.summand.weight (w.predicates T.domain.predicates) (w.entries T.domain.predicates T.problem.init) (the_step T act) at_first same T (free_start true changed act.literal.is_negated) (whole true changed act.literal.is_negated);
           lifting = lifting_with_step true changed preferred act.literal.is_negated one.wish.literal.is_negated one.summand.weight (w.predicates T.domain.predicates) (w.entries T.domain.predicates T.problem.init) (the_step T act) at_first same T steps_is;
           reading = reading_with_action Wa T Ua one act (record { has_step = refl; step = refl; at_first = refl; later = refl; weight = refl });
         })
         (written_well_formed true changed preferred act.literal.is_negated one.wish.literal.is_negated one.summand.weight T.domain.predicates T.problem.init small (source_declared T.domain.predicates (place_of T.domain.predicates act.literal.pred.name) (place_within T.domain.predicates act.literal.pred act_declared)) preferred_declared)
         (plain true changed preferred act.literal.is_negated one.wish.literal.is_negated one.summand.weight T.domain.predicates _)
-        (variable_free true changed preferred act.literal.is_negated one.wish.literal.is_negated one.summand.weight T.domain.predicates _))
+        (variable_free true changed preferred act.literal.is_negated one.wish.literal.is_negated one.summand.weight T.domain.predicates _)
+        (whole true changed act.literal.is_negated))
 
   -- ---- without an action
 
@@ -165,13 +175,14 @@ module _ (T : Task) (one : OnePreference T) (small : length T.domain.predicates 
           fitting = fitting false preferred preferred false one.wish.literal.is_negated one.summand.weight (w.predicates T.domain.predicates) (w.entries T.domain.predicates T.problem.init) no_step at_first true
               (source_apart (place_of T.domain.predicates one.wish.literal.pred.name)) (source_apart (place_of T.domain.predicates one.wish.literal.pred.name)) ((bytes_eq-Decides preferred preferred).1 refl) T
               (begins false preferred false no_step true);
-          costing = costing false preferred preferred false one.wish.literal.is_negated one.summand.weight (w.predicates T.domain.predicates) (w.entries T.domain.predicates T.problem.init) no_step at_first true T (free_start false preferred false);
+          costing = costing false preferred preferred false one.wish.literal.is_negated one.summand.weight (w.predicates T.domain.predicates) (w.entries T.domain.predicates T.problem.init) no_step at_first true T (free_start false preferred false) (whole false preferred false);
           lifting = lifting_without_step false preferred preferred false one.wish.literal.is_negated one.summand.weight (w.predicates T.domain.predicates) (w.entries T.domain.predicates T.problem.init) no_step at_first true T no_steps refl;
           reading = reading_without_action Wo T Uo one (record { none = none; has_step = refl; at_first = refl; weight = refl });
         })
         (written_well_formed false preferred preferred false one.wish.literal.is_negated one.summand.weight T.domain.predicates T.problem.init small preferred_declared preferred_declared)
         (plain false preferred preferred false one.wish.literal.is_negated one.summand.weight T.domain.predicates _)
-        (variable_free false preferred preferred false one.wish.literal.is_negated one.summand.weight T.domain.predicates _))
+        (variable_free false preferred preferred false one.wish.literal.is_negated one.summand.weight T.domain.predicates _)
+        (whole false preferred false))
 
 -- ---- tiny tasks
 

@@ -3,7 +3,7 @@
 ghost use Rattle.std.specs.Prelude.{◌<◌, ◌^◌, length};
 ghost use Rattle.p3_tree.specs.declared.task.Task.{Task};
 ghost use Rattle.p3_tree.specs.Tiny.{IsTinyTask};
-ghost use Rattle.p3_tree.specs.Lifting.{Faithful};
+ghost use Rattle.p3_tree.specs.Faithful.{Faithful};
 ghost use Rattle.p3_compile.specs.Written.{written_of};
 
 /// What is written for a tiny task is a faithful translation of it.

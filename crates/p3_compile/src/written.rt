@@ -1,7 +1,7 @@
 //! The written task.
 
 ghost use Rattle.std.specs.Prelude.{◌≡◌, ◌++◌, ◌∷◌, [], map, option_to_list, IfOk, OnOk};
-ghost use Rattle.p3_tree.specs.Lifting.{Faithful};
+ghost use Rattle.p3_tree.specs.Faithful.{Faithful};
 ghost use Rattle.p3_tree.specs.Tiny.{IsTinyTask};
 ghost use Rattle.p3_compile.specs.Seen.{seen};
 ghost use Rattle.p3_compile.specs.Written as written;

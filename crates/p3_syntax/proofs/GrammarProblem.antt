@@ -8,7 +8,9 @@ use Rattle.std.specs.Char.{is_ascii_digit}
 use Rattle.p3_base.specs.declared.refusal.Direction.TheVariants.{Minimize}
 use Rattle.p3_tree.specs.Names.{Name}
 use Rattle.p3_tree.specs.Grammar.Words as grammar
-use Rattle.p3_tree.specs.Grammar.Words.{each_at, word_place, parts_place, is_number, name_place}
+use Rattle.p3_tree.specs.Grammar.Words.{each_at, word_place, parts_place, is_decimal, digits_value, name_place}
+use Rattle.p3_tree.specs.Decimals.{are_digits}
+use Rattle.p3_tree.proofs.DecimalLemmas.{IsWhole, whole_number}
 use Rattle.p3_tree.specs.Grammar.Goals.{goal_in, goal_forms, goal_place, goal_or_empty_place}
 use Rattle.p3_tree.specs.Grammar.Lists.{objects_in}
 use Rattle.p3_tree.specs.Grammar.Halves.{Section, optional, body_at, part_at, no_constraints, requirements, once, init_forms, init_place, problem_keywords, problem_place}
@@ -31,17 +33,20 @@ use Rattle.p3_syntax.proofs.GrammarParts.{absent_is, defined_agrees, formula_of_
 
 -- ---- numbers and the metric
 
-number_is : (name : Name) → is_short_number name ≡ true → is_number name ≡ true
-number_is [] fits = absurd (cc)
-number_is (digit ∷ digits) fits =
+are_digits_of : (name : Name) → is_short_number name ≡ true → are_digits name ≡ true
+are_digits_of [] fits = absurd (cc)
+are_digits_of (digit ∷ digits) fits =
     (and_parts (not (length (digit ∷ digits) == 0) && nat_le (length (digit ∷ digits)) 15) (list_all is_ascii_digit (digit ∷ digits)) fits).1
 
 number_agrees : (e : Expression) → IfSome (numeral_of e) (λ numeral. num_place e ≡ Some (num.Number numeral))
 unfolding numeral_of num_place
 number_agrees e =
     along (word_of e) _ _ _ (word_agrees e) (λ word known. IfSome-guard _ (is_short_number word.name) _
-    (λ fits. at_word num_word (λ list parts. num_in parts) e word known
-    ∙ or_first _ (then_is _ (then_is _ (word_passes is_number e word known (number_is word.name fits)) refl) refl)))
+    (λ fits.
+    let whole : IsWhole word.name = whole_number word.name (are_digits_of word.name fits) in
+    at_word num_word (λ list parts. num_in parts) e word known
+    ∙ or_first _ (then_is _ (then_is _ (word_passes is_decimal e word known whole.number)
+    (λ i. Some (record { at = word.at; len = length word.name; digits = digits_value (whole.digits i); places = whole.places i }))) refl)))
 
 count_agrees : (e : Expression) → Agrees (count_of e) (num_place e)
 unfolding count_of num_place

@@ -2,6 +2,7 @@ pub mod BelowLemmas
 pub mod Computes
 pub mod ConjunctLaws
 pub mod CountLemmas
+pub mod DecimalLemmas
 pub mod Erased
 pub mod FoldLemmas
 pub mod KnownLaws

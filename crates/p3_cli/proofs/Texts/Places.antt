@@ -6,7 +6,8 @@ use Rattle.std.specs.Fmt.{decimal}
 use Rattle.std.proofs.lemmas.Bool.{and_parts, not-true}
 use Rattle.p3_tree.specs.Names.{Name, same_name}
 use Rattle.p3_tree.specs.Erased.{erased_effect, erased_goal, erased_header, erased_init}
-use Rattle.p3_tree.specs.Grammar.Words.{◌>>=◌, all_trees, predicate_place, choose, digits_value, numeral_place}
+use Rattle.p3_tree.proofs.DecimalLemmas.{IsWhole, whole_number}
+use Rattle.p3_tree.specs.Grammar.Words.{◌>>=◌, all_trees, predicate_place, choose, digits_value, digits_of, places_of, numeral_place}
 use Rattle.p3_tree.specs.Grammar.Formulas.{formula_forms, formula_place}
 use Rattle.p3_tree.specs.Grammar.Formulas as formulas
 use Rattle.p3_tree.specs.Grammar.Effects.{effect_forms, effect_place, effect_or_empty_place}
@@ -145,7 +146,10 @@ module _ (at : ℕ) (n : Number) where
   digits = at_offset (decimal n.value) at
 
   number_found : numeral_place (Word at (decimal n.value)) ≡ Some (numeral_of digits)
-  number_found = ap (λ passes. checked passes digits >>= λ word. Some (numeral_of word)) n.is_numeral
+  number_found =
+      let whole : IsWhole (decimal n.value) = whole_number (decimal n.value) n.all_digits in
+      ap (λ passes. checked passes digits >>= λ word. Some (record { at = word.at; len = length word.name; digits = digits_value (digits_of word.name); places = places_of word.name })) whole.number
+      ∙ (λ i. Some (record { at = at; len = length (decimal n.value); digits = digits_value (whole.digits i); places = whole.places i }))
 
   -- `(increase (total-cost) n)`
   abbrev pub increase_at : (outer word inner total : ℕ) → Expression

@@ -12,7 +12,8 @@ use Rattle.std.proofs.lemmas.Bool.{and_parts}
 use Rattle.std.proofs.lemmas.Bool.Decides.{nat_tests}
 use Rattle.p3_base.specs.Words.{is_lowered}
 use Rattle.p3_tree.specs.Names.{Name, same_name, has_name, total_cost}
-use Rattle.p3_tree.specs.Grammar.Words.{is_name, is_digit, is_number, reserved_words, digits_value}
+use Rattle.p3_tree.specs.Grammar.Words.{is_name, is_digit, reserved_words, digits_value}
+use Rattle.p3_tree.specs.Decimals.{are_digits}
 use Rattle.p3_tree.specs.Grammar.Formulas.{formula_forms}
 use Rattle.p3_tree.specs.Grammar.Effects.{effect_forms}
 use Rattle.p3_tree.specs.Grammar.Goals.{goal_forms}
@@ -100,7 +101,7 @@ source n =
 pub record Number : Type 0 where
   pub value : ℕ
   pub fits : IsWord (decimal value)
-  pub is_numeral : is_number (decimal value) ≡ true
+  pub all_digits : are_digits (decimal value) ≡ true
   pub reads : digits_value (decimal value) ≡ value
 
 abbrev with_digit : ℕ → ℕ → ℕ
@@ -112,12 +113,12 @@ value_by_digits (digit ∷ text) front all =
     let same : digit - 48 ≡ digit_value digit = omega (arith, digit_value_digit digit (digit_from_value digit all.0)) in
     ap (λ d. fold with_digit (front * 10 + d) text) same ∙ value_by_digits text (front * 10 + digit_value digit) all.1
 
-pub word_of_digits : (text : Name) → 0 < length text → list_all is_digit text ≡ true → IsWord text × (is_number text ≡ true)
+pub word_of_digits : (text : Name) → 0 < length text → list_all is_digit text ≡ true → IsWord text × (are_digits text ≡ true)
 word_of_digits [] some e = absurd (omega arith)
 word_of_digits (digit ∷ text) some e = (digits_lowered (digit ∷ text) e, e)
 
 abbrev pub number : (n : ℕ) → n < 2 ^ 64 → Number
 number n small =
     let known = decimal_is_IsNumeral n small in
-    let both : IsWord (decimal n) × (is_number (decimal n) ≡ true) = word_of_digits (decimal n) known.0.0 (decimal_digits n) in
-    record { value = n; fits = both.0; is_numeral = both.1; reads = value_by_digits (decimal n) 0 known.0.1 ∙ known.1 }
+    let both : IsWord (decimal n) × (are_digits (decimal n) ≡ true) = word_of_digits (decimal n) known.0.0 (decimal_digits n) in
+    record { value = n; fits = both.0; all_digits = both.1; reads = value_by_digits (decimal n) 0 known.0.1 ∙ known.1 }

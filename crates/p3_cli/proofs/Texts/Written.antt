@@ -8,7 +8,7 @@ use Rattle.std.proofs.lemmas.Bool.Decides.{nat_tests}
 use Rattle.p3_tree.specs.Erased.{erased}
 use Rattle.p3_tree.specs.Grammar.Texts.{IsBalanced}
 use Rattle.p3_tree.specs.Grammar.Words.{is_name}
-use Rattle.p3_tree.specs.Lifting.{Faithful}
+use Rattle.p3_tree.specs.Faithful.{Faithful}
 use Rattle.p3_tree.specs.Names.{Name}
 use Rattle.p3_tree.specs.Tiny.{IsTinyTask, Literal, Wish, literal_of_effect, Summand, summand_of, summand_in, weighted}
 use Rattle.p3_tree.proofs.OffsetLemmas.{faithful_offset_free}

@@ -1,5 +1,5 @@
 use Rattle.std.proofs.Common.{◌≡◌, ◌∙◌, ap, subst}
-use Rattle.p3_tree.specs.Lifting.{Faithful}
+use Rattle.p3_tree.specs.Faithful.{Faithful}
 use Rattle.p3_tree.specs.declared.task.Task.{Task}
 use Rattle.p3_compile.specs.Written.{written_of}
 use Rattle.p3_cli.specs.Layout.{domain_layout, problem_layout}

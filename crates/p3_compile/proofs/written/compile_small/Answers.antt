@@ -1,6 +1,6 @@
 use Rattle.std.proofs.Common.{◌∙◌, IsSome, ap, sym, subst}
 use Rattle.std.specs.Prelude.{◌<◌, ◌^◌, option_map}
-use Rattle.p3_tree.specs.Lifting.{Faithful}
+use Rattle.p3_tree.specs.Faithful.{Faithful}
 use Rattle.p3_compile.specs.Seen.{seen}
 use Rattle.p3_compile.specs.Written.{wished_of}
 use Rattle.p3_compile.proofs.TinyFaithful.{tiny_faithful}
