@@ -51,6 +51,11 @@ abbrev pub is_variable : Name → Bool
 is_variable (byte ∷ next ∷ bytes) = byte == 63
 is_variable _ = false
 
+-- digits alone, and one at least
+abbrev pub are_digits : Name → Bool
+are_digits [] = false
+are_digits (byte ∷ bytes) = list_all is_digit (byte ∷ bytes)
+
 -- no predicate or function has these names
 abbrev pub reserved_words : List Name
 reserved_words = map codes ("and" ∷ "or" ∷ "not" ∷ "imply" ∷ "exists" ∷ "forall" ∷ "when" ∷ "preference" ∷ "increase" ∷ "either" ∷ "define" ∷ "is-violated" ∷ "total-time"

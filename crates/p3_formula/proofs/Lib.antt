@@ -11,3 +11,5 @@ pub mod ReadAtoms
 pub mod WatchedLaws
 pub mod KeptLaws
 pub mod WorkedOperators
+pub mod NodeLemmas
+pub mod StepLaws

@@ -11,9 +11,9 @@ use Rattle.p3_formula.specs.Next.{after}
 use Rattle.p3_formula.specs.GroundSat.{ground_sat}
 use Rattle.p3_formula.specs.GroundPlans.{visited_from, is_ground_valid, ground_violated, ground_cost, ground_loss}
 use Rattle.p3_base.specs.Copies.{extra_of}
+use Rattle.p3_formula.specs.Constructors.{sets, clears}
 use Rattle.p3_formula.specs.Weighted.{ground_extra}
 use Rattle.p3_formula.specs.Targets.{IsNamed, IsSized, reaches_goal, target_cost, ground_lift}
-use Rattle.p3_formula.specs.declared.form.Change.{Change}
 use Rattle.p3_formula.specs.declared.form.Form.TheBlock.{hidden-the_row-Form-0, hidden-the_row-Form-1, shape-the_row-Form-0, shape-the_row-Form-1}
 use Rattle.p3_formula.specs.declared.form.Form.TheVariants.{True, Atom, Not, And}
 use Rattle.p3_formula.specs.declared.modal.GroundModal.TheVariants.{AtEnd}
@@ -37,12 +37,6 @@ task = record {
 
 abbrev weights : Weights
 weights = record { total_cost = 0; by_name = 5 ∷ []; base = pos 0; direction = Minimize }
-
-abbrev sets : ℕ → Change
-sets atom = record { cond = True; atom = atom; add = true }
-
-abbrev clears : ℕ → Change
-clears atom = record { cond = True; atom = atom; add = false }
 
 -- the source atom, the running atom, and the two chain atoms
 abbrev target : Target

@@ -3,10 +3,12 @@ pub mod Forms
 pub mod GroundSat
 pub mod GroundPlans
 pub mod Next
+pub mod Constructors
 pub mod Modals
 pub mod Kept
 pub mod Weighted
 pub mod Targets
 pub mod Tidy
 pub mod Simplified
+pub mod Nodes
 pub mod Conditions

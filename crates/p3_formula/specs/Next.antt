@@ -1,7 +1,7 @@
 -- The state after changes that are all made at once. An add wins over a delete, and every condition is read in the state before.
-use Rattle.std.specs.Prelude.{ℕ, ◌==◌, Bool, not, ◌&&◌, ◌||◌, List, map, length}
-use Rattle.std.specs.List.{list_any, range_with_len}
-use Rattle.p3_formula.specs.Forms.{State, is_set, truth}
+use Rattle.std.specs.Prelude.{ℕ, ◌==◌, Bool, not, ◌&&◌, ◌||◌, if◌then◌else◌, List, fold, map, length, slice_set, IsTrue}
+use Rattle.std.specs.List.{list_any, list_all, range_with_len}
+use Rattle.p3_formula.specs.Forms.{State, is_set, truth, is_below}
 use Rattle.p3_formula.specs.declared.form.Change.{Change}
 
 -- some change sets the atom, and some change clears it
@@ -16,3 +16,19 @@ is_set_after state effects atom = is_added state effects atom || is_set state at
 
 unfoldable pub after : State → List Change → State
 after state effects = map (is_set_after state effects) (range_with_len 0 (length state))
+
+-- each condition's atoms are below the count
+abbrev pub HasConditionsBelow : ℕ → List Change → Type 0
+HasConditionsBelow count effects = IsTrue (list_all (λ (change : Change). is_below count change.cond) effects)
+
+-- ---- the changes made one by one, first the deletes and then the adds
+
+-- the change is an add, or else a delete, whose condition holds
+abbrev pub is_made : Bool → State → Change → Bool
+is_made add state change = (if add then change.add else not change.add) && truth state change.cond
+
+abbrev pub changed_by : Bool → State → State → Change → State
+changed_by add state bits change = if is_made add state change then slice_set bits change.atom add else bits
+
+abbrev pub changed_all : Bool → State → State → List Change → State
+changed_all add state bits effects = fold (changed_by add state) bits effects

@@ -2,7 +2,7 @@
 use Rattle.std.specs.Prelude.{◌≡◌, ℕ, ◌+◌, ◌==◌, nat_lt, Bool, true, false, not, ◌&&◌, ◌||◌, List, [], ◌∷◌, ◌++◌, length, map, find, filter_map, sum_by, codes, Option, Some, None, IsTrue, Contains, bytes_eq}
 use Rattle.std.specs.List.{list_all, range_with_len}
 use Rattle.p3_base.specs.Copies.{is_copy_of}
-use Rattle.p3_base.specs.Words.{Name, are_different, is_lowered, is_name, is_number, is_predicate_name}
+use Rattle.p3_base.specs.Words.{Name, are_different, are_digits, is_lowered, is_name, is_predicate_name}
 use Rattle.p3_formula.specs.Forms.{State, truth, is_below, IsBelow}
 use Rattle.p3_formula.specs.Next.{after}
 use Rattle.p3_formula.specs.GroundPlans.{GroundPlan, GroundValid, ground_loss}
@@ -71,7 +71,7 @@ pub record IsSized (X : Target) : Type 0 where
 -- it ends with the letter `c` and a number
 abbrev pub ends_with_c_number : Name → Bool
 ends_with_c_number [] = false
-ends_with_c_number (byte ∷ bytes) = (byte == 99) && is_number bytes || ends_with_c_number bytes
+ends_with_c_number (byte ∷ bytes) = (byte == 99) && are_digits bytes || ends_with_c_number bytes
 
 abbrev pub action_names : Target → List Name
 action_names X = map (λ (action : TargetAction). action.name) X.actions

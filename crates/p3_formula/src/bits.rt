@@ -48,6 +48,15 @@ impl Bits {
         self.bits[atom]
     }
 
+    /// The same bits once more.
+    pub fn copied(&self, alloc: Global) -> Result<Bits, NoMemory>
+        ensures { IfOk result (λ copy. copy ≡ self.now) }
+    {
+        Ok(Bits {
+            bits: Vec::from_slice(alloc, &self.bits)?,
+        })
+    }
+
     /// Sets the atom, or clears it. All others stay as they are.
     pub fn set(&mut self, atom: usize, value: bool)
         requires { atom < length self.old }

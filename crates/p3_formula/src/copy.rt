@@ -1,8 +1,8 @@
-//! Copies of forms.
+//! Copies of forms and of changes.
 
 ghost use Rattle.std.specs.Prelude.{◌≡◌, IfOk};
 
-use crate::Form;
+use crate::{Change, Effects, Form};
 use p3_base::{Boxed, List, NoMemory};
 use std::alloc::Global;
 
@@ -29,6 +29,28 @@ fn copied_all(alloc: Global, forms: &[Form]) -> Result<List<Form>, NoMemory>
     let mut copies = List::new(alloc);
     for form in forms {
         copies.push(copied(alloc, form)?)?;
+    }
+    Ok(copies)
+}
+
+/// The same change once more.
+pub fn change_copied(alloc: Global, change: &Change) -> Result<Change, NoMemory>
+    ensures { IfOk result (λ copy. copy ≡ change.now) }
+{
+    Ok(Change {
+        cond: copied(alloc, &change.cond)?,
+        atom: change.atom,
+        add: change.add,
+    })
+}
+
+/// The same changes once more.
+pub fn effects_copied(alloc: Global, effects: &Effects) -> Result<Effects, NoMemory>
+    ensures { IfOk result (λ copy. copy ≡ effects.now) }
+{
+    let mut copies = List::new(alloc);
+    for change in effects.items() {
+        copies.push(change_copied(alloc, change)?)?;
     }
     Ok(copies)
 }

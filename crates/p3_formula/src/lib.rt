@@ -5,19 +5,26 @@
 mod bits;
 #[cfg(test)]
 mod cases;
+mod constructors;
 mod copy;
 mod evaluation;
 mod form;
 mod modal;
+mod node;
 mod simpler;
+mod stepping;
+mod table;
 mod target;
 mod task;
 
 pub use bits::Bits;
-pub use copy::copied;
+pub use copy::{change_copied, copied, effects_copied};
 pub use evaluation::eval;
 pub use form::{Change, Effects, Form};
 pub use modal::{GroundModal, GroundPref, GroundSoft};
+pub use node::Node;
 pub use simpler::{negate, simplify};
+pub use stepping::after;
+pub use table::Table;
 pub use target::{Target, TargetAction, Weights};
 pub use task::{GroundStep, GroundTask};

@@ -7,7 +7,7 @@ ghost use Rattle.p3_formula.specs.Simplified as made;
 
 use crate::Form;
 use crate::copy::copied;
-use p3_base::{Boxed, List, NoMemory};
+use p3_base::{List, NoMemory};
 use std::alloc::Global;
 
 /// The opposite of a form: it holds in a state exactly where the form does not. It has at most one
@@ -21,22 +21,17 @@ pub fn negate(alloc: Global, form: &Form) -> Result<Form, NoMemory>
     negated(alloc, copied(alloc, form)?)
 }
 
-/// A tidy form that holds in the same states. It reads no other atoms and is no greater.
-#[tactic(auto, using(crate::proofs::TruthLaws::simplified_truth, crate::proofs::AtomLaws::simplified_atoms, crate::proofs::AtomLaws::simplified_nodes, crate::proofs::TidyLaws::simplified_tidy))]
+/// A tidy form that holds in the same states. It reads no other atoms and is no greater, and what
+/// always holds stays as it is.
+#[tactic(auto, using(crate::proofs::TruthLaws::simplified_truth, crate::proofs::AtomLaws::simplified_atoms, crate::proofs::AtomLaws::simplified_nodes, crate::proofs::TidyLaws::simplified_tidy, crate::proofs::SimplifiedLemmas::simplified_laws))]
 pub fn simplify(alloc: Global, form: &Form) -> Result<Form, NoMemory>
     ensures truth { IfOk result (λ simple. HasSameTruth simple form.now) }
     ensures tidy { IfOk result (λ simple. IsTrue (is_tidy simple)) }
     ensures size { IfOk result (λ simple. nodes simple ≤ nodes form.now) }
     ensures atoms { IfOk result (λ simple. HasAtomsOf simple form.now) }
+    ensures stays { form.now ≡ Form.True → IfOk result (λ simple. simple ≡ Form.True) }
 {
     simplified(alloc, form)
-}
-
-/// A negation.
-fn negation(alloc: Global, part: Form) -> Result<Form, NoMemory>
-    ensures { IfOk result (λ form. form ≡ Form.Not part) }
-{
-    Ok(Form::Not(Boxed::new(alloc, part)?))
 }
 
 /// The opposite, with no negation of a constant or of a negation.
@@ -48,9 +43,9 @@ fn negated(alloc: Global, form: Form) -> Result<Form, NoMemory>
         Form::True => Ok(Form::False),
         Form::False => Ok(Form::True),
         Form::Not(part) => Ok(part.into_inner()),
-        Form::Atom(atom) => negation(alloc, Form::Atom(atom)),
-        Form::And(parts) => negation(alloc, Form::And(parts)),
-        Form::Or(parts) => negation(alloc, Form::Or(parts)),
+        Form::Atom(atom) => Form::negation(alloc, Form::Atom(atom)),
+        Form::And(parts) => Form::negation(alloc, Form::And(parts)),
+        Form::Or(parts) => Form::negation(alloc, Form::Or(parts)),
     }
 }
 

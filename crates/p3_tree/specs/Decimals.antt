@@ -1,17 +1,13 @@
 -- Numbers as words: digits, or digits with one point that is neither first nor last.
-use Rattle.std.specs.Prelude.{ℕ, ◌+◌, ◌-◌, ◌*◌, ◌==◌, Bool, true, not, ◌&&◌, [], ◌∷◌, ◌++◌, fold, length, if◌then◌else◌, Option, Some, None, is_some, unwrap_or}
-use Rattle.std.specs.List.{list_all}
+use Rattle.std.specs.Prelude.{ℕ, ◌+◌, ◌-◌, ◌*◌, ◌==◌, Bool, true, ◌&&◌, [], ◌∷◌, ◌++◌, fold, length, if◌then◌else◌, Option, Some, None, is_some, unwrap_or}
 use Rattle.std.specs.Option.{option_map_or}
-use Rattle.p3_base.specs.Words.{is_digit}
-use Rattle.p3_tree.specs.Names.{Name, is_empty}
+pub use Rattle.p3_base.specs.Words.{are_digits}
+use Rattle.p3_tree.specs.Names.{Name}
 
 -- the bytes before the first point, and those behind it where there is one
 abbrev pub at_point : Name → Name × Option Name
 at_point [] = ([], None)
 at_point (byte ∷ bytes) = if byte == 46 then ([], Some bytes) else (byte ∷ (at_point bytes).0, (at_point bytes).1)
-
-abbrev pub are_digits : Name → Bool
-are_digits bytes = not (is_empty bytes) && list_all is_digit bytes
 
 abbrev pub is_decimal : Name → Bool
 is_decimal word = are_digits (at_point word).0 && option_map_or are_digits (at_point word).1 true
