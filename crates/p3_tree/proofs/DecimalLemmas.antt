@@ -1,5 +1,5 @@
 -- A word of digits alone is a number without a point.
-use Rattle.std.proofs.Common.{◌≡◌, ◌∙◌, ap, Bool, true, false, not, ◌&&◌, [], ◌∷◌, ◌++◌, refl, Some, None, arith, length}
+use Rattle.std.proofs.Common.{◌≡◌, ◌∙◌, ap, Bool, true, false, ◌&&◌, [], ◌∷◌, ◌++◌, refl, Some, None, arith, length}
 use Rattle.std.specs.Prelude.{◌==◌, if◌then◌else◌, unwrap_or}
 use Rattle.std.specs.List.{list_all}
 use Rattle.std.specs.Option.{option_map_or}
@@ -7,7 +7,7 @@ use Rattle.std.proofs.lemmas.Bool.{and_parts}
 use Rattle.std.proofs.lemmas.Bool.Decides.{nat_tests}
 use Rattle.std.proofs.lemmas.List.{append-nil}
 use Rattle.p3_base.specs.Words.{is_digit}
-use Rattle.p3_tree.specs.Names.{Name, is_empty}
+use Rattle.p3_tree.specs.Names.{Name}
 use Rattle.p3_tree.specs.Decimals.{at_point, are_digits, is_decimal, digits_of, places_of}
 
 pub record IsWhole (word : Name) : Type 0 where
@@ -22,9 +22,13 @@ no_point (byte ∷ bytes) e =
     let other : (byte == 46) ≡ false = grind (arith, nat_tests, both.0) in
     λ i. if other i then ([], Some bytes) else (byte ∷ (no_point bytes both.1 i).0, (no_point bytes both.1 i).1)
 
+digits_alone : (word : Name) → are_digits word ≡ true → list_all is_digit word ≡ true
+digits_alone [] e = refl
+digits_alone (byte ∷ bytes) e = e
+
 pub whole_number : (word : Name) → are_digits word ≡ true → IsWhole word
 whole_number word e =
-    let apart : at_point word ≡ (word, None) = no_point word (and_parts (not (is_empty word)) (list_all is_digit word) e).1 in
+    let apart : at_point word ≡ (word, None) = no_point word (digits_alone word e) in
     record {
       number = (λ i. are_digits (apart i).0 && option_map_or are_digits (apart i).1 true) ∙ ap (λ fits. fits && true) e;
       digits = (λ i. (apart i).0 ++ unwrap_or (apart i).1 []) ∙ append-nil word;
