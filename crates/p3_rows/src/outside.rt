@@ -1,7 +1,7 @@
 //! Failures of the outside, and the outside itself.
 
 use crate::world::{COMPILE, DOMAIN, PROBLEM, WRITTEN_DOMAIN, WRITTEN_PROBLEM, World};
-use p3_base::{Boxed, Files, List, Name, ReadFault, RealFiles, Word};
+use p3_base::{Boxed, Files, List, Name, ReadFault, RealFiles, Sink, SureFiles, SureSink, Word};
 use std::test::Fail;
 
 #[test]
@@ -75,6 +75,27 @@ fn a_real_file_holds_what_was_written(rt: HostRuntime) -> Result<(), Fail> {
         Err(ReadFault::TooLong)
     );
     assert_eq!(rt; into.len(), 300_000);
+    Ok(())
+}
+
+#[test]
+fn what_never_fails_is_held_written_and_read(rt: HostRuntime) -> Result<(), Fail> {
+    let alloc = rt.alloc();
+    let mut files = SureFiles::new(alloc);
+    let name = Word::of(alloc, b"d")?;
+    let other = Word::of(alloc, b"p")?;
+    let mut into = Vec::new(alloc);
+    assert_eq!(rt; files.write(alloc, &other, b"(q)"), Ok(()));
+    files.hold(Word::of(alloc, b"d")?, Vec::from_slice(alloc, b"(p)")?)?;
+    assert_eq!(rt; files.bytes(&other), Some(b"(q)".as_slice()));
+    assert_eq!(rt; files.read(alloc, &name, 3, &mut into), Ok(()));
+    assert_eq!(rt; into.as_slice(), b"(p)".as_slice());
+    assert_eq!(rt;
+        files.read(alloc, &name, 2, &mut into),
+        Err(ReadFault::TooLong)
+    );
+    let mut sink = SureSink::new();
+    assert_eq!(rt; sink.put(b"valid"), Ok(()));
     Ok(())
 }
 
