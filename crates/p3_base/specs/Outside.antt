@@ -21,8 +21,8 @@ abbrev pub holding : List ℕ → List ℕ → Option Store → Option Store
 holding name bytes told = option_map (λ store. insert store name bytes) told
 
 -- it is told that the name is held
-abbrev pub IsNamed : Option Store → List ℕ → Type 0
-IsNamed told name = IsSomeAnd told (λ store. IsSome (bytes_under store name))
+abbrev pub IsStored : Option Store → List ℕ → Type 0
+IsStored told name = IsSomeAnd told (λ store. IsSome (bytes_under store name))
 
 -- where it is told, the name holds these bytes
 abbrev pub IsHeld : Option Store → List ℕ → List ℕ → Type 0

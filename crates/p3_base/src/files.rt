@@ -1,7 +1,7 @@
 //! Files by name, as the compiler sees them.
 
 ghost use Rattle.std.specs.Prelude.{◌≡◌, ◌+◌, ◌≤◌, ℕ, Bool, Option, length, IsSome, IsTrue, OnOk, OnErr, IsErrOf};
-ghost use Rattle.p3_base.specs.Outside.{Store, IsNamed, IsHeld, IsTooLong, BeginsHeld, IsPartlyWritten, Rose, holding};
+ghost use Rattle.p3_base.specs.Outside.{Store, IsStored, IsHeld, IsTooLong, BeginsHeld, IsPartlyWritten, Rose, holding};
 
 use crate::{ReadFault, Word, WriteFault};
 use std::alloc::Global;
@@ -29,7 +29,7 @@ pub trait Files {
         into: &mut Vec<u8>,
     ) -> Result<(), ReadFault>
         // A sure store is asked only for what it holds.
-        requires { IsTrue (sure self.old) → IsNamed (held self.old) name.now }
+        requires { IsTrue (sure self.old) → IsStored (held self.old) name.now }
         ensures ok { OnOk result (IsHeld (held self.old) name.now into.new.items) }
         ensures within_limit { OnOk result (length into.new.items ≤ limit) }
         ensures too_long { IsErrOf result ReadFault.TooLong → IsTooLong (held self.old) name.now limit into.new.items }

@@ -3,7 +3,7 @@
 ghost use Rattle.std.specs.Prelude.{◌≡◌, ◌+◌, ◌≤◌, ◌↔◌, ◌⊎◌, ◌∷◌, ◌++◌, [], Some, None, length, false, IsNone, IsTrue, OnOk, OnErr, IsErrOf, IsErr, refl};
 ghost use Rattle.std.specs.Option.{option_copied};
 ghost use Rattle.std.specs.FinMap as map;
-ghost use Rattle.p3_base.specs.Outside.{IsNamed, IsHeld, IsTooLong, BeginsHeld, IsPartlyWritten, Rose, bytes_under, holding};
+ghost use Rattle.p3_base.specs.Outside.{IsStored, IsHeld, IsTooLong, BeginsHeld, IsPartlyWritten, Rose, bytes_under, holding};
 
 use crate::shelf::Shelf;
 use crate::{Files, NoMemory, ReadFault, Word, WriteFault};

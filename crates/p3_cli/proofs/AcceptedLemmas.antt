@@ -1,5 +1,5 @@
 -- A tiny task is well-formed.
-use Rattle.std.proofs.Common.{◌≡◌, ◌∙◌, refl, sym, ap, subst, Bool, true, false, not, ◌&&◌, ◌||◌, cond, List, [], ◌∷◌, ◌++◌, Option, Some, None, inl, inr, ◌⊎◌}
+use Rattle.std.proofs.Common.{◌≡◌, ◌∙◌, refl, sym, ap, subst, Bool, true, false, not, ◌&&◌, ◌||◌, cond, List, [], ◌∷◌, ◌++◌, map, Option, Some, None, inl, inr, ◌⊎◌}
 use Rattle.std.specs.Prelude.{ℕ, flat_map}
 use Rattle.std.specs.List.{list_all}
 use Rattle.std.specs.Option.{option_map_or}
@@ -8,14 +8,15 @@ use Rattle.std.proofs.lemmas.Bool.{and_parts, or_parts, not-true}
 use Rattle.std.proofs.lemmas.Slice.Eq.{bytes_eq-Decides}
 use denote.Hole.Carrier.{out, shown}
 use mathlib.Core.Former.{none_left, one_more}
-use Rattle.p3_tree.specs.Names.{Name, same_name, has_name}
+use Rattle.p3_tree.specs.Names.{Name, same_name, has_name, is_empty}
 use Rattle.p3_tree.specs.Uses.{Scope, scope_of, Use, Objects, Variables, AtomUse, NameUse, formula_uses, effect_uses, goal_uses, constraint_uses, num_uses, metric_uses, init_uses, header_uses, action_uses, domain_uses, problem_uses}
-use Rattle.p3_tree.specs.Offences.{unless, repeated_after, repeated, repeated_variables, repeated_values, header_words, action_words, header_named, total_cost_with_parameters, unknown_words, miscounted, clashing, name_of_pref, goal_names, constraint_names, preference_names, domain_duplicates, problem_duplicates, domain_unknowns, problem_unknowns, domain_miscounts, problem_miscounts, domain_clashes, problem_clashes, WellFormed}
-use Rattle.p3_tree.specs.Tiny.{is_empty, Literal, Wish, Summand, is_plain_header, are_distinct, is_declared, has_declared_effect, has_declared_entry, has_declared_wish, is_atom_entry, literal_without, atom_in, literal_of_formula, literal_of_effect, named_wish, wish_of, weighted, product_of, summand_of, declares_all, is_well_formed_domain, is_tiny_domain, is_tiny_problem, is_tiny_task, IsTinyTask}
+use Rattle.p3_tree.specs.PreferenceNames.{Named, named_at, named_in_goal, named_in_constraint, preference_names}
+use Rattle.p3_tree.specs.Offences.{unless, repeated_after, repeated, repeated_variables, repeated_values, header_words, action_words, header_named, total_cost_with_parameters, unknown_words, miscounted, clashing, domain_duplicates, problem_duplicates, domain_unknowns, problem_unknowns, domain_miscounts, problem_miscounts, domain_clashes, problem_clashes, WellFormed}
+use Rattle.p3_compile.specs.Tiny.{Literal, Wish, Summand, is_plain_header, are_distinct, is_declared, has_declared_effect, has_declared_entry, has_declared_wish, is_atom_entry, literal_without, atom_in, literal_of_formula, literal_of_effect, named_wish, wish_of, weighted, summand_of_parts, summand_of, declares_all, is_well_formed_domain, is_tiny_domain, is_tiny_problem, is_tiny_task, IsTinyTask}
 use Rattle.p3_tree.proofs.Computes.{trees_compute}
-use Rattle.p3_tree.proofs.ShapeLemmas.{num_uses-Product}
-use Rattle.p3_tree.proofs.TinyParts.{DomainParts, ProblemParts, domain_parts, problem_parts, the_action, the_preference}
-use Rattle.p3_tree.proofs.TinyReading.{OneAction, OnePreference}
+use Rattle.p3_tree.proofs.MeaningLemmas.{num_uses-Product}
+use Rattle.p3_compile.proofs.TinyParts.{DomainParts, ProblemParts, domain_parts, problem_parts, the_action, the_preference}
+use Rattle.p3_compile.proofs.TinyReading.{OneAction, OnePreference}
 use Rattle.p3_tree.specs.declared.term.Ref.{Ref}
 use Rattle.p3_tree.specs.declared.term.Term.{Term}
 use Rattle.p3_tree.specs.declared.formula.Formula.{Formula, Row_of-Formula, more_of-Formula, out-Formula}
@@ -83,7 +84,8 @@ change_uses (effect.Cost at amount) literal scope e = absurd (cc)
 -- what a wish uses, and how it is called
 record IsWished (g : PreGoal) (wish : Wish) : Type 0 where
   uses : goal_uses g [] ≡ AtomUse wish.literal.pred [] [] ∷ []
-  names : goal_names g ≡ wish.name.name ∷ []
+  at : ℕ
+  names : named_in_goal g ≡ record { at = at; name = wish.name.name } ∷ []
 
 wish_parts : (name : Option Ref) (literal : Option Literal) (wish : Wish) → named_wish name literal ≡ Some wish → (name ≡ Some wish.name) × (literal ≡ Some wish.literal)
 wish_parts (Some name) (Some literal) wish e = let same : record { name = name; literal = literal } ≡ wish = cc in (ap (λ (w : Wish). Some w.name) same, ap (λ (w : Wish). Some w.literal) same)
@@ -91,13 +93,13 @@ wish_parts (Some name) None wish e = absurd (cc)
 wish_parts None literal wish e = absurd (cc)
 
 is_wished : (g : PreGoal) (wish : Wish) → wish_of g ≡ Some wish → IsWished g wish
-unfolding wish_of out-PreGoal out goal_uses goal_names
+unfolding wish_of out-PreGoal out goal_uses named_in_goal
 is_wished (goal.Plain body) wish e = absurd (cc)
 is_wished (goal.Both' shape parts) wish e = absurd (cc)
 is_wished (goal.Each' variables shape body) wish e = absurd (cc)
 is_wished (goal.Soft pref) wish e =
     let parts : (pref.name ≡ Some wish.name) × (literal_of_formula pref.body ≡ Some wish.literal) = wish_parts pref.name (literal_of_formula pref.body) wish e in
-    record { uses = literal_uses pref.body wish.literal [] parts.1; names = ap name_of_pref parts.0 }
+    record { uses = literal_uses pref.body wish.literal [] parts.1; at = pref.at; names = ap (named_at pref.at) parts.0 }
 
 weighted_uses : (number count : Num) (summand : Summand) → weighted (out-Num number) (out-Num count) ≡ Some summand → num_uses number ++ (num_uses count ++ []) ≡ NameUse summand.name ∷ []
 unfolding out-Num out num_uses
@@ -108,7 +110,7 @@ weighted_uses (num.Number number) (num.Violated name) summand e = by _ e
     by false e = absurd (cc)
 weighted_uses _ _ summand e = absurd (cc)
 
-product_uses : (at : ℕ) (parts : List Num) (summand : Summand) → product_of parts ≡ Some summand → num_uses (num.Product at parts) ≡ NameUse summand.name ∷ []
+product_uses : (at : ℕ) (parts : List Num) (summand : Summand) → summand_of_parts parts ≡ Some summand → num_uses (num.Product at parts) ≡ NameUse summand.name ∷ []
 product_uses at [] summand e = absurd (cc)
 product_uses at (number ∷ []) summand e = absurd (cc)
 product_uses at (number ∷ count ∷ []) summand e = num_uses-Product at (number ∷ count ∷ []) ∙ weighted_uses number count summand e
@@ -294,14 +296,14 @@ module _ (T : Task) (tiny : IsTinyTask T) where
   wished : IsWished T.problem.goal.body one.wish
   wished = is_wished T.problem.goal.body one.wish one.wished
 
-  action_names : OneAction T ⊎ (T.domain.actions ≡ []) → flat_map (λ (action : Action). goal_names action.pre.body) T.domain.actions ≡ []
-  unfolding goal_names trees_compute
-  action_names (inr none) = ap (flat_map (λ (action : Action). goal_names action.pre.body)) none
-  action_names (inl act) = ap (flat_map (λ (action : Action). goal_names action.pre.body)) act.only ∙ (λ i. goal_names (act.no_condition i) ++ [])
+  action_names : OneAction T ⊎ (T.domain.actions ≡ []) → flat_map (λ (action : Action). named_in_goal action.pre.body) T.domain.actions ≡ []
+  unfolding named_in_goal trees_compute
+  action_names (inr none) = ap (flat_map (λ (action : Action). named_in_goal action.pre.body)) none
+  action_names (inl act) = ap (flat_map (λ (action : Action). named_in_goal action.pre.body)) act.only ∙ (λ i. named_in_goal (act.no_condition i) ++ [])
 
   counted : has_name (preference_names T) one.summand.name.name ≡ true
-  unfolding preference_names constraint_names trees_compute
-  counted = (λ i. has_name (((constraint_names (one.domain_free i) ++ action_names (the_action T tiny) i) ++ constraint_names (one.problem_free i)) ++ wished.names i) one.summand.name.name)
+  unfolding preference_names named_in_constraint trees_compute
+  counted = (λ i. has_name (map (λ (named : Named). named.name) ((named_in_constraint (one.domain_free i) ++ action_names (the_action T tiny) i) ++ (named_in_constraint (one.problem_free i) ++ wished.names i))) one.summand.name.name)
       ∙ ap (λ test. test || false) ((bytes_eq-Decides one.wish.name.name one.summand.name.name).1 one.counted)
 
   abbrev entry_list : List Use

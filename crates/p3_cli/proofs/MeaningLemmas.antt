@@ -15,9 +15,9 @@ use Rattle.p3_tree.specs.Grammar.Texts.{Reads}
 use Rattle.p3_tree.specs.Lifting.{steps, steps_of}
 use Rattle.p3_tree.specs.Limits.{step_count}
 use Rattle.p3_tree.specs.Metrics.{base_loss, direction, direction_by}
-use Rattle.p3_tree.specs.Tiny.{IsTinyTask}
-use Rattle.p3_tree.proofs.TinyParts.{the_action, the_preference}
-use Rattle.p3_tree.proofs.TinyReading.{OneAction, OnePreference, one_instance, base_is}
+use Rattle.p3_compile.specs.Tiny.{IsTinyTask}
+use Rattle.p3_compile.proofs.TinyParts.{the_action, the_preference}
+use Rattle.p3_compile.proofs.TinyReading.{OneAction, OnePreference, one_instance, base_is}
 use Rattle.p3_tree.specs.declared.task.Action.{Action}
 use Rattle.p3_tree.specs.declared.task.Step.{Step}
 use Rattle.p3_tree.specs.declared.task.Task.{Task}

@@ -1,7 +1,7 @@
 -- What two texts spell is tiny.
 use Rattle.std.proofs.Common.{◌≡◌, ℕ, Bool, true, false, List, Option, Some, None, refl, subst, cond}
 use Rattle.std.specs.Prelude.{IsTrue, ◌&&◌}
-use Rattle.p3_tree.specs.Tiny.{IsTinyTask, is_tiny_task, is_tiny_domain, is_tiny_problem}
+use Rattle.p3_compile.specs.Tiny.{IsTinyTask, is_tiny_task, is_tiny_domain, is_tiny_problem}
 use Rattle.p3_tree.specs.Expressions.{expression_of_text}
 use Rattle.p3_tree.specs.declared.expression.Expression.{Expression}
 use Rattle.p3_tree.specs.declared.task.Domain.{Domain}

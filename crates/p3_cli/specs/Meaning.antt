@@ -9,7 +9,7 @@ use Rattle.p3_tree.specs.Faithful.{Faithful}
 use Rattle.p3_tree.specs.Limits.{step_count, instance_count}
 use Rattle.p3_tree.specs.Metrics.{base_loss, direction}
 use Rattle.p3_tree.specs.Offences.{WellFormed}
-use Rattle.p3_tree.specs.Tiny.{IsTinyTask}
+use Rattle.p3_compile.specs.Tiny.{IsTinyTask}
 use Rattle.p3_tree.specs.declared.task.Task.{Task}
 use Rattle.p3_cli.specs.Request.{Request, Compile}
 

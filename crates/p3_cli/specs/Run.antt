@@ -6,7 +6,7 @@ use Rattle.p3_base.specs.Outside.{Store, Rose, IsPartlyPut, bytes_under, with_pu
 use Rattle.p3_cli.specs.Ending.{status_of, lines_of}
 use Rattle.p3_cli.specs.Product.{refused, Produces}
 use Rattle.p3_cli.specs.Request.{Request, Output, inputs, outputs}
-use Rattle.p3_cli.specs.Store.{Reading, Texts, TooLong, Absent, reading, AreNamed, holding_all, AreFirstWritten, IsWrittenUpTo}
+use Rattle.p3_cli.specs.Store.{Reading, Texts, TooLong, Absent, reading, AreStored, holding_all, AreFirstWritten, IsWrittenUpTo}
 use Rattle.p3_cli.specs.declared.ending.Ending.{Ending}
 use Rattle.p3_cli.specs.declared.ending.Ending.TheVariants as ending
 
@@ -97,7 +97,7 @@ IsAcceptedIn (Some request) store = IsAccepted store request
 -- it is told that each input that is asked for is held
 abbrev pub AreHeld : Option Request → Option Store → Type 0
 AreHeld None told = Unit {0}
-AreHeld (Some request) told = AreNamed told (inputs request)
+AreHeld (Some request) told = AreStored told (inputs request)
 
 -- no output that is asked for has the name
 abbrev pub IsNoOutput : Option Request → List ℕ → Type 0

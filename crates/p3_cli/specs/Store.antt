@@ -1,6 +1,6 @@
 -- Reading all inputs from what a store holds, and writing all outputs to it.
 use Rattle.std.specs.Prelude.{ℕ, ◌≡◌, ◌<◌, ◌≤◌, nat_lt, cond, List, [], ◌∷◌, Option, Some, None, take, length, IsSomeAnd, slice_get}
-use Rattle.p3_base.specs.Outside.{Store, bytes_under, holding, IsNamed, IsPartlyWritten}
+use Rattle.p3_base.specs.Outside.{Store, bytes_under, holding, IsStored, IsPartlyWritten}
 use Rattle.p3_base.specs.declared.refusal.Role.{Role}
 use Rattle.p3_cli.specs.Request.{Input, Output}
 
@@ -27,9 +27,9 @@ reading store [] = Texts []
 reading store (input ∷ inputs) = reading_on input (bytes_under store input.name) (reading store inputs)
 
 -- it is told that every input is held
-abbrev pub AreNamed : Option Store → List Input → Type 0
-AreNamed told [] = Unit {0}
-AreNamed told (input ∷ inputs) = IsNamed told input.name × AreNamed told inputs
+abbrev pub AreStored : Option Store → List Input → Type 0
+AreStored told [] = Unit {0}
+AreStored told (input ∷ inputs) = IsStored told input.name × AreStored told inputs
 
 -- there is a text for each input, within its limit
 abbrev pub AreWithin : List Input → List (List ℕ) → Type 0

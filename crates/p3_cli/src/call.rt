@@ -6,7 +6,7 @@ ghost use Rattle.p3_cli.specs.Asked.{asked_request};
 ghost use Rattle.p3_cli.specs.Meaning.{IsDone};
 ghost use Rattle.p3_cli.specs.Request.{inputs, request_of};
 ghost use Rattle.p3_cli.specs.Run.{Answers, AreHeld, Comes, Ends, IsAcceptedIn, IsRefusedIn, Leaves, OthersStay, Tells};
-ghost use Rattle.p3_cli.specs.Store.{AreNamed};
+ghost use Rattle.p3_cli.specs.Store.{AreStored};
 ghost use Rattle.p3_cli.specs.declared.ending.Ending.{Ending};
 
 use crate::Ending;
@@ -79,7 +79,7 @@ fn ending_of<F: Files>(alloc: Global, words: &[Word], files: &mut F) -> Ending
 /// Carries a request out: reads its inputs in order, makes its product, and then writes its outputs
 /// in order.
 fn carried_out<F: Files>(alloc: Global, request: &Request<'_>, files: &mut F) -> Ending
-    requires { IsTrue (F.sure files.old) → AreNamed (F.held files.old) (inputs (asked_request request.now)) }
+    requires { IsTrue (F.sure files.old) → AreStored (F.held files.old) (inputs (asked_request request.now)) }
     ensures comes { Comes (asked_request request.now)
         (record { held = F.held files.old; read_faults = F.read_faults files.old; write_faults = F.write_faults files.old })
         (record { held = F.held files.new; read_faults = F.read_faults files.new; write_faults = F.write_faults files.new }) result }

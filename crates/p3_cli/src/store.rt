@@ -1,10 +1,10 @@
 //! Reading the inputs and writing the outputs.
 
 ghost use Rattle.std.specs.Prelude.{◌≡◌, ◌≤◌, ◌∷◌, [], length, map, Some, IfOk, IfErr, IfSome, OnOk, IsTrue};
-ghost use Rattle.p3_base.specs.Outside.{IsNamed};
+ghost use Rattle.p3_base.specs.Outside.{IsStored};
 ghost use Rattle.p3_cli.specs.Asked.{asked_input, asked_inputs, asked_writings};
 ghost use Rattle.p3_cli.specs.Outcome.{ReadsAll, ReadFails, WriteFails};
-ghost use Rattle.p3_cli.specs.Store.{AreNamed, AreWithin, holding_all};
+ghost use Rattle.p3_cli.specs.Store.{AreStored, AreWithin, holding_all};
 
 use crate::Ending;
 use crate::request::{Input, Written};
@@ -17,7 +17,7 @@ pub(crate) fn read_all<F: Files>(
     files: &mut F,
     inputs: &[Input<'_>],
 ) -> Result<Vec<Vec<u8>>, Ending>
-    requires { IsTrue (F.sure files.old) → AreNamed (F.held files.old) (asked_inputs inputs.now) }
+    requires { IsTrue (F.sure files.old) → AreStored (F.held files.old) (asked_inputs inputs.now) }
     ensures ok { IfOk result (λ texts. ReadsAll (F.held files.old) (asked_inputs inputs.now) (map (λ text. text.items) texts.items)) }
     ensures within { IfOk result (λ texts. AreWithin (asked_inputs inputs.now) (map (λ text. text.items) texts.items)) }
     ensures err { IfErr result (ReadFails (F.held files.old) (asked_inputs inputs.now) (F.read_faults files.old) (F.read_faults files.new)) }
@@ -41,7 +41,7 @@ pub(crate) fn read_all<F: Files>(
 
 /// Reads an input.
 fn read_one<F: Files>(alloc: Global, files: &mut F, input: &Input<'_>) -> Result<Vec<u8>, Ending>
-    requires { IsTrue (F.sure files.old) → IsNamed (F.held files.old) input.now.name.now }
+    requires { IsTrue (F.sure files.old) → IsStored (F.held files.old) input.now.name.now }
     ensures ok { IfOk result (λ text. ReadsAll (F.held files.old) (asked_input input.now ∷ []) (text.items ∷ [])) }
     ensures within { IfOk result (λ text. length text.items ≤ input.now.limit) }
     ensures err { IfErr result (ReadFails (F.held files.old) (asked_input input.now ∷ []) (F.read_faults files.old) (F.read_faults files.new)) }

@@ -1,7 +1,7 @@
 //! What `compile` makes of the texts of a domain and a problem.
 
 ghost use Rattle.std.specs.Prelude.{◌≡◌, ◌≤◌, length, IfOk, IfErr, OnOk, None, Some, string_bytes};
-ghost use Rattle.p3_tree.specs.Tiny.{IsTinyTask};
+ghost use Rattle.p3_compile.specs.Tiny.{IsTinyTask};
 ghost use Rattle.p3_syntax.specs.Texts.{domain_of_text, problem_of_text, malformed};
 ghost use Rattle.p3_cli.specs.Product.{IsRefusedBy};
 ghost use Rattle.p3_cli.specs.Refusal.{refusal_line};

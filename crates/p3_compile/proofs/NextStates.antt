@@ -15,8 +15,8 @@ use Rattle.p3_tree.proofs.Computes.{meaning_computes}
 use Rattle.p3_tree.proofs.StateLemmas.{has_fact-changed}
 use Rattle.p3_tree.proofs.PlanLemmas.{fit_from, state_from, cost_of, steps_fit-walk, last_state-walk, cost-walk}
 use Rattle.p3_tree.proofs.MeaningLemmas.{adds-All, dels-All}
-use Rattle.p3_tree.proofs.OneInstance.{Words, Running, Ending, Ended, Fitting, Costing, LiftingTo}
-use Rattle.p3_tree.proofs.TinyMeaning.{signed_by}
+use Rattle.p3_compile.proofs.OneInstance.{Words, Running, Ending, Ended, Fitting, Costing, LiftingTo}
+use Rattle.p3_compile.proofs.TinyMeaning.{signed_by}
 use Rattle.p3_tree.specs.declared.state.Fact.{Fact}
 use Rattle.p3_tree.specs.declared.effect.Effect.{Effect}
 use Rattle.p3_tree.specs.declared.effect.Effect.TheVariants as effect

@@ -12,7 +12,7 @@ use Rattle.std.proofs.lemmas.Bool.Decides.{nat_tests}
 use Rattle.p3_tree.specs.Names.{Name, same_name}
 use Rattle.p3_tree.specs.States.{State, has_fact, initial_fact}
 use Rattle.p3_tree.specs.Costs.{value_numeral}
-use Rattle.p3_tree.specs.Tiny.{pred_of_entry}
+use Rattle.p3_compile.specs.Tiny.{pred_of_entry}
 use Rattle.p3_tree.specs.declared.term.Ref.{Ref}
 use Rattle.p3_tree.specs.declared.task.Header.{Header}
 use Rattle.p3_tree.specs.declared.task.Init.{Init}

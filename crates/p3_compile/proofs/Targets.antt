@@ -15,8 +15,8 @@ use Rattle.p3_tree.specs.Plans.{action_named, fits, fits_by}
 use Rattle.p3_tree.specs.Metrics.{cost}
 use Rattle.p3_tree.proofs.Computes.{meaning_computes}
 use Rattle.p3_tree.proofs.MeaningLemmas.{hard_holds-Both, increases-All}
-use Rattle.p3_tree.proofs.OneInstance.{Words, Fit, Copies, Finishes, Collects, Forgoes}
-use Rattle.p3_tree.proofs.TinyMeaning.{signed_by}
+use Rattle.p3_compile.proofs.OneInstance.{Words, Fit, Copies, Finishes, Collects, Forgoes}
+use Rattle.p3_compile.proofs.TinyMeaning.{signed_by}
 use Rattle.p3_tree.specs.declared.state.Fact.{Fact}
 use Rattle.p3_tree.specs.declared.effect.Numeral.{Numeral}
 use Rattle.p3_tree.specs.declared.effect.Effect.TheVariants as effect

@@ -15,11 +15,11 @@ use Rattle.p3_tree.specs.Bindings.{tuples}
 use Rattle.p3_tree.specs.Costs.{value_numeral, value_numerals, cost_places, given_value, initial_cost}
 use Rattle.p3_tree.specs.Lifting.{steps, steps_of}
 use Rattle.p3_tree.specs.Faithful.{Faithful}
-use Rattle.p3_tree.specs.Tiny.{Literal, IsTinyTask, is_tiny_task, is_tiny_domain, is_tiny_problem, is_well_formed_domain, has_tiny_domain_shape, has_declared_effect, has_declared_entry, has_declared_wish, declares_all, is_declared, summand_of}
-use Rattle.p3_tree.proofs.OneInstance.{Words, Running, one_instance_faithful}
-use Rattle.p3_tree.proofs.TinyMeaning.{truth, signed_by, fact_of_literal}
-use Rattle.p3_tree.proofs.TinyReading.{OneAction, OnePreference, the_step, reading_with_action, reading_without_action}
-use Rattle.p3_tree.proofs.TinyParts.{the_action, the_preference}
+use Rattle.p3_compile.specs.Tiny.{Literal, IsTinyTask, is_tiny_task, is_tiny_domain, is_tiny_problem, is_well_formed_domain, has_tiny_domain_shape, has_declared_effect, has_declared_entry, has_declared_wish, declares_all, is_declared, summand_of}
+use Rattle.p3_compile.proofs.OneInstance.{Words, Running, one_instance_faithful}
+use Rattle.p3_compile.proofs.TinyMeaning.{truth, signed_by, fact_of_literal}
+use Rattle.p3_compile.proofs.TinyReading.{OneAction, OnePreference, the_step, reading_with_action, reading_without_action}
+use Rattle.p3_compile.proofs.TinyParts.{the_action, the_preference}
 use Rattle.p3_tree.specs.declared.metric.Metric.{Metric}
 use Rattle.p3_tree.specs.declared.task.Header.{Header}
 use Rattle.p3_tree.specs.declared.task.Step.{Step}

@@ -1,7 +1,7 @@
 -- What a tiny task has.
 use Rattle.std.proofs.Common.{◌≡◌, ℕ, Bool, true, false, Option, Some, None, IsSome, refl, sym, ap, subst, ◌∙◌}
 use Rattle.std.specs.Prelude.{◌&&◌, IsTrue, option_map}
-use Rattle.p3_tree.specs.Tiny.{IsTinyTask, is_tiny_task, is_tiny_domain, is_tiny_problem, has_tiny_problem_shape, wish_of, counted, is_well_formed_problem, is_same_name, Wish, Summand, Literal}
+use Rattle.p3_compile.specs.Tiny.{IsTinyTask, is_tiny_task, is_tiny_domain, is_tiny_problem, has_tiny_problem_shape, wish_of, counted, is_well_formed_problem, is_same_name, Wish, Summand, Literal}
 use Rattle.p3_tree.specs.declared.task.Task.{Task}
 use Rattle.p3_tree.specs.declared.task.Domain.{Domain}
 use Rattle.p3_tree.specs.declared.task.Problem.{Problem}

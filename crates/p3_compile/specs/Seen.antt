@@ -1,5 +1,5 @@
 -- The code's literals, as the definitions of tiny tasks see them.
-use Rattle.p3_tree.specs.Tiny as tiny
+use Rattle.p3_compile.specs.Tiny as tiny
 use Rattle.p3_compile.specs.declared.literal.Literal.{Literal}
 
 abbrev pub seen : Literal → tiny.Literal

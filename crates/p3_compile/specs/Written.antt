@@ -5,7 +5,7 @@ use Rattle.std.specs.Option.{option_map_or}
 use Rattle.std.specs.Fmt.{decimal}
 use Rattle.p3_base.specs.declared.refusal.Direction.TheVariants.{Minimize}
 use Rattle.p3_tree.specs.Names.{Name, same_name}
-use Rattle.p3_tree.specs.Tiny.{Literal, literal_of_effect, wish_of, counted, pred_of_entry}
+use Rattle.p3_compile.specs.Tiny.{Literal, literal_of_effect, wish_of, counted, pred_of_entry}
 use Rattle.p3_tree.specs.declared.constraint.Constraint.TheVariants as constraint
 use Rattle.p3_tree.specs.declared.constraint.Constraint.{Constraint}
 use Rattle.p3_tree.specs.declared.effect.Amount.TheVariants as amount

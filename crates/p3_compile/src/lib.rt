@@ -7,5 +7,5 @@ mod literal;
 mod tree;
 mod written;
 
-pub use laws::tiny_tasks_keep_their_meaning;
+pub use laws::{first_example_is_faithful, tiny_tasks_keep_their_meaning};
 pub use written::compile_small;

@@ -1,7 +1,7 @@
 //! What a tiny task says, without its trees.
 
 ghost use Rattle.std.specs.Prelude.{◌≡◌, option_map};
-ghost use Rattle.p3_tree.specs.Tiny as tiny;
+ghost use Rattle.p3_compile.specs.Tiny as tiny;
 ghost use Rattle.p3_compile.specs.Seen.{seen};
 ghost use Rattle.p3_tree.specs.declared.formula.Formula.{out-Formula};
 
@@ -17,7 +17,7 @@ pub(crate) struct Literal<'a> {
 }
 
 /// The literal of an effect.
-#[tactic(auto, unfolding(p3_tree::specs::Tiny::literal_of_effect))]
+#[tactic(auto, unfolding(crate::specs::Tiny::literal_of_effect))]
 pub(crate) fn literal_of_effect(effect: &Effect) -> Option<Literal<'_>>
     ensures { option_map seen result ≡ tiny.literal_of_effect effect.now }
 {
@@ -45,7 +45,7 @@ fn atom(formula: &Formula, is_negated: bool) -> Option<Literal<'_>>
 }
 
 /// The literal of a formula.
-#[tactic(auto, unfolding(p3_tree::specs::Tiny::literal_of_formula))]
+#[tactic(auto, unfolding(crate::specs::Tiny::literal_of_formula))]
 fn literal_of_formula(formula: &Formula) -> Option<Literal<'_>>
     ensures { option_map seen result ≡ tiny.literal_of_formula formula.now }
 {
@@ -56,7 +56,7 @@ fn literal_of_formula(formula: &Formula) -> Option<Literal<'_>>
 }
 
 /// The literal that is preferred.
-#[tactic(auto, unfolding(p3_tree::specs::Tiny::wish_of))]
+#[tactic(auto, unfolding(crate::specs::Tiny::wish_of))]
 pub(crate) fn wished_literal(goal: &PreGoal) -> Option<Literal<'_>>
     ensures { option_map seen result ≡ option_map (λ wish. wish.literal) (tiny.wish_of goal.now) }
 {
@@ -67,7 +67,7 @@ pub(crate) fn wished_literal(goal: &PreGoal) -> Option<Literal<'_>>
 }
 
 /// The weight of a summand.
-#[tactic(auto, unfolding(p3_tree::specs::Tiny::summand_of))]
+#[tactic(auto, unfolding(crate::specs::Tiny::summand_of))]
 fn weight_of_summand(num: &Num) -> Option<u64>
     ensures { result ≡ option_map (λ summand. summand.weight) (tiny.summand_of num.now) }
 {

@@ -2,7 +2,7 @@
 
 ghost use Rattle.std.specs.Prelude.{◌≡◌, ◌++◌, ◌∷◌, [], map, option_to_list, IfOk, OnOk};
 ghost use Rattle.p3_tree.specs.Faithful.{Faithful};
-ghost use Rattle.p3_tree.specs.Tiny.{IsTinyTask};
+ghost use Rattle.p3_compile.specs.Tiny.{IsTinyTask};
 ghost use Rattle.p3_compile.specs.Seen.{seen};
 ghost use Rattle.p3_compile.specs.Written as written;
 

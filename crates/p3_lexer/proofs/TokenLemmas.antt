@@ -7,7 +7,7 @@ use Rattle.std.specs.Char.{to_ascii_lowercase}
 use Rattle.std.specs.Str.{str_to_ascii_lowercase}
 use Rattle.std.proofs.lemmas.Bool.Decides.{nat_tests}
 use Rattle.p3_lexer.specs.Lexing.{is_between, gap_len, token_of, token_len}
-use Rattle.p3_tree.specs.Tokens.{Token, Open, Close, Word, Tokens, is_blank, is_of_word, is_comment_after, before, joined, with_byte, tokens_from}
+use Rattle.p3_tree.specs.Tokens.{Token, Open, Close, Word, Tokens, is_blank, is_of_word, is_comment_after, before, prefixed, with_byte, tokens_from}
 
 -- the tokens from one more byte on
 tokens_step : (is_comment : Bool) (text : List ℕ) (at : ℕ) → at < length text
@@ -135,17 +135,17 @@ module _ (at : ℕ) where
   either_list true x y p q = p
   either_list false x y p q = q
 
-  FromOn-joined : (byte : ℕ) (tokens : List Token) → FromOn at (joined at byte tokens)
+  FromOn-prefixed : (byte : ℕ) (tokens : List Token) → FromOn at (prefixed at byte tokens)
   unfolding FromOn
-  FromOn-joined byte [] = omega arith
-  FromOn-joined byte (Open next ∷ later) = omega arith
-  FromOn-joined byte (Close next ∷ later) = omega arith
-  FromOn-joined byte (Word next text ∷ later) = either_list (next == at + 1) _ _ (omega arith) (omega arith)
+  FromOn-prefixed byte [] = omega arith
+  FromOn-prefixed byte (Open next ∷ later) = omega arith
+  FromOn-prefixed byte (Close next ∷ later) = omega arith
+  FromOn-prefixed byte (Word next text ∷ later) = either_list (next == at + 1) _ _ (omega arith) (omega arith)
 
   FromOn-with_byte : (byte : ℕ) (later : Tokens) → FromOn (at + 1) later.tokens → FromOn at (with_byte at byte later).tokens
   unfolding FromOn
   FromOn-with_byte byte later h =
-      either (byte == 40) _ _ tt (either (byte == 41) _ _ tt (either (is_of_word byte) _ _ (FromOn-joined byte later.tokens) (either (is_blank byte || byte == 59) _ _ (FromOn-before later.tokens h) tt)))
+      either (byte == 40) _ _ tt (either (byte == 41) _ _ tt (either (is_of_word byte) _ _ (FromOn-prefixed byte later.tokens) (either (is_blank byte || byte == 59) _ _ (FromOn-before later.tokens h) tt)))
 
 -- the tokens from an offset on
 FromOn-tokens : (is_comment : Bool) (at : ℕ) (bytes : List ℕ) → FromOn at (tokens_from is_comment at bytes).tokens
@@ -161,21 +161,21 @@ FromOn-behind at byte later no_word h =
     rw no_word (either (at + 1) (byte == 40) _ _ tt (either (at + 1) (byte == 41) _ _ tt (either (at + 1) (is_blank byte || byte == 59) _ _ h tt)))
 
 -- a byte before a word that begins behind the next offset is a word of its own
-joined_alone : (at byte : ℕ) (tokens : List Token) → FromOn ((at + 1) + 1) tokens → joined at byte tokens ≡ Word at (to_ascii_lowercase byte ∷ []) ∷ tokens
+prefixed_alone : (at byte : ℕ) (tokens : List Token) → FromOn ((at + 1) + 1) tokens → prefixed at byte tokens ≡ Word at (to_ascii_lowercase byte ∷ []) ∷ tokens
 unfolding FromOn
-joined_alone at byte [] h = refl
-joined_alone at byte (Open next ∷ later) h = refl
-joined_alone at byte (Close next ∷ later) h = refl
-joined_alone at byte (Word next text ∷ later) h = grind (arith, nat_tests)
+prefixed_alone at byte [] h = refl
+prefixed_alone at byte (Open next ∷ later) h = refl
+prefixed_alone at byte (Close next ∷ later) h = refl
+prefixed_alone at byte (Word next text ∷ later) h = grind (arith, nat_tests)
 
-word_byte : (at byte : ℕ) (later : Tokens) → is_of_word byte ≡ true → with_byte at byte later ≡ record { tokens = joined at byte later.tokens; foreign = later.foreign }
+word_byte : (at byte : ℕ) (later : Tokens) → is_of_word byte ≡ true → with_byte at byte later ≡ record { tokens = prefixed at byte later.tokens; foreign = later.foreign }
 word_byte at byte later word = grind (arith, nat_tests)
 
 no_comment : (byte : ℕ) → is_of_word byte ≡ true → is_comment_after false byte ≡ false
 no_comment byte word = grind (arith, nat_tests)
 
 abbrev with_word_byte : ℕ → ℕ → Tokens → Tokens
-with_word_byte at byte later = record { tokens = joined at byte later.tokens; foreign = later.foreign }
+with_word_byte at byte later = record { tokens = prefixed at byte later.tokens; foreign = later.foreign }
 
 word_front : (at byte : ℕ) (bytes : List ℕ) → is_of_word byte ≡ true → tokens_from false at (byte ∷ bytes) ≡ with_word_byte at byte (tokens_from false (at + 1) bytes)
 unfolding tokens_from
@@ -184,21 +184,21 @@ word_front at byte bytes word = word_byte at byte _ word ∙ ap (λ (b : Bool). 
 abbrev word_before : ℕ → ℕ → List ℕ → Tokens
 word_before at len bytes = before (Word at (str_to_ascii_lowercase (take len bytes))) (tokens_from false (at + len) (drop len bytes))
 
-joined_next : (at byte : ℕ) (text : List ℕ) (later : List Token) → joined at byte (Word (at + 1) text ∷ later) ≡ Word at (to_ascii_lowercase byte ∷ text) ∷ later
-joined_next at byte text later = grind (arith, nat_tests)
+prefixed_next : (at byte : ℕ) (text : List ℕ) (later : List Token) → prefixed at byte (Word (at + 1) text ∷ later) ≡ Word at (to_ascii_lowercase byte ∷ text) ∷ later
+prefixed_next at byte text later = grind (arith, nat_tests)
 
 grown : (at byte len : ℕ) (bytes : List ℕ) → with_word_byte at byte (word_before (at + 1) len bytes) ≡ word_before at (1 + len) (byte ∷ bytes)
 grown at byte len bytes =
     let one : 1 + len ≡ suc len = omega arith in
     let place : at + suc len ≡ (at + 1) + len = omega arith in
-    rw (one, place, joined_next) refl
+    rw (one, place, prefixed_next) refl
 
 alone : (at byte next : ℕ) (bytes : List ℕ) → is_of_word next ≡ false
     → with_word_byte at byte (tokens_from false (at + 1) (next ∷ bytes)) ≡ word_before at 1 (byte ∷ next ∷ bytes)
 unfolding tokens_from
 alone at byte next bytes no_word =
     let later : Tokens = tokens_from (is_comment_after false next) ((at + 1) + 1) bytes in
-    rw (joined_alone at byte (with_byte (at + 1) next later).tokens (FromOn-behind (at + 1) next later no_word (FromOn-tokens (is_comment_after false next) ((at + 1) + 1) bytes))) refl
+    rw (prefixed_alone at byte (with_byte (at + 1) next later).tokens (FromOn-behind (at + 1) next later no_word (FromOn-tokens (is_comment_after false next) ((at + 1) + 1) bytes))) refl
 
 word_run_by : (is_word : Bool) (at byte next : ℕ) (bytes : List ℕ) → is_of_word byte ≡ true → is_of_word next ≡ is_word
     → (is_of_word next ≡ true → tokens_from false (at + 1) (next ∷ bytes) ≡ word_before (at + 1) (prefix_len is_of_word (next ∷ bytes)) (next ∷ bytes))

@@ -9,7 +9,7 @@ use Rattle.std.proofs.lemmas.List.Folds.{list_all-append}
 use Rattle.p3_tree.specs.declared.task.Step.{Step}
 use Rattle.p3_tree.specs.Names.{Name}
 use Rattle.p3_tree.specs.Plans.{Plan}
-use Rattle.p3_tree.specs.Tokens.{Token, Open, Close, Word, Tokens, is_of_word, is_blank, is_comment_after, joined, with_byte, tokens_from}
+use Rattle.p3_tree.specs.Tokens.{Token, Open, Close, Word, Tokens, is_of_word, is_blank, is_comment_after, prefixed, with_byte, tokens_from}
 use Rattle.p3_tree.specs.PlanTexts.{Mark, Opens, Closes, Names, mark_of, step_marks, is_plan_word, has_plan_words, IsPlanText}
 use Rattle.p3_base.specs.Words.{is_lowered}
 use Rattle.p3_plans.specs.Layout.{is_written_word, has_written_words}
@@ -39,16 +39,16 @@ either_tokens : (b : Bool) (x y : Tokens) → (b ≡ true → AreWritten x.token
 either_tokens true x y p q = p refl
 either_tokens false x y p q = q
 
-written_joined : (at byte : ℕ) (later : List Token) → is_of_word byte ≡ true → AreWritten later → AreWritten (joined at byte later)
-written_joined at byte [] is all = rw (lowered_byte byte is) refl
-written_joined at byte (Open next ∷ later) is all = rw (lowered_byte byte is) all
-written_joined at byte (Close next ∷ later) is all = rw (lowered_byte byte is) all
-written_joined at byte (Word next text ∷ later) is all = either (next == at + 1) _ _ (rw (lowered_byte byte is) all) (rw (lowered_byte byte is) all)
+written_prefixed : (at byte : ℕ) (later : List Token) → is_of_word byte ≡ true → AreWritten later → AreWritten (prefixed at byte later)
+written_prefixed at byte [] is all = rw (lowered_byte byte is) refl
+written_prefixed at byte (Open next ∷ later) is all = rw (lowered_byte byte is) all
+written_prefixed at byte (Close next ∷ later) is all = rw (lowered_byte byte is) all
+written_prefixed at byte (Word next text ∷ later) is all = either (next == at + 1) _ _ (rw (lowered_byte byte is) all) (rw (lowered_byte byte is) all)
 
 written_byte : (at byte : ℕ) (later : Tokens) → AreWritten later.tokens → AreWritten (with_byte at byte later).tokens
 written_byte at byte later all =
     either_tokens (byte == 40) _ _ (λ _. all) (either_tokens (byte == 41) _ _ (λ _. all)
-    (either_tokens (is_of_word byte) _ _ (λ is. written_joined at byte later.tokens is all) (either_tokens (is_blank byte || byte == 59) _ _ (λ _. all) refl)))
+    (either_tokens (is_of_word byte) _ _ (λ is. written_prefixed at byte later.tokens is all) (either_tokens (is_blank byte || byte == 59) _ _ (λ _. all) refl)))
 
 -- the words of tokens are lowered, and made of bytes of words
 written_from : (is_comment : Bool) (at : ℕ) (bytes : List ℕ) → AreWritten (tokens_from is_comment at bytes).tokens

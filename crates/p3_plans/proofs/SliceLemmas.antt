@@ -11,7 +11,7 @@ use Rattle.p3_base.specs.declared.refusal.Code.TheVariants.{Malformed, TooManySt
 use Rattle.p3_tree.specs.declared.task.Step.{Step}
 use Rattle.p3_tree.specs.Names.{Name}
 use Rattle.p3_tree.specs.Plans.{Plan}
-use Rattle.p3_tree.specs.Tokens.{Token, Open, Close, Word, Tokens, is_of_word, is_blank, is_comment_after, before, joined, with_byte, tokens_from, tokens_of}
+use Rattle.p3_tree.specs.Tokens.{Token, Open, Close, Word, Tokens, is_of_word, is_blank, is_comment_after, before, prefixed, with_byte, tokens_from, tokens_of}
 use Rattle.p3_tree.specs.PlanTexts.{Mark, Opens, Closes, Names, mark_of, step_marks, is_plan_word, has_plan_words, word_offence, step_limit, IsPlanText, Outside, Named}
 use Rattle.p3_plans.specs.Steps.{StepText, unless_offence, steps_from}
 use Rattle.p3_plans.specs.Laws.{AreTextsOf, all_of}
@@ -24,7 +24,7 @@ abbrev by_tests : ℕ → ℕ → Bool → Bool → Bool → Bool → Tokens →
 by_tests at byte opens closes word between later =
     if opens then before (Open at) later
     else (if closes then before (Close at) later
-    else (if word then record { tokens = joined at byte later.tokens; foreign = later.foreign }
+    else (if word then record { tokens = prefixed at byte later.tokens; foreign = later.foreign }
     else (if between then later
     else record { tokens = []; foreign = Some at })))
 
@@ -65,23 +65,23 @@ same_both true x = refl
 same_both false x = refl
 
 module _ (at byte : ℕ) where
-  first_joined : (later : List Token) → first_close (joined at byte later) ≡ first_close later
-  first_joined [] = refl
-  first_joined (Open next ∷ later) = refl
-  first_joined (Close next ∷ later) = refl
-  first_joined (Word next text ∷ later) = both first_close (next == at + 1) _ _ ∙ same_both (next == at + 1) (first_close later)
+  first_prefixed : (later : List Token) → first_close (prefixed at byte later) ≡ first_close later
+  first_prefixed [] = refl
+  first_prefixed (Open next ∷ later) = refl
+  first_prefixed (Close next ∷ later) = refl
+  first_prefixed (Word next text ∷ later) = both first_close (next == at + 1) _ _ ∙ same_both (next == at + 1) (first_close later)
 
-  front_joined : (later : List Token) → joined at byte (to_close later) ≡ to_close (joined at byte later)
-  front_joined [] = refl
-  front_joined (Open next ∷ later) = refl
-  front_joined (Close next ∷ later) = refl
-  front_joined (Word next text ∷ later) = sym (both to_close (next == at + 1) _ _)
+  front_prefixed : (later : List Token) → prefixed at byte (to_close later) ≡ to_close (prefixed at byte later)
+  front_prefixed [] = refl
+  front_prefixed (Open next ∷ later) = refl
+  front_prefixed (Close next ∷ later) = refl
+  front_prefixed (Word next text ∷ later) = sym (both to_close (next == at + 1) _ _)
 
-  rest_joined : (later : List Token) → behind_close (joined at byte later) ≡ behind_close later
-  rest_joined [] = refl
-  rest_joined (Open next ∷ later) = refl
-  rest_joined (Close next ∷ later) = refl
-  rest_joined (Word next text ∷ later) = both behind_close (next == at + 1) _ _ ∙ same_both (next == at + 1) (behind_close later)
+  rest_prefixed : (later : List Token) → behind_close (prefixed at byte later) ≡ behind_close later
+  rest_prefixed [] = refl
+  rest_prefixed (Open next ∷ later) = refl
+  rest_prefixed (Close next ∷ later) = refl
+  rest_prefixed (Word next text ∷ later) = both behind_close (next == at + 1) _ _ ∙ same_both (next == at + 1) (behind_close later)
 
 -- a byte that is no `)` stands before the first one
 record Keeps (at byte close : ℕ) (later : Tokens) (opens word between : Bool) : Type 0 where
@@ -92,9 +92,9 @@ record Keeps (at byte close : ℕ) (later : Tokens) (opens word between : Bool) 
 keeps : (at byte close : ℕ) (later : Tokens) (opens word between : Bool) → first_close (by_tests at byte opens false word between later).tokens ≡ Some close → Keeps at byte close later opens word between
 keeps at byte close later true word between is = record { closes = is; front = refl; rest = refl }
 keeps at byte close later false true between is = record {
-  closes = sym (first_joined at byte later.tokens) ∙ is;
-  front = ap (λ (tokens : List Token). record { tokens = tokens; foreign = None }) (front_joined at byte later.tokens);
-  rest = ap (λ (tokens : List Token). record { tokens = tokens; foreign = later.foreign }) (rest_joined at byte later.tokens);
+  closes = sym (first_prefixed at byte later.tokens) ∙ is;
+  front = ap (λ (tokens : List Token). record { tokens = tokens; foreign = None }) (front_prefixed at byte later.tokens);
+  rest = ap (λ (tokens : List Token). record { tokens = tokens; foreign = later.foreign }) (rest_prefixed at byte later.tokens);
 }
 keeps at byte close later false false true is = record { closes = is; front = refl; rest = refl }
 keeps at byte close later false false false is = absurd cc
@@ -172,7 +172,7 @@ first_open (Open at ∷ later) = Some at
 first_open (Close at ∷ later) = None
 first_open (Word at text ∷ later) = None
 
-no_open : (at byte : ℕ) (later : List Token) → first_open (joined at byte later) ≡ None
+no_open : (at byte : ℕ) (later : List Token) → first_open (prefixed at byte later) ≡ None
 no_open at byte [] = refl
 no_open at byte (Open next ∷ later) = refl
 no_open at byte (Close next ∷ later) = refl
@@ -231,18 +231,18 @@ moved_tokens more later = record { tokens = map (moved more) later.tokens; forei
 same_test : (at next more : ℕ) → (next + more == (at + more) + 1) ≡ (next == at + 1)
 same_test at next more = grind (arith, nat_tests)
 
-moved_joined : (at byte more : ℕ) (later : List Token) → joined (at + more) byte (map (moved more) later) ≡ map (moved more) (joined at byte later)
-moved_joined at byte more [] = refl
-moved_joined at byte more (Open next ∷ later) = refl
-moved_joined at byte more (Close next ∷ later) = refl
-moved_joined at byte more (Word next text ∷ later) =
+moved_prefixed : (at byte more : ℕ) (later : List Token) → prefixed (at + more) byte (map (moved more) later) ≡ map (moved more) (prefixed at byte later)
+moved_prefixed at byte more [] = refl
+moved_prefixed at byte more (Open next ∷ later) = refl
+moved_prefixed at byte more (Close next ∷ later) = refl
+moved_prefixed at byte more (Word next text ∷ later) =
     ap (λ (b : Bool). if b then Word (at + more) (to_ascii_lowercase byte ∷ text) ∷ map (moved more) later else Word (at + more) (to_ascii_lowercase byte ∷ []) ∷ Word (next + more) text ∷ map (moved more) later) (same_test at next more)
     ∙ sym (both (λ (tokens : List Token). map (moved more) tokens) (next == at + 1) _ _)
 
 moved_tests : (at byte more : ℕ) (later : Tokens) (opens closes word between : Bool) → by_tests (at + more) byte opens closes word between (moved_tokens more later) ≡ moved_tokens more (by_tests at byte opens closes word between later)
 moved_tests at byte more later true closes word between = refl
 moved_tests at byte more later false true word between = refl
-moved_tests at byte more later false false true between = ap (λ (tokens : List Token). record { tokens = tokens; foreign = moved_place more later.foreign }) (moved_joined at byte more later.tokens)
+moved_tests at byte more later false false true between = ap (λ (tokens : List Token). record { tokens = tokens; foreign = moved_place more later.foreign }) (moved_prefixed at byte more later.tokens)
 moved_tests at byte more later false false false true = refl
 moved_tests at byte more later false false false false = refl
 

@@ -3,7 +3,7 @@ use Rattle.std.proofs.Common.{◌≡◌, refl, ℕ, Bool, List, Option, Some, No
 use Rattle.p3_tree.specs.Grammar.Words.{Place}
 use Rattle.p3_tree.specs.Grammar.Halves.{domain_place, problem_place}
 use Rattle.p3_tree.specs.declared.expression.Expression.{Expression}
-use Rattle.p3_tree.specs.Tiny.{is_tiny_domain, is_tiny_problem}
+use Rattle.p3_compile.specs.Tiny.{is_tiny_domain, is_tiny_problem}
 use Rattle.p3_tree.specs.Grammar.Texts.{Reads}
 use Rattle.p3_tree.specs.declared.task.Domain.{Domain}
 use Rattle.p3_tree.specs.declared.task.Problem.{Problem}

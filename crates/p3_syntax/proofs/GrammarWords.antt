@@ -8,7 +8,7 @@ use Rattle.std.proofs.lemmas.Slice.Eq.{bytes_eq-Decides}
 use mathlib.Core.Former.{Count}
 use Rattle.p3_tree.specs.Names.{Name, same_name, has_name, total_cost}
 use Rattle.p3_tree.specs.Grammar.Words as grammar
-use Rattle.p3_tree.specs.Grammar.Words.{Place, Part, descend, descend_parts, expressions, each_at, word_place, parts_place, is_name, word_if, name_place, choose}
+use Rattle.p3_tree.specs.Grammar.Words.{Place, ListPart, descend, descend_parts, expressions, each_at, word_place, parts_place, is_name, word_if, name_place, choose}
 use Rattle.p3_tree.specs.Grammar.Halves as halves
 use Rattle.p3_tree.specs.Grammar.Halves.{Section, section_place, sections_named, sections_among, or_absent}
 use Rattle.p3_tree.specs.declared.expression.Expression.{Expression, Row_of-Expression, end_of-Expression, more_of-Expression, items-the_row-Expression, items_shown-the_row-Expression-0}
@@ -82,10 +82,10 @@ begins_same : (name : Name) → begins_with_letter name ≡ is_name name
 begins_same [] = refl
 begins_same (byte ∷ bytes) = refl
 
-abbrev IsNamed : Expression → Ref → Type 0
-IsNamed e word = (word_place e ≡ Some word) × (is_name word.name ≡ true)
+abbrev IsNameAt : Expression → Ref → Type 0
+IsNameAt e word = (word_place e ≡ Some word) × (is_name word.name ≡ true)
 
-named : (e : Expression) → IfSome (name_of e) (IsNamed e)
+named : (e : Expression) → IfSome (name_of e) (IsNameAt e)
 unfolding name_of
 named e = along (word_of e) _ _ _ (word_agrees e) (λ word known. IfSome-guard _ (begins_with_letter word.name) word
     (λ letter. (known, sym (begins_same word.name) ∙ letter)))
@@ -127,8 +127,8 @@ headed_by_agrees text e =
     along (headed e) _ _ _ (headed_agrees e) (λ list is. IfSome-guard _ (is_word text list.word) list (λ same. (is, (bytes_eq-Decides list.word.name text).0 same)))
 
 -- a place that goes down a tree, at a list and at a word
-module _ {A : Type 0} (word : Expression → A) (list : Expression → List (Part A) → A) where
-  abbrev pub part_of : Expression → Part A
+module _ {A : Type 0} (word : Expression → A) (list : Expression → List (ListPart A) → A) where
+  abbrev pub part_of : Expression → ListPart A
   part_of e = record { raw = e; tree = descend word list e }
 
   parts_are : {n : Count} (row : Row_of-Expression n) → descend_parts word list row ≡ map part_of (expressions row)

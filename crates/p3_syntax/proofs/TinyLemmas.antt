@@ -19,7 +19,7 @@ use Rattle.p3_tree.specs.declared.task.Action.{Action}
 use Rattle.p3_tree.specs.declared.task.Domain.{Domain}
 use Rattle.p3_tree.specs.declared.task.Problem.{Problem}
 use Rattle.p3_tree.specs.declared.term.Ref.{Ref}
-use Rattle.p3_tree.specs.Tiny.{Literal, literal_of_effect, literal_of_formula, is_nothing, is_unconstrained, is_plain_header, is_tiny_action, has_one_at_most, has_tiny_domain_shape, is_atom_entry, wish_of, summand_of, is_tiny_metric, has_tiny_problem_shape, is_tiny_domain, is_well_formed_domain, is_tiny_problem, is_well_formed_problem}
+use Rattle.p3_compile.specs.Tiny.{Literal, literal_of_effect, literal_of_formula, is_nothing, is_unconstrained, is_plain_header, is_tiny_action, has_one_at_most, has_tiny_domain_shape, is_atom_entry, wish_of, summand_of, is_tiny_metric, has_tiny_problem_shape, is_tiny_domain, is_well_formed_domain, is_tiny_problem, is_well_formed_problem}
 use Rattle.p3_syntax.specs.Reading.{◌>>=◌}
 use Rattle.p3_syntax.specs.Words.{Headed, word_of, name_of, only_part, headed, headed_by, is_word, headed_among, at_most_one, exactly_one, each_of}
 use Rattle.p3_syntax.specs.Parts.{atom_of, literal_in, effect_of, formula_of}

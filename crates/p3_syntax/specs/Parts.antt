@@ -6,7 +6,7 @@ use Rattle.p3_tree.specs.declared.expression.Expression.{Expression}
 use Rattle.p3_tree.specs.declared.formula.Formula.{Formula}
 use Rattle.p3_tree.specs.declared.formula.Formula.TheVariants as formula
 use Rattle.p3_tree.specs.declared.term.Ref.{Ref}
-use Rattle.p3_tree.specs.Tiny.{Literal}
+use Rattle.p3_compile.specs.Tiny.{Literal}
 use Rattle.p3_syntax.specs.Reading.{◌>>=◌}
 use Rattle.p3_syntax.specs.Words.{word_of, parts_of, name_of, only_part, headed, is_word, is_among, reserved_words}
 

@@ -1,6 +1,6 @@
 -- What a reader sees of a named preference on a literal.
 use Rattle.p3_tree.specs.declared.term.Ref.{Ref}
-use Rattle.p3_tree.specs.Tiny.{Wish}
+use Rattle.p3_compile.specs.Tiny.{Wish}
 use Rattle.p3_syntax.specs.declared.formed.NamedPref.{NamedPref}
 
 abbrev pub the_pref : NamedPref → Ref × Ref

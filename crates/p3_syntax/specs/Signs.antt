@@ -1,5 +1,5 @@
 -- What a reader sees of a literal.
-use Rattle.p3_tree.specs.Tiny as tiny
+use Rattle.p3_compile.specs.Tiny as tiny
 use Rattle.p3_syntax.specs.declared.part.SignedAtom.{SignedAtom}
 
 abbrev pub the_literal : SignedAtom → tiny.Literal

@@ -9,7 +9,7 @@ use Rattle.p3_tree.specs.declared.task.Problem.{Problem}
 use Rattle.p3_tree.specs.Expressions.{expression_of_text}
 use Rattle.p3_tree.specs.Grammar.Words.{Place, IsText}
 use Rattle.p3_tree.specs.Grammar.Texts.{IsBalanced}
-use Rattle.p3_tree.specs.Tiny.{is_tiny_domain, is_tiny_problem}
+use Rattle.p3_compile.specs.Tiny.{is_tiny_domain, is_tiny_problem}
 use Rattle.p3_syntax.specs.declared.error.Fault.{Fault}
 use Rattle.p3_syntax.specs.declared.error.Fault.TheVariants as fault
 use Rattle.p3_syntax.specs.declared.error.ReadFail.{ReadFail}

@@ -5,7 +5,7 @@ ghost use Rattle.std.specs.List.{list_all};
 ghost use Rattle.std.specs.Option.{option_copied, option_map};
 ghost use Rattle.p3_syntax.specs.Prefs.{the_pref, the_wish};
 ghost use Rattle.p3_tree.specs.declared.formula.Formula.{out-Formula};
-ghost use Rattle.p3_tree.specs.Tiny.{atom_in, literal_of_formula, literal_of_effect, is_declared, are_distinct, has_declared_effect, is_well_formed_domain, wish_of, summand_of, product_of, is_well_formed_problem, has_declared_entry, declares_all};
+ghost use Rattle.p3_compile.specs.Tiny.{atom_in, literal_of_formula, literal_of_effect, is_declared, are_distinct, has_declared_effect, is_well_formed_domain, wish_of, summand_of, summand_of_parts, is_well_formed_problem, has_declared_entry, declares_all};
 
 use p3_tree::{Action, Domain, Effect, Formula, Header, Init, Num, PreGoal, Problem, Ref};
 
@@ -43,7 +43,7 @@ fn atom_pred(formula: &Formula) -> Option<&Ref>
 }
 
 /// The predicate of a literal.
-#[tactic(auto, unfolding(p3_tree::specs::Tiny::literal_of_formula))]
+#[tactic(auto, unfolding(p3_compile::specs::Tiny::literal_of_formula))]
 fn literal_pred(formula: &Formula) -> Option<&Ref>
     ensures { option_copied result ≡ option_map (λ literal. literal.pred) (literal_of_formula formula.now) }
 {
@@ -55,7 +55,7 @@ fn literal_pred(formula: &Formula) -> Option<&Ref>
 }
 
 /// The predicate that an effect changes.
-#[tactic(auto, unfolding(p3_tree::specs::Tiny::literal_of_effect))]
+#[tactic(auto, unfolding(p3_compile::specs::Tiny::literal_of_effect))]
 fn changed_pred(effect: &Effect) -> Option<&Ref>
     ensures { option_copied result ≡ option_map (λ literal. literal.pred) (literal_of_effect effect.now) }
 {
@@ -75,7 +75,7 @@ fn has_declared_effect(headers: &[Header], action: &Action) -> bool
 }
 
 /// Whether no predicate is declared twice, and each effect changes a declared one.
-#[tactic(auto, unfolding(p3_tree::specs::Tiny::is_well_formed_domain))]
+#[tactic(auto, unfolding(p3_compile::specs::Tiny::is_well_formed_domain))]
 pub fn is_well_formed_domain(domain: &Domain) -> bool
     ensures { result ≡ is_well_formed_domain domain.now }
 {
@@ -99,7 +99,7 @@ struct NamedPref<'t> {
 }
 
 /// The named preference on a literal that a goal is.
-#[tactic(auto, unfolding(p3_tree::specs::Tiny::wish_of))]
+#[tactic(auto, unfolding(p3_compile::specs::Tiny::wish_of))]
 fn named_pref(goal: &PreGoal) -> Option<NamedPref<'_>>
     ensures { option_map the_pref result ≡ option_map the_wish (wish_of goal.now) }
 {
@@ -114,7 +114,7 @@ fn named_pref(goal: &PreGoal) -> Option<NamedPref<'_>>
 }
 
 /// The name of the count that a metric is, or that it multiplies.
-#[tactic(auto, unfolding(p3_tree::specs::Tiny::summand_of))]
+#[tactic(auto, unfolding(p3_compile::specs::Tiny::summand_of))]
 fn counted_name(num: &Num) -> Option<&Ref>
     ensures { option_copied result ≡ option_map (λ summand. summand.name) (summand_of num.now) }
 {
@@ -127,7 +127,7 @@ fn counted_name(num: &Num) -> Option<&Ref>
 
 /// The name of the count behind a number of at most 15 digits.
 fn factor_name(factors: &[Num]) -> Option<&Ref>
-    ensures { option_copied result ≡ option_map (λ summand. summand.name) (product_of factors.now) }
+    ensures { option_copied result ≡ option_map (λ summand. summand.name) (summand_of_parts factors.now) }
 {
     match factors {
         [Num::Number(number), Num::Violated(name)]
@@ -137,7 +137,7 @@ fn factor_name(factors: &[Num]) -> Option<&Ref>
 }
 
 /// Whether the metric counts the preference.
-#[tactic(auto, unfolding(p3_tree::specs::Tiny::is_well_formed_problem))]
+#[tactic(auto, unfolding(p3_compile::specs::Tiny::is_well_formed_problem))]
 pub fn is_well_formed_problem(problem: &Problem) -> bool
     ensures { result ≡ is_well_formed_problem problem.now }
 {
@@ -171,7 +171,7 @@ fn have_declared_entries(headers: &[Header], entries: &[Init]) -> bool
 }
 
 /// Whether the domain declares each predicate of a tiny problem.
-#[tactic(auto, unfolding(p3_tree::specs::Tiny::declares_all))]
+#[tactic(auto, unfolding(p3_compile::specs::Tiny::declares_all))]
 pub fn declares(domain: &Domain, problem: &Problem) -> bool
     ensures { result ≡ declares_all domain.now problem.now }
 {

@@ -62,6 +62,9 @@ fn fail(fault: Fault, role: Role) -> ReadFail
 }
 
 /// The domain half that a text spells: tiny, and well-formed by itself.
+///
+/// Every other text is refused, also one that has another tree in the grammar, and a few of tiny
+/// halves: those with an empty section such as `(:types)` or with lists above level 200.
 #[tactic(auto, using(crate::proofs::GrammarLemmas::domain_text))]
 pub fn read_domain(alloc: Global, side: Side, text: &[u8]) -> Result<Domain, ReadFail>
     requires source { side ≡ Source }
@@ -70,7 +73,7 @@ pub fn read_domain(alloc: Global, side: Side, text: &[u8]) -> Result<Domain, Rea
     ensures read { IfOk result (λ domain. domain_of_text text.now ≡ Some domain) }
     // It is the one tree that the text has in the grammar.
     ensures text { IfOk result (λ domain. IsHalfText domain_place text.now domain) }
-    // A text is refused only where it has no tree.
+    // A text is refused only where it spells no such half.
     ensures refused { IfErr result (λ fail. IfRefused fail (λ _. domain_of_text text.now ≡ None)) }
     ensures place { IfErr result (λ fail. IfRefused fail (λ refusal. refusal ≡ malformed role.Domain)) }
 {
@@ -81,6 +84,10 @@ pub fn read_domain(alloc: Global, side: Side, text: &[u8]) -> Result<Domain, Rea
 }
 
 /// The problem half that a text spells: tiny, and well-formed by itself.
+///
+/// Every other text is refused, also one that has another tree in the grammar, and a few of tiny
+/// halves: those with an empty section such as `(:objects)`, with lists above level 200, or with a
+/// number of more than 15 digits, superfluous zeros included.
 #[tactic(auto, using(crate::proofs::GrammarLemmas::problem_text))]
 pub fn read_problem(alloc: Global, side: Side, text: &[u8]) -> Result<Problem, ReadFail>
     requires source { side ≡ Source }
@@ -89,7 +96,7 @@ pub fn read_problem(alloc: Global, side: Side, text: &[u8]) -> Result<Problem, R
     ensures read { IfOk result (λ problem. problem_of_text text.now ≡ Some problem) }
     // It is the one tree that the text has in the grammar.
     ensures text { IfOk result (λ problem. IsHalfText problem_place text.now problem) }
-    // A text is refused only where it has no tree.
+    // A text is refused only where it spells no such half.
     ensures refused { IfErr result (λ fail. IfRefused fail (λ _. problem_of_text text.now ≡ None)) }
     ensures place { IfErr result (λ fail. IfRefused fail (λ refusal. refusal ≡ malformed role.Problem)) }
 {

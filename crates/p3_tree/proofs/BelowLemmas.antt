@@ -17,9 +17,9 @@ only_one pair other (suc k, within, same) = absurd (omega arith)
 
 -- ---- chains
 
-joined : {pairs : List Pair} {low middle high : Name} → Chain pairs low middle → Chain pairs middle high → Chain pairs low high
-joined (none kind) rest = rest
-joined (step low next middle here more) rest = step low next _ here (joined more rest)
+chained : {pairs : List Pair} {low middle high : Name} → Chain pairs low middle → Chain pairs middle high → Chain pairs low high
+chained (none kind) rest = rest
+chained (step low next middle here more) rest = step low next _ here (chained more rest)
 
 with_one_more : (pair : Pair) {pairs : List Pair} {low high : Name} → Chain pairs low high → Chain (pair ∷ pairs) low high
 with_one_more pair (none kind) = none kind
@@ -55,7 +55,7 @@ some_way false false third e = absurd (cc)
 
 chain_by : (pair : Pair) (pairs : List Pair) (low high : Name) → Ways pair pairs low high → Chain (pair ∷ pairs) low high
 chain_by pair pairs low high (inl without) = with_one_more pair without
-chain_by pair pairs low high (inr by) = joined (with_one_more pair by.0) (step pair.0 pair.1 high (Contains-append_left (pair ∷ []) pairs pair (Contains-push [] pair)) (with_one_more pair by.1))
+chain_by pair pairs low high (inr by) = chained (with_one_more pair by.0) (step pair.0 pair.1 high (Contains-append_left (pair ∷ []) pairs pair (Contains-push [] pair)) (with_one_more pair by.1))
 
 chain-from_leads : (pairs : List Pair) (low high : Name) → leads pairs low high ≡ true → Chain pairs low high
 chain-from_leads [] low high e = subst (Chain [] low) ((bytes_eq-Decides low high).0 e) (none low)

@@ -18,7 +18,8 @@ use Rattle.p3_tree.specs.Constraints.{satisfies, sat, hard_modals, hard_list, op
 use Rattle.p3_tree.specs.Validity.{goal_holds, is_valid, misfit, step_fault, goal_fault, constraint_fault, first_fault}
 use Rattle.p3_tree.specs.Metrics.{step_prefs, violated, cost, quantity, metric_places, value, loss, base_loss, weight, cost_weight}
 use Rattle.p3_tree.specs.Uses.{formula_uses, effect_uses, goal_uses, constraint_uses, num_uses, domain_uses, problem_uses}
-use Rattle.p3_tree.specs.Offences.{domain_duplicates, problem_duplicates, goal_names, constraint_names, preference_names, domain_unknowns, problem_unknowns, domain_miscounts, problem_miscounts, domain_clashes, problem_clashes}
+use Rattle.p3_tree.specs.PreferenceNames.{named_in_goal, named_in_constraint, preference_names, ordered_names}
+use Rattle.p3_tree.specs.Offences.{domain_duplicates, problem_duplicates, domain_unknowns, problem_unknowns, domain_miscounts, problem_miscounts, domain_clashes, problem_clashes}
 use Rattle.p3_tree.specs.Lifting.{constrains, prefers, is_plain, is_formula_variable_free, is_effect_variable_free, is_goal_variable_free, is_constraint_variable_free, is_variable_free, steps, lifted_step, lift}
 use Rattle.p3_tree.specs.Faithful.{extra}
 use Rattle.p3_tree.specs.Limits.{binding_count, formula_size, effect_size, goal_size, constraint_size, width, cost_bound}
@@ -39,7 +40,7 @@ trees_compute = tt
 
 -- the trees and what they mean
 unfoldable pub meaning_computes : Unit {0}
-unfolding trees_compute digits below objects start tuples bind are_arguments holds adds dels next hard_holds prefs cost_places given_value increases effect_cost action_named step_cost fits state_after visited steps_fit satisfies sat hard_modals hard_list operators instances_of instances goal_holds is_valid misfit step_fault goal_fault constraint_fault first_fault step_prefs violated cost quantity metric_places value loss base_loss weight cost_weight constrains prefers is_plain is_formula_variable_free is_effect_variable_free is_goal_variable_free is_constraint_variable_free is_variable_free steps lifted_step lift extra binding_count formula_size effect_size goal_size constraint_size width cost_bound formula_uses effect_uses goal_uses constraint_uses num_uses domain_uses problem_uses domain_duplicates problem_duplicates goal_names constraint_names preference_names domain_unknowns problem_unknowns domain_miscounts problem_miscounts domain_clashes problem_clashes
+unfolding trees_compute digits below objects start tuples bind are_arguments holds adds dels next hard_holds prefs cost_places given_value increases effect_cost action_named step_cost fits state_after visited steps_fit satisfies sat hard_modals hard_list operators instances_of instances goal_holds is_valid misfit step_fault goal_fault constraint_fault first_fault step_prefs violated cost quantity metric_places value loss base_loss weight cost_weight constrains prefers is_plain is_formula_variable_free is_effect_variable_free is_goal_variable_free is_constraint_variable_free is_variable_free steps lifted_step lift extra binding_count formula_size effect_size goal_size constraint_size width cost_bound formula_uses effect_uses goal_uses constraint_uses num_uses domain_uses problem_uses domain_duplicates problem_duplicates named_in_goal named_in_constraint preference_names ordered_names domain_unknowns problem_unknowns domain_miscounts problem_miscounts domain_clashes problem_clashes
 meaning_computes = trees_compute
 
 -- texts, their expressions and their trees

@@ -1,5 +1,5 @@
 -- Where a formula, a precondition or a goal holds, so does each atom that `and` alone joins in it.
-use Rattle.std.proofs.Common.{◌≡◌, ◌∙◌, Bool, true, false, ◌&&◌, List, [], ◌∷◌, ◌++◌, refl, sym, ap}
+use Rattle.std.proofs.Common.{◌≡◌, ◌∙◌, Bool, true, ◌&&◌, List, [], ◌∷◌, ◌++◌, refl}
 use Rattle.std.specs.Prelude.{flat_map}
 use Rattle.std.specs.List.{list_all}
 use Rattle.std.proofs.Math.Bool.{and-true}
@@ -25,6 +25,7 @@ all-append test (x ∷ xs) ys first second =
 module _ (T : Task) (s : State) (env : Environment) where
   mutual
     unfolding holds formula_conjuncts
+
     pub formula-conjuncts-hold : (formula : Formula) → holds T s env formula ≡ true → all_hold s env (formula_conjuncts formula) ≡ true
     formula-conjuncts-hold (Atom pred args) e = and-true (has_fact s (fact_of env pred args)) ∙ e
     formula-conjuncts-hold (Equal left right) e = refl
@@ -43,6 +44,7 @@ module _ (T : Task) (s : State) (env : Environment) where
 
   mutual
     unfolding hard_holds goal_conjuncts
+
     pub goal-conjuncts-hold : (tree : PreGoal) → hard_holds T s env tree ≡ true → all_hold s env (goal_conjuncts tree) ≡ true
     goal-conjuncts-hold (goal.Plain body) e = formula-conjuncts-hold body e
     goal-conjuncts-hold (goal.Both' _ parts) e = goals-conjuncts-hold parts e

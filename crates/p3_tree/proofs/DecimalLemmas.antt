@@ -1,5 +1,5 @@
 -- A word of digits alone is a number without a point.
-use Rattle.std.proofs.Common.{◌≡◌, ◌∙◌, ap, Bool, true, false, ◌&&◌, [], ◌∷◌, ◌++◌, refl, Some, None, arith, length}
+use Rattle.std.proofs.Common.{◌≡◌, ◌∙◌, ap, true, false, ◌&&◌, [], ◌∷◌, ◌++◌, refl, Some, None, arith, length}
 use Rattle.std.specs.Prelude.{◌==◌, if◌then◌else◌, unwrap_or}
 use Rattle.std.specs.List.{list_all}
 use Rattle.std.specs.Option.{option_map_or}

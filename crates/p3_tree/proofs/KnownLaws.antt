@@ -1,9 +1,8 @@
 -- A well-formed task knows every name that it uses.
-use Rattle.std.proofs.Common.{◌≡◌, ◌∙◌, sym, ap, List, [], ◌∷◌, ◌++◌, zero, suc, arith}
+use Rattle.std.proofs.Common.{◌≡◌, ◌∙◌, sym, ap, List, [], ◌∷◌, zero, suc, arith}
 use Rattle.std.specs.Prelude.{flat_map, Contains}
-use Rattle.p3_tree.specs.Uses.{Use, domain_uses, problem_uses}
 use Rattle.p3_tree.specs.Offences.{WellFormed, domain_duplicates, problem_duplicates, domain_unknowns, problem_unknowns, domain_miscounts, problem_miscounts, domain_clashes, problem_clashes}
-use Rattle.p3_tree.specs.Known.{IsKnown, KnowsUses}
+use Rattle.p3_tree.specs.Known.{KnowsUses}
 use Rattle.p3_tree.proofs.OnceLemmas.{nil_left, nil_right}
 use Rattle.p3_tree.specs.declared.task.Task.{Task}
 
@@ -17,15 +16,15 @@ pub knows_uses : (T : Task) → WellFormed T → KnowsUses T
 unfolding domain_duplicates problem_duplicates domain_unknowns problem_unknowns domain_miscounts problem_miscounts domain_clashes problem_clashes
 knows_uses T well = record {
   domain = λ use_of among. record {
-      once = nothing _ _ (nil_right _ _ (nil_left _ _ well.duplicates)) use_of among;
-      declared = nothing _ _ (nil_left _ _ well.unknowns) use_of among;
-      counted = nothing _ _ (nil_right _ _ (nil_left _ _ well.miscounts)) use_of among;
-      fitting = nothing _ _ (nil_left _ _ well.clashes) use_of among;
-    };
+    once = nothing _ _ (nil_right _ _ (nil_left _ _ well.duplicates)) use_of among;
+    declared = nothing _ _ (nil_left _ _ well.unknowns) use_of among;
+    counted = nothing _ _ (nil_right _ _ (nil_left _ _ well.miscounts)) use_of among;
+    fitting = nothing _ _ (nil_left _ _ well.clashes) use_of among;
+  };
   problem = λ use_of among. record {
-      once = nothing _ _ (nil_right _ _ (nil_right _ _ well.duplicates)) use_of among;
-      declared = nothing _ _ (nil_right _ _ well.unknowns) use_of among;
-      counted = nothing _ _ (nil_right _ _ well.miscounts) use_of among;
-      fitting = nothing _ _ (nil_right _ _ well.clashes) use_of among;
-    };
+    once = nothing _ _ (nil_right _ _ (nil_right _ _ well.duplicates)) use_of among;
+    declared = nothing _ _ (nil_right _ _ well.unknowns) use_of among;
+    counted = nothing _ _ (nil_right _ _ well.miscounts) use_of among;
+    fitting = nothing _ _ (nil_right _ _ well.clashes) use_of among;
+  };
 }

@@ -1,15 +1,14 @@
 -- A plan walked step by step, for inductions: the definitions range over the whole list of visited states.
 use Rattle.std.proofs.Common.{◌≡◌, ◌∙◌, ℕ, ◌+◌, ◌-◌, suc, refl, ap, Bool, true, ◌&&◌, [], ◌∷◌, length, get_or, arith}
-use Rattle.std.specs.Prelude.{zip, sum_by, unwrap_or}
+use Rattle.std.specs.Prelude.{sum_by, unwrap_or}
 use Rattle.std.specs.List.{list_all}
 use Rattle.std.proofs.lemmas.List.Sums.{sum_by-cons}
 use Rattle.p3_tree.specs.Names.{Name}
 use Rattle.p3_tree.specs.States.{State, start}
-use Rattle.p3_tree.specs.Plans.{Plan, fits, state_after, step_cost, visited, visited_from, last_state, steps_fit}
+use Rattle.p3_tree.specs.Plans.{Plan, fits, state_after, step_cost, visited, visited_from, last_state, Move, moves_from, steps_fit}
 use Rattle.p3_tree.specs.Costs.{initial_cost}
 use Rattle.p3_tree.specs.Constraints.{instances}
 use Rattle.p3_tree.specs.Metrics.{false_in, step_prefs, unsatisfied, violated, cost}
-use Rattle.p3_tree.specs.declared.task.Step.{Step}
 use Rattle.p3_tree.specs.declared.task.Task.{Task}
 
 module _ (T : Task) where
@@ -33,12 +32,12 @@ module _ (T : Task) where
   cost_of [] = 0
   cost_of (step ∷ plan) = unwrap_or (step_cost T step) 0 + cost_of plan
 
-  all_moves : (s : State) (plan : Plan) → list_all (λ (move : State × Step). fits T move.0 move.1) (zip (visited_from T s plan) plan) ≡ fit_from s plan
+  all_moves : (s : State) (plan : Plan) → list_all (λ (move : Move). fits T move.state move.step) (moves_from T s plan) ≡ fit_from s plan
   all_moves s [] = refl
   all_moves s (step ∷ plan) = ap (λ rest. fits T s step && rest) (all_moves (state_after T s step) plan)
 
   pub steps_fit-walk : (plan : Plan) → steps_fit T plan ≡ fit_from (start T) plan
-  unfolding steps_fit visited
+  unfolding steps_fit
   steps_fit-walk plan = all_moves (start T) plan
 
   length-visited_from : (s : State) (plan : Plan) → length (visited_from T s plan) ≡ suc (length plan)
@@ -55,15 +54,15 @@ module _ (T : Task) where
       let place : length (visited_from T (start T) plan) - 1 ≡ length plan = omega (arith, length-visited_from (start T) plan) in
       ap (λ i. get_or (visited_from T (start T) plan) i []) place ∙ at_length (start T) plan
 
-  all_counts : (name : Name) (s : State) (plan : Plan) → sum_by (λ (move : State × Step). false_in T move.0 name (step_prefs T move.1)) (zip (visited_from T s plan) plan) ≡ false_from name s plan
+  all_counts : (name : Name) (s : State) (plan : Plan) → sum_by (λ (move : Move). false_in T move.state name (step_prefs T move.step)) (moves_from T s plan) ≡ false_from name s plan
   all_counts name s [] = refl
   all_counts name s (step ∷ plan) =
-      sum_by-cons (λ (move : State × Step). false_in T move.0 name (step_prefs T move.1)) (s, step) (zip (visited_from T (state_after T s step) plan) plan)
+      sum_by-cons (λ (move : Move). false_in T move.state name (step_prefs T move.step)) (record { state = s; step = step }) (moves_from T (state_after T s step) plan)
       ∙ ap (λ rest. false_in T s name (step_prefs T step) + rest) (all_counts name (state_after T s step) plan)
 
   pub violated-walk : (plan : Plan) (name : Name) → violated T plan name ≡ unsatisfied T (visited T plan) name (instances T) + false_from name (start T) plan
-  unfolding violated visited
-  violated-walk plan name = ap (λ counts. unsatisfied T (visited_from T (start T) plan) name (instances T) + counts) (all_counts name (start T) plan)
+  unfolding violated
+  violated-walk plan name = ap (λ counts. unsatisfied T (visited T plan) name (instances T) + counts) (all_counts name (start T) plan)
 
   all_costs : (plan : Plan) → sum_by (λ step. unwrap_or (step_cost T step) 0) plan ≡ cost_of plan
   all_costs [] = refl

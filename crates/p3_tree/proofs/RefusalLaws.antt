@@ -1,18 +1,18 @@
 -- What is read shows one first refusal at most, and none where it is accepted.
-use Rattle.std.proofs.Common.{◌≡◌, ◌∙◌, ℕ, sym, ap, subst, List, [], ◌∷◌, ◌++◌, map, Option, Some, None, ◌⊎◌, inl, inr, ⊎_elim, append_assoc}
+use Rattle.std.proofs.Common.{◌≡◌, ◌∙◌, ℕ, sym, ap, subst, List, [], ◌∷◌, ◌++◌, map, Option, Some, None, ◌⊎◌, inl, inr, append_assoc}
 use Rattle.std.proofs.lemmas.List.{map-append}
 use Rattle.p3_base.specs.declared.refusal.Code.TheVariants.{Malformed}
 use Rattle.p3_base.specs.declared.refusal.Refusal.{Refusal}
 use Rattle.p3_base.specs.declared.refusal.Side.{Side}
 use Rattle.p3_tree.specs.Sides.{Half, InDomain, InProblem, role_of}
-use Rattle.p3_tree.specs.Tokens.{Token, tokens_of}
+use Rattle.p3_tree.specs.Tokens.{Token}
 use Rattle.p3_tree.specs.PlanTexts.{mark_of}
 use Rattle.p3_tree.specs.Grammar.Words.{Place}
 use Rattle.p3_tree.specs.Grammar.Halves.{domain_place, problem_place}
 use Rattle.p3_tree.specs.Refusals.Places.{refusal_at_token}
-use Rattle.p3_tree.specs.Refusals.Malformed.{Begins, IsMalformedAt, IsHalfMalformedAt, IsMalformed}
+use Rattle.p3_tree.specs.Refusals.Malformed.{Begins, IsMalformedAt, IsHalfMalformedAt}
 use Rattle.p3_tree.specs.Refusals.Texts.{text_refusal}
-use Rattle.p3_tree.specs.Refusals.First.{Text, HalfText, PlanText, IsFirstOfHalf, IsRefusedText, IsFirstOfTexts, TaskTexts, halves, Given, given_texts, IsRefusedTask, AreOfTask, SpellATask, IsFirstOfTasks, IsFirstRefusal, given_task, AreAccepted, task_refusal}
+use Rattle.p3_tree.specs.Refusals.First.{Text, HalfText, PlanText, IsFirstOfHalf, IsRefusedText, IsFirstOfTexts, TaskTexts, Given, given_texts, IsRefusedTask, AreOfTask, IsFirstOfTasks, IsFirstRefusal, given_task, AreAccepted, task_refusal}
 use Rattle.p3_tree.proofs.OnceLemmas.{Some-injective}
 use Rattle.p3_tree.proofs.TextLemmas.{one_task_at_most}
 use Rattle.p3_tree.specs.declared.task.Task.{Task}

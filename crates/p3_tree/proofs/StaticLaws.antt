@@ -1,18 +1,17 @@
 -- What no effect changes is in every reached state as at the start.
-use Rattle.std.proofs.Common.{◌≡◌, ◌∙◌, ℕ, Bool, true, false, not, ◌&&◌, ◌||◌, List, [], ◌∷◌, ◌++◌, map, Option, Some, None, refl, sym, ap, subst, true≢false}
+use Rattle.std.proofs.Common.{◌≡◌, ◌∙◌, Bool, true, false, not, ◌&&◌, ◌||◌, List, [], ◌∷◌, ◌++◌, Option, Some, None, refl, sym, ap, true≢false}
 use Rattle.std.specs.Prelude.{flat_map, find, cond}
-use Rattle.std.specs.List.{list_any}
 use Rattle.std.proofs.lemmas.List.Folds.{list_any-append}
 use Rattle.std.proofs.lemmas.Bool.{or_left, or_right}
 use Rattle.std.proofs.lemmas.Slice.Eq.{bytes_eq-Decides}
-use mathlib.Core.Former.{Count, one_more}
-use Rattle.p3_tree.specs.Folds.{fold_effect, fold_effects, fold_one_effect}
+use mathlib.Core.Former.{Count}
+use Rattle.p3_tree.specs.Folds.{fold_effect, fold_effects}
 use Rattle.p3_tree.specs.Names.{Name, same_name, has_name}
 use Rattle.p3_tree.specs.States.{State, Environment, same_fact, has_fact, fact_of, start}
 use Rattle.p3_tree.specs.Bindings.{bind}
 use Rattle.p3_tree.specs.Formulas.{holds}
-use Rattle.p3_tree.specs.Effects.{literals_layer, adds, adds_layer, dels, dels_layer, next}
-use Rattle.p3_tree.specs.Plans.{state_by, Plan, Reached, action_named, arguments, state_after, visited, last_state}
+use Rattle.p3_tree.specs.Effects.{literals_layer, adds, dels, next}
+use Rattle.p3_tree.specs.Plans.{state_by, Plan, Reached, action_named, arguments, state_after}
 use Rattle.p3_tree.proofs.StateLemmas.{has_fact-next, same_fact-Decides}
 use Rattle.p3_tree.proofs.PlanLemmas.{state_from, last_state-walk}
 use Rattle.p3_tree.specs.declared.state.Fact.{Fact}

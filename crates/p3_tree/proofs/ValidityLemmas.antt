@@ -5,7 +5,7 @@ use Rattle.std.specs.Option.{option_or}
 use Rattle.std.specs.List.{list_all, enumerate_from, prefix_len, cons_option}
 use Rattle.std.proofs.lemmas.Bool.Decides.{nat_tests}
 use Rattle.p3_tree.specs.States.{State}
-use Rattle.p3_tree.specs.Plans.{Plan, action_named, fits, fits_by, steps_fit, moves}
+use Rattle.p3_tree.specs.Plans.{Plan, action_named, fits, fits_by, steps_fit, Move, moves}
 use Rattle.p3_tree.specs.Constraints.{hard_list}
 use Rattle.p3_tree.specs.Validity.{Valid, is_valid, is_met, goal_holds, Misfit, Arguments, Precondition, NoCost, misfit, misfit_by, Fault, AtStep, AtConstraint, fault_at, step_fault, goal_fault, constraint_fault, first_fault}
 use Rattle.p3_tree.specs.declared.task.Action.{Action}
@@ -30,11 +30,11 @@ first_of_two : (number : ℕ) (kind : Option Misfit) (rest : List Fault) → is_
 first_of_two number None rest = refl
 first_of_two number (Some kind) rest = refl
 
-no_step_fault : (T : Task) (number : ℕ) (all : List (State × Step)) → is_none (slice_get (filter_map (fault_at T) (enumerate_from number all)) 0) ≡ list_all (λ move. fits T move.0 move.1) all
+no_step_fault : (T : Task) (number : ℕ) (all : List Move) → is_none (slice_get (filter_map (fault_at T) (enumerate_from number all)) 0) ≡ list_all (λ (move : Move). fits T move.state move.step) all
 no_step_fault T number [] = refl
 no_step_fault T number (move ∷ rest) =
-    first_of_two number (misfit T move.0 move.1) (filter_map (fault_at T) (enumerate_from (number + 1) rest))
-    ∙ (λ i. sym (fits-misfit T move.0 move.1) i && no_step_fault T (number + 1) rest i)
+    first_of_two number (misfit T move.state move.step) (filter_map (fault_at T) (enumerate_from (number + 1) rest))
+    ∙ (λ i. sym (fits-misfit T move.state move.step) i && no_step_fault T (number + 1) rest i)
 
 passes_before_end : {X : Type 0} (q : X → Bool) (items : List X) → ltb (prefix_len (λ item. not (not (q item))) items) (length items) ≡ not (list_all q items)
 passes_before_end q [] = refl

@@ -110,4 +110,3 @@ words_of_commands = record {
   other_case = refl;
   none = refl;
 }
-

@@ -3,6 +3,7 @@ use Rattle.std.specs.Prelude.{List, map, option_map}
 use mathlib.Core.Former.{Count}
 use Rattle.p3_tree.specs.Goals.{StatePref}
 use Rattle.p3_tree.specs.Constraints.{HardModal, Instance}
+use Rattle.p3_tree.specs.PreferenceNames.{Named}
 use Rattle.p3_tree.specs.Uses.{Use, Objects, Variables, AtomUse, FunctionUse, SideUse, NameUse}
 use Rattle.p3_tree.specs.declared.term.Ref.{Ref}
 use Rattle.p3_tree.specs.declared.term.Term.{Term}
@@ -195,6 +196,9 @@ erased_hard_modal entry = record { modal = erased_modal entry.modal; env = entry
 
 abbrev pub erased_instance : Instance → Instance
 erased_instance instance = record { at = 0; name = instance.name; body = erased_constraint instance.body; env = instance.env }
+
+abbrev pub erased_named : Named → Named
+erased_named named = record { at = 0; name = named.name }
 
 abbrev pub erased_use : Use → Use
 erased_use (Objects objects) = Objects (erased_all_typed objects)

@@ -32,7 +32,6 @@ pub mod Sides
 pub mod States
 pub mod Static
 pub mod StepNumbers
-pub mod Tiny
 pub mod Tokens
 pub mod Types
 pub mod Uses

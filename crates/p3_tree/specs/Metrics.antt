@@ -8,7 +8,7 @@ use Rattle.p3_tree.specs.States.{State}
 use Rattle.p3_tree.specs.Formulas.{holds}
 use Rattle.p3_tree.specs.Goals.{StatePref, prefs}
 use Rattle.p3_tree.specs.Costs.{initial_cost, cost_places, most_places}
-use Rattle.p3_tree.specs.Plans.{Plan, action_named, arguments, step_cost, visited, moves}
+use Rattle.p3_tree.specs.Plans.{Plan, action_named, arguments, step_cost, visited, Move, moves}
 use Rattle.p3_tree.specs.Constraints.{Instance, instances, sat}
 use Rattle.p3_tree.specs.declared.task.Action.{Action}
 use Rattle.p3_tree.specs.declared.task.Step.{Step}
@@ -42,7 +42,7 @@ step_prefs T step = prefs_by T step (action_named T step.action)
 
 -- the unsatisfied instances of the name, and for each step its preferences of the name that are false in the state before it
 unfoldable pub violated : Task → Plan → Name → ℕ
-violated T plan name = unsatisfied T (visited T plan) name (instances T) + sum_by (λ (move : State × Step). false_in T move.0 name (step_prefs T move.1)) (moves T plan)
+violated T plan name = unsatisfied T (visited T plan) name (instances T) + sum_by (λ (move : Move). false_in T move.state name (step_prefs T move.step)) (moves T plan)
 
 -- ---- costs
 

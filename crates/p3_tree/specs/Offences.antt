@@ -1,19 +1,15 @@
 -- Well-formed tasks: what may not stand in a task is told by the words at which it stands.
 use Rattle.std.specs.Prelude.{◌≡◌, ◌==◌, Bool, true, false, not, ◌&&◌, List, [], ◌∷◌, ◌++◌, map, flat_map, length, zip, find, if◌then◌else◌, Option, Some, None}
 use Rattle.std.specs.List.{list_any, list_all}
-use Rattle.p3_tree.specs.Folds.{fold_goal, fold_constraint}
 use Rattle.p3_tree.specs.Names.{Name, same_name, same_names, has_name, object_type, total_cost}
 use Rattle.p3_tree.specs.Types.{is_below_some, is_object_of, declared_objects}
 use Rattle.p3_tree.specs.States.{meanings}
+use Rattle.p3_tree.specs.PreferenceNames.{preference_names}
 use Rattle.p3_tree.specs.Uses.{Scope, Use, Objects, Variables, AtomUse, FunctionUse, SideUse, NameUse, domain_uses, problem_uses}
 use Rattle.p3_tree.specs.declared.term.Ref.{Ref}
 use Rattle.p3_tree.specs.declared.term.Term.{Term}
 use Rattle.p3_tree.specs.declared.term.Term.TheVariants.{Var, Const}
 use Rattle.p3_tree.specs.declared.term.Typed.{Typed}
-use Rattle.p3_tree.specs.declared.goal.PreGoal.{PreGoal}
-use Rattle.p3_tree.specs.declared.goal.PreGoal.TheOpen as goal
-use Rattle.p3_tree.specs.declared.constraint.Constraint.{Constraint}
-use Rattle.p3_tree.specs.declared.constraint.Constraint.TheOpen as constraint
 use Rattle.p3_tree.specs.declared.task.Action.{Action}
 use Rattle.p3_tree.specs.declared.task.Header.{Header}
 use Rattle.p3_tree.specs.declared.task.Kind.{Kind}
@@ -89,33 +85,6 @@ kind_names kind = kind.name.name ∷ parent_names kind.parent
 
 abbrev pub declared_types : Task → List Name
 declared_types T = object_type ∷ flat_map kind_names T.domain.kinds
-
-abbrev pub name_of_pref : Option Ref → List Name
-name_of_pref None = []
-name_of_pref (Some name) = name.name ∷ []
-
--- the names of the preferences of a goal or precondition, and of constraints
-abbrev pub goal_names_layer : goal.PreGoal-F (List Name) → List Name
-goal_names_layer (goal.Plain body) = []
-goal_names_layer (goal.Both parts) = flat_map (λ part. part) parts
-goal_names_layer (goal.Each variables body) = body
-goal_names_layer (goal.Soft pref) = name_of_pref pref.name
-
-unfoldable pub goal_names : PreGoal → List Name
-goal_names tree = fold_goal goal_names_layer tree
-
-abbrev pub constraint_names_layer : constraint.Constraint-F (List Name) → List Name
-constraint_names_layer (constraint.Both parts) = flat_map (λ part. part) parts
-constraint_names_layer (constraint.Each variables body) = body
-constraint_names_layer (constraint.Single modal) = []
-constraint_names_layer (constraint.Soft at name body) = name_of_pref name ++ body
-
-unfoldable pub constraint_names : Constraint → List Name
-constraint_names tree = fold_constraint constraint_names_layer tree
-
--- the names of a task's preferences
-unfoldable pub preference_names : Task → List Name
-preference_names T = constraint_names T.domain.constraints.body ++ flat_map (λ action. goal_names action.pre.body) T.domain.actions ++ constraint_names T.problem.constraints.body ++ goal_names T.problem.goal.body
 
 abbrev pub header_named : List Header → Name → Option Header
 header_named headers name = find (λ header. same_name header.name.name name) headers

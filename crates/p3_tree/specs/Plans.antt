@@ -1,5 +1,5 @@
 -- Steps, when they fit, and the states that a plan visits.
-use Rattle.std.specs.Prelude.{◌≡◌, ℕ, ◌-◌, Bool, false, ◌&&◌, List, [], ◌∷◌, length, slice_index_or, zip, find, Option, Some, None, is_some, option_and_then, IsTrue}
+use Rattle.std.specs.Prelude.{◌≡◌, ℕ, ◌-◌, Bool, false, ◌&&◌, List, [], ◌∷◌, length, slice_index_or, find, Option, Some, None, is_some, option_and_then, IsTrue}
 use Rattle.std.specs.List.{list_all}
 use Rattle.p3_tree.specs.Names.{Name, same_name}
 use Rattle.p3_tree.specs.States.{State, Environment, has_fact, start}
@@ -66,13 +66,22 @@ state_at W i = slice_index_or W i []
 abbrev pub last_state : List State → State
 last_state W = state_at W (length W - 1)
 
--- each state with the step that is done in it
-abbrev pub moves : Task → Plan → List (State × Step)
-moves T plan = zip (visited T plan) plan
+-- a step, with the state in which it is done
+pub record Move : Type 0 where
+  pub state : State
+  pub step : Step
+
+abbrev pub moves_from : Task → State → Plan → List Move
+moves_from T s [] = []
+moves_from T s (step ∷ plan) = record { state = s; step = step } ∷ moves_from T (state_after T s step) plan
+
+-- each step of the plan, with the state before it
+abbrev pub moves : Task → Plan → List Move
+moves T plan = moves_from T (start T) plan
 
 -- each step fits in the state before it
 unfoldable pub steps_fit : Task → Plan → Bool
-steps_fit T plan = list_all (λ move. fits T move.0 move.1) (moves T plan)
+steps_fit T plan = list_all (λ (move : Move). fits T move.state move.step) (moves T plan)
 
 -- the states that fitting steps lead to
 pub record Reached (T : Task) (s : State) : Type 0 where

@@ -8,6 +8,8 @@ use Rattle.p3_tree.specs.declared.goal.PreGoal.{PreGoal}
 use Rattle.p3_tree.specs.declared.goal.PreGoal.TheOpen as goal
 use Rattle.p3_tree.specs.declared.constraint.Constraint.{Constraint}
 use Rattle.p3_tree.specs.declared.constraint.Constraint.TheOpen as constraint
+use Rattle.p3_tree.specs.declared.task.Domain.{Domain}
+use Rattle.p3_tree.specs.declared.task.Problem.{Problem}
 use Rattle.p3_tree.specs.declared.task.Task.{Task}
 
 -- a name, at the offset of a preference that has it
@@ -37,6 +39,19 @@ constraint_names_layer (constraint.Soft at name body) = named_at at name ++ body
 unfoldable pub named_in_constraint : Constraint → List Named
 named_in_constraint tree = fold_constraint constraint_names_layer tree
 
+-- in the order of the trees
+abbrev pub named_in_domain : Domain → List Named
+named_in_domain D = named_in_constraint D.constraints.body ++ flat_map (λ action. named_in_goal action.pre.body) D.actions
+
+abbrev pub named_in_problem : Problem → List Named
+named_in_problem P = named_in_constraint P.constraints.body ++ named_in_goal P.goal.body
+
+-- the names of all preferences of a task
+unfoldable pub preference_names : Task → List Name
+preference_names T = map (λ (named : Named). named.name) (named_in_domain T.domain ++ named_in_problem T.problem)
+
+-- ---- in the order of the text
+
 abbrev pub placed : Named → List Named → List Named
 placed named [] = named ∷ []
 placed named (first ∷ others) = if nat_lt named.at first.at then named ∷ first ∷ others else first ∷ placed named others
@@ -47,6 +62,4 @@ in_text_order list = map (λ (named : Named). named.name) (fold (λ sorted named
 
 -- each name once, in the text order of the first preference that has it, the domain's before the problem's
 unfoldable pub ordered_names : Task → List Name
-ordered_names T = once_each (
-    in_text_order (named_in_constraint T.domain.constraints.body ++ flat_map (λ action. named_in_goal action.pre.body) T.domain.actions)
-    ++ in_text_order (named_in_constraint T.problem.constraints.body ++ named_in_goal T.problem.goal.body))
+ordered_names T = once_each (in_text_order (named_in_domain T.domain) ++ in_text_order (named_in_problem T.problem))

@@ -26,17 +26,17 @@ abbrev pub before : Token → Tokens → Tokens
 before token later = record { tokens = token ∷ later.tokens; foreign = later.foreign }
 
 -- A byte of a word goes in front of the word that begins at the next offset, or is a word of its own.
-abbrev pub joined : ℕ → ℕ → List Token → List Token
-joined at byte (Word next text ∷ later) =
+abbrev pub prefixed : ℕ → ℕ → List Token → List Token
+prefixed at byte (Word next text ∷ later) =
     if next == at + 1 then Word at (to_ascii_lowercase byte ∷ text) ∷ later else Word at (to_ascii_lowercase byte ∷ []) ∷ Word next text ∷ later
-joined at byte later = Word at (to_ascii_lowercase byte ∷ []) ∷ later
+prefixed at byte later = Word at (to_ascii_lowercase byte ∷ []) ∷ later
 
 -- the tokens of a byte outside comments and of what follows it
 abbrev pub with_byte : ℕ → ℕ → Tokens → Tokens
 with_byte at byte later =
     if byte == 40 then before (Open at) later
     else (if byte == 41 then before (Close at) later
-    else (if is_of_word byte then record { tokens = joined at byte later.tokens; foreign = later.foreign }
+    else (if is_of_word byte then record { tokens = prefixed at byte later.tokens; foreign = later.foreign }
     else (if is_blank byte || byte == 59 then later
     else record { tokens = []; foreign = Some at })))
 

@@ -5,7 +5,7 @@ use Rattle.std.specs.Option.{option_or}
 use Rattle.p3_tree.specs.States.{State}
 use Rattle.p3_tree.specs.Bindings.{are_arguments}
 use Rattle.p3_tree.specs.Goals.{hard_holds}
-use Rattle.p3_tree.specs.Plans.{Plan, action_named, arguments, cost_by, visited, last_state, moves, steps_fit}
+use Rattle.p3_tree.specs.Plans.{Plan, action_named, arguments, cost_by, visited, last_state, Move, moves, steps_fit}
 use Rattle.p3_tree.specs.Constraints.{HardModal, satisfies, hard_list}
 use Rattle.p3_tree.specs.declared.task.Action.{Action}
 use Rattle.p3_tree.specs.declared.task.Step.{Step}
@@ -48,8 +48,8 @@ pub data Fault : Type 0 where
   AtGoal : Fault
   AtConstraint : (number : ℕ) → Fault
 
-abbrev pub fault_at : Task → ℕ × (State × Step) → Option Fault
-fault_at T move = option_map (AtStep move.0) (misfit T move.1.0 move.1.1)
+abbrev pub fault_at : Task → ℕ × Move → Option Fault
+fault_at T numbered = option_map (AtStep numbered.0) (misfit T numbered.1.state numbered.1.step)
 
 -- the least step that does not fit
 unfoldable pub step_fault : Task → Plan → Option Fault

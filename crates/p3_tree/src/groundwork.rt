@@ -25,34 +25,24 @@ ghost use Rattle.std.specs.Prelude.{List, true, ◌≡◌};
 
 /// An effect adds and deletes what its literals do whose conditions hold.
 pub fn effects_are_their_literals()
-    ensures adds {
-        (T : Task) (s : State) (env : Environment) (e : Effect) (fact : Fact)
-        → has_fact (adds T s env e) fact ≡ list_any (sets T s fact) (literals T env e)
-    }
-    ensures dels {
-        (T : Task) (s : State) (env : Environment) (e : Effect) (fact : Fact)
-        → has_fact (dels T s env e) fact ≡ list_any (clears T s fact) (literals T env e)
-    }
+    ensures adds { (T : Task) (s : State) (env : Environment) (e : Effect) (fact : Fact)
+        → has_fact (adds T s env e) fact ≡ list_any (sets T s fact) (literals T env e) }
+    ensures dels { (T : Task) (s : State) (env : Environment) (e : Effect) (fact : Fact)
+        → has_fact (dels T s env e) fact ≡ list_any (clears T s fact) (literals T env e) }
 {}
 
 /// A constraint is satisfied where all its operators are.
 pub fn constraints_are_their_operators()
-    ensures {
-        (T : Task) (W : List State) (env : Environment) (c : Constraint)
-        → sat T W env c ≡ list_all (λ (h : HardModal). satisfies T W h.env h.modal) (operators T env c)
-    }
+    ensures { (T : Task) (W : List State) (env : Environment) (c : Constraint)
+        → sat T W env c ≡ list_all (λ (h : HardModal). satisfies T W h.env h.modal) (operators T env c) }
 {}
 
 /// Where a formula or a hard goal holds, so does each atom that `and` alone joins in it.
 pub fn conjuncts_hold()
-    ensures formulas {
-        (T : Task) (s : State) (env : Environment) (f : Formula)
-        → holds T s env f ≡ true → all_hold s env (formula_conjuncts f) ≡ true
-    }
-    ensures goals {
-        (T : Task) (s : State) (env : Environment) (g : PreGoal)
-        → hard_holds T s env g ≡ true → all_hold s env (goal_conjuncts g) ≡ true
-    }
+    ensures formulas { (T : Task) (s : State) (env : Environment) (f : Formula)
+        → holds T s env f ≡ true → all_hold s env (formula_conjuncts f) ≡ true }
+    ensures goals { (T : Task) (s : State) (env : Environment) (g : PreGoal)
+        → hard_holds T s env g ≡ true → all_hold s env (goal_conjuncts g) ≡ true }
 {}
 
 /// What no effect names is in every reached state as at the start.
@@ -72,8 +62,6 @@ pub fn all_uses_are_known()
 
 /// How many preferences a precondition has, and their names, is the same for all arguments.
 pub fn preferences_are_the_same_for_all_arguments()
-    ensures {
-        (T : Task) (env other : Environment) (g : PreGoal)
-        → pref_names (prefs T env g) ≡ pref_names (prefs T other g)
-    }
+    ensures { (T : Task) (env other : Environment) (g : PreGoal)
+        → pref_names (prefs T env g) ≡ pref_names (prefs T other g) }
 {}

@@ -17,6 +17,7 @@ ghost use Rattle.p3_tree.specs.States.{State, Environment, has_fact};
 ghost use Rattle.p3_tree.specs.Effects.{adds, dels, next};
 ghost use Rattle.p3_tree.specs.Plans.{Plan};
 ghost use Rattle.p3_tree.specs.Validity.{Valid, first_fault};
+ghost use Rattle.p3_tree.specs.Metrics.{metric_quantity, metric_places};
 ghost use Rattle.p3_tree.specs.Offences.{WellFormed};
 ghost use Rattle.p3_tree.specs.FirstOffence.{first_offence};
 ghost use Rattle.p3_tree.specs.Lifting.{lift};
@@ -59,6 +60,11 @@ pub fn well_formed_where_no_offence()
 /// A plan is valid exactly where it has no first fault.
 pub fn valid_where_no_fault()
     ensures { (T : Task) (plan : Plan) → Valid T plan ↔ (first_fault T plan ≡ None) }
+{}
+
+/// The decimal places of a metric are the same at all counts and costs.
+pub fn places_of_a_metric_are_fixed()
+    ensures { (T : Task) (counts : Name → ℕ) (total : ℕ) → (metric_quantity T counts total).places ≡ metric_places T }
 {}
 
 /// A preference under `forall` counts once for each binding that leaves it unsatisfied, and one whose
@@ -104,15 +110,11 @@ pub fn worked_cases()
 
 /// What a command reads shows one first refusal at most.
 pub fn one_first_refusal()
-    ensures {
-        (given : Given) (r s : Refusal) → IsFirstRefusal given r → IsFirstRefusal given s → r ≡ s
-    }
+    ensures { (given : Given) (r s : Refusal) → IsFirstRefusal given r → IsFirstRefusal given s → r ≡ s }
 {}
 
 /// Nothing is refused of accepted texts.
 pub fn accepted_texts_are_not_refused()
-    ensures {
-        (side : Side) (d p : List ℕ) (T : Task) → AreAccepted side d p T
-        → (r : Refusal) → IsFirstRefusal (given_task side d p) r → ⊥
-    }
+    ensures { (side : Side) (d p : List ℕ) (T : Task) → AreAccepted side d p T
+        → (r : Refusal) → IsFirstRefusal (given_task side d p) r → ⊥ }
 {}

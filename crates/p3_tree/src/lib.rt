@@ -25,9 +25,9 @@ pub use groundwork::{
     steps_have_one_number,
 };
 pub use laws::{
-    accepted_texts_are_not_refused, atoms_of_the_next_state, below_is_the_closure, counts_by_place, offsets_have_no_meaning,
-    one_first_refusal, one_task_at_most, optima_are_kept, valid_where_no_fault, well_formed_where_no_offence,
-    worked_cases,
+    accepted_texts_are_not_refused, atoms_of_the_next_state, below_is_the_closure, counts_by_place,
+    offsets_have_no_meaning, one_first_refusal, one_task_at_most, optima_are_kept,
+    places_of_a_metric_are_fixed, valid_where_no_fault, well_formed_where_no_offence, worked_cases,
 };
 pub use metric::{Metric, Num};
 pub use printed::{printed_cases, refused_cases};

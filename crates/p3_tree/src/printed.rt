@@ -1,10 +1,16 @@
 //! Worked cases of what is printed. Each is the contract of a function without a body.
 
 ghost use Rattle.p3_tree.specs.Worked.Lines.{
-    LinesOfPlans, LinesOfTasks, SamplesForOneAndThree, WordsOfCommands,
+  LinesOfPlans,
+  LinesOfTasks,
+  SamplesForOneAndThree,
+  WordsOfCommands,
 };
 ghost use Rattle.p3_tree.specs.Worked.Refusals.{
-    NotRefused, RefusedNames, RefusedTasks, RefusedTexts,
+  NotRefused,
+  RefusedNames,
+  RefusedTasks,
+  RefusedTexts,
 };
 
 /// The lines of refused texts and tasks.

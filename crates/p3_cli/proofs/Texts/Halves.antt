@@ -6,7 +6,7 @@ use Rattle.p3_base.specs.declared.refusal.Direction.TheVariants.{Minimize}
 use Rattle.p3_tree.specs.Names.{Name, same_name, has_name, total_cost}
 use Rattle.p3_tree.specs.Erased.{erased_header, erased_action, erased_init, erased_domain, erased_problem}
 use Rattle.p3_tree.specs.Grammar.Words.{◌>>=◌, Place, each_at, expressions, predicate_place}
-use Rattle.p3_tree.specs.Grammar.Halves.{Section, section_place, sections_named, at_most_one, or_absent, sections_among, part_at, requirements, no_constraints, Half, action_in, all_actions, kinds_in, header_place, predicates_in, functions_in, domain_keywords, domain_place, init_place, problem_place}
+use Rattle.p3_tree.specs.Grammar.Halves.{Section, section_place, sections_named, at_most_one, or_absent, sections_among, part_at, requirements, no_constraints, NamedSections, action_in, all_actions, kinds_in, header_place, predicates_in, functions_in, domain_keywords, domain_place, init_place, problem_place}
 use Rattle.p3_tree.specs.Grammar.Lists.{objects_in}
 use Rattle.p3_tree.specs.Grammar.Constraints.{constraint_or_empty_place}
 use Rattle.p3_tree.proofs.Computes.{texts_compute}
@@ -163,7 +163,7 @@ domain_by name listed types objects predicates functions limits acts = do
   actions ← all_actions acts
   Some (record { name = name; kinds = kinds; constants = constants; predicates = headers; functions = costs; constraints = constraints; actions = actions })
 
-abbrev domain_in : Half → Option Domain
+abbrev domain_in : NamedSections → Option Domain
 domain_in half =
     let named : Name → List Section = λ keyword. sections_named keyword half.sections in
     domain_by half.name (named (codes ":requirements")) (named (codes ":types")) (named (codes ":constants")) (named (codes ":predicates"))
@@ -197,7 +197,7 @@ module _ (functions word inner function dash number : ℕ) (ps : List Expression
   abbrev costs : Section
   costs = record { word = at_offset (codes ":functions") word; behind = costs_at }
 
-  abbrev half : List Section → Half
+  abbrev half : List Section → NamedSections
   half sections = record { name = title; sections = sections }
 
   -- the domain, where the other sections are found

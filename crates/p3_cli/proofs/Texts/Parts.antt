@@ -162,7 +162,7 @@ erased_all trees =
 
 -- what a list gives of its parts is what the place gives of each
 parts_of : (es : List Expression)
-    → map (λ (part : words.Part Found). part.tree true) (descend_parts (λ word free. None) (λ list parts. effect_in parts) (hidden-the_row-Expression-0 es))
+    → map (λ (part : words.ListPart Found). part.tree true) (descend_parts (λ word free. None) (λ list parts. effect_in parts) (hidden-the_row-Expression-0 es))
     ≡ map effect_place es
 unfolding texts_compute
 parts_of [] = refl

@@ -7,7 +7,7 @@ use Rattle.std.proofs.lemmas.Bool.{and_parts, not-true}
 use Rattle.std.proofs.lemmas.Bool.Decides.{nat_tests}
 use Rattle.p3_base.specs.Words.{is_lowered}
 use Rattle.p3_tree.specs.Names.{Name}
-use Rattle.p3_tree.specs.Tokens.{Token, Open, Close, Word, Tokens, is_blank, is_of_word, is_comment_after, before, joined, with_byte, tokens_from}
+use Rattle.p3_tree.specs.Tokens.{Token, Open, Close, Word, Tokens, is_blank, is_of_word, is_comment_after, before, prefixed, with_byte, tokens_from}
 
 abbrev pub is_word : Name → Bool
 is_word [] = false
@@ -29,12 +29,12 @@ past at (byte ∷ bytes) = past (at + 1) bytes
 -- ---- bytes, by the tests of them
 
 -- a byte of a word before a word, which it goes on with or not
-abbrev joined_by : Bool → (at byte next : ℕ) → List ℕ → List Token → List Token
-joined_by follows at byte next text later =
+abbrev prefixed_by : Bool → (at byte next : ℕ) → List ℕ → List Token → List Token
+prefixed_by follows at byte next text later =
     if follows then Word at (to_ascii_lowercase byte ∷ text) ∷ later else Word at (to_ascii_lowercase byte ∷ []) ∷ Word next text ∷ later
 
 abbrev with_word_byte : ℕ → ℕ → Tokens → Tokens
-with_word_byte at byte later = record { tokens = joined at byte later.tokens; foreign = later.foreign }
+with_word_byte at byte later = record { tokens = prefixed at byte later.tokens; foreign = later.foreign }
 
 abbrev read_by : (opens closes goes_on is_silent : Bool) → ℕ → ℕ → Tokens → Tokens
 read_by opens closes goes_on is_silent at byte later =
@@ -57,13 +57,13 @@ lower_from low (Open at ∷ later) e = refl
 lower_from low (Close at ∷ later) e = refl
 lower_from low (Word next text ∷ later) e = grind (arith, nat_tests, e)
 
-joined_from : (low at byte : ℕ) (tokens : List Token) → nat_le low at ≡ true → is_from low (joined at byte tokens) ≡ true
-joined_from low at byte [] own = own
-joined_from low at byte (Open next ∷ later) own = own
-joined_from low at byte (Close next ∷ later) own = own
-joined_from low at byte (Word next text ∷ later) own = by (next == at + 1)
+prefixed_from : (low at byte : ℕ) (tokens : List Token) → nat_le low at ≡ true → is_from low (prefixed at byte tokens) ≡ true
+prefixed_from low at byte [] own = own
+prefixed_from low at byte (Open next ∷ later) own = own
+prefixed_from low at byte (Close next ∷ later) own = own
+prefixed_from low at byte (Word next text ∷ later) own = by (next == at + 1)
   where
-    by : (follows : Bool) → is_from low (joined_by follows at byte next text later) ≡ true
+    by : (follows : Bool) → is_from low (prefixed_by follows at byte next text later) ≡ true
     by true = own
     by false = own
 
@@ -75,7 +75,7 @@ with_byte_from low at byte later own behind = by (byte == 40) (byte == 41) (is_o
         → is_from low (read_by opens closes goes_on is_silent at byte later).tokens ≡ true
     by true closes goes_on is_silent own = refl
     by false true goes_on is_silent own = refl
-    by false false true is_silent own = joined_from low at byte later.tokens (own refl)
+    by false false true is_silent own = prefixed_from low at byte later.tokens (own refl)
     by false false false true own = behind
     by false false false false own = refl
 
@@ -99,13 +99,13 @@ from_next at (byte ∷ bytes) apart =
 
 -- a byte is a word of its own where no word follows at once
 alone : (at byte : ℕ) (tokens : List Token) → is_from (at + 1 + 1) tokens ≡ true
-    → joined at byte tokens ≡ Word at (to_ascii_lowercase byte ∷ []) ∷ tokens
+    → prefixed at byte tokens ≡ Word at (to_ascii_lowercase byte ∷ []) ∷ tokens
 alone at byte [] e = refl
 alone at byte (Open next ∷ later) e = refl
 alone at byte (Close next ∷ later) e = refl
 alone at byte (Word next text ∷ later) e =
     let differ : (next == at + 1) ≡ false = grind (arith, nat_tests, e) in
-    ap (λ follows. joined_by follows at byte next text later) differ
+    ap (λ follows. prefixed_by follows at byte next text later) differ
 
 record Lowered (byte : ℕ) : Type 0 where
   opens : (byte == 40) ≡ false
@@ -145,5 +145,5 @@ word_read (byte ∷ next ∷ bytes) fits at rest apart =
     let later : Tokens = tokens_from false (past (at + 1) (next ∷ bytes)) rest in
     let follows : (at + 1 == at + 1) ≡ true = grind (arith, nat_tests) in
     byte_read at byte (next ∷ bytes ++ rest) own ∙ ap (with_word_byte at byte) (word_read (next ∷ bytes) both.1 (at + 1) rest apart)
-    ∙ (λ i. record { tokens = joined_by (follows i) at byte (at + 1) (next ∷ bytes) later.tokens; foreign = later.foreign })
+    ∙ (λ i. record { tokens = prefixed_by (follows i) at byte (at + 1) (next ∷ bytes) later.tokens; foreign = later.foreign })
     ∙ (λ i. before (Word at (own.same i ∷ next ∷ bytes)) later)

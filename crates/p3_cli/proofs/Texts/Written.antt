@@ -10,10 +10,10 @@ use Rattle.p3_tree.specs.Grammar.Texts.{IsBalanced}
 use Rattle.p3_tree.specs.Grammar.Words.{is_name}
 use Rattle.p3_tree.specs.Faithful.{Faithful}
 use Rattle.p3_tree.specs.Names.{Name}
-use Rattle.p3_tree.specs.Tiny.{IsTinyTask, Literal, Wish, literal_of_effect, Summand, summand_of, summand_in, weighted}
+use Rattle.p3_compile.specs.Tiny.{IsTinyTask, Literal, Wish, literal_of_effect, Summand, summand_of, summand_in, weighted}
 use Rattle.p3_tree.proofs.OffsetLemmas.{faithful_offset_free}
-use Rattle.p3_tree.proofs.TinyReading.{OnePreference}
-use Rattle.p3_tree.proofs.TinyParts.{the_preference}
+use Rattle.p3_compile.proofs.TinyReading.{OnePreference}
+use Rattle.p3_compile.proofs.TinyParts.{the_preference}
 use Rattle.p3_tree.specs.declared.effect.Effect.TheVariants as effect
 use Rattle.p3_tree.specs.declared.metric.Metric.{Metric}
 use Rattle.p3_tree.specs.declared.metric.Num.{Num, out-Num}

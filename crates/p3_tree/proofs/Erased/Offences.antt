@@ -1,5 +1,5 @@
 -- The words of offences are the same without offsets, and so are well-formed tasks.
-use Rattle.std.proofs.Common.{◌≡◌, ◌∙◌, ◌↔◌, refl, sym, ap, Bool, true, false, not, ◌&&◌, List, [], ◌∷◌, ◌++◌, map, length, Option, None, Some, eqb}
+use Rattle.std.proofs.Common.{◌≡◌, ◌∙◌, ◌↔◌, ℕ, refl, sym, ap, Bool, true, false, not, ◌&&◌, List, [], ◌∷◌, ◌++◌, map, length, Option, None, Some, eqb}
 use Rattle.std.specs.Prelude.{flat_map, find, option_map, zip}
 use Rattle.std.specs.List.{list_any, list_all}
 use Rattle.std.proofs.lemmas.List.{map-append, length-map}
@@ -7,8 +7,9 @@ use Rattle.p3_tree.specs.Names.{Name, same_name, same_names, has_name, object_ty
 use Rattle.p3_tree.specs.Types.{declared_objects}
 use Rattle.p3_tree.specs.States.{meanings}
 use Rattle.p3_tree.specs.Uses.{Scope, Use, Objects, Variables, AtomUse, FunctionUse, SideUse, NameUse, domain_uses, problem_uses}
-use Rattle.p3_tree.specs.Offences.{unless, repeated_after, repeated, repeated_variables, is_given_by, repeated_value, repeated_values, header_words, action_words, domain_duplicates, problem_duplicates, kind_names, declared_types, name_of_pref, goal_names_layer, goal_names, constraint_names_layer, constraint_names, preference_names, header_named, is_declared, unknown_types, unknown_term, unknown_header, unknown_words, domain_unknowns, problem_unknowns, wrong_count, miscounted, total_cost_with_parameters, domain_miscounts, problem_miscounts, variable_fits, term_fits, word_of, clashes, clashing, domain_clashes, problem_clashes, WellFormed}
-use Rattle.p3_tree.specs.Erased.{erased_ref, erased_term, erased_terms, erased_typed, erased_all_typed, erased_goal, erased_constraint, erased_kind, erased_header, erased_action, erased_init, erased_domain, erased_problem, erased, erased_use}
+use Rattle.p3_tree.specs.Offences.{unless, repeated_after, repeated, repeated_variables, is_given_by, repeated_value, repeated_values, header_words, action_words, domain_duplicates, problem_duplicates, kind_names, declared_types, header_named, is_declared, unknown_types, unknown_term, unknown_header, unknown_words, domain_unknowns, problem_unknowns, wrong_count, miscounted, total_cost_with_parameters, domain_miscounts, problem_miscounts, variable_fits, term_fits, word_of, clashes, clashing, domain_clashes, problem_clashes, WellFormed}
+use Rattle.p3_tree.specs.PreferenceNames.{Named, named_at, goal_names_layer, named_in_goal, constraint_names_layer, named_in_constraint, named_in_domain, named_in_problem, preference_names}
+use Rattle.p3_tree.specs.Erased.{erased_ref, erased_term, erased_terms, erased_typed, erased_all_typed, erased_goal, erased_constraint, erased_kind, erased_header, erased_action, erased_init, erased_domain, erased_problem, erased, erased_named, erased_use}
 use Rattle.p3_tree.proofs.Erased.Along.{any_along, map_along, find_along, flat_map_along, flat_map_into}
 use Rattle.p3_tree.proofs.Erased.Folds.{erased_goal_layer, fold_goal-erased, erased_constraint_layer, fold_constraint-erased}
 use Rattle.p3_tree.proofs.Erased.Words.{meanings-erased, is_below_some-erased, is_object_of-erased, declared_objects-erased}
@@ -88,30 +89,39 @@ problem_duplicates-erased P =
 
 -- ---- a name that is not declared
 
-name_of_pref-erased : (name : Option Ref) → name_of_pref (option_map erased_ref name) ≡ name_of_pref name
-name_of_pref-erased None = refl
-name_of_pref-erased (Some name) = refl
+named_at-erased : (at : ℕ) (name : Option Ref) → named_at 0 (option_map erased_ref name) ≡ map erased_named (named_at at name)
+named_at-erased at None = refl
+named_at-erased at (Some name) = refl
 
-abbrev itself : List Name → List Name
-itself names = names
+goal_names_layer-erased : (x : PreGoal-F (List Named)) → goal_names_layer (erased_goal_layer (map erased_named) x) ≡ map erased_named (goal_names_layer x)
+goal_names_layer-erased (goal.Plain body) = refl
+goal_names_layer-erased (goal.Both parts) = flat_map_into (map erased_named) erased_named (λ part. part) (λ part. part) (λ part. refl) parts
+goal_names_layer-erased (goal.Each variables body) = refl
+goal_names_layer-erased (goal.Soft pref) = named_at-erased pref.at pref.name
 
-goal_names_layer-erased : (x : PreGoal-F (List Name)) → goal_names_layer (erased_goal_layer itself x) ≡ goal_names_layer x
-goal_names_layer-erased (goal.Both parts) = flat_map_along itself (λ part. part) (λ part. part) (λ part. refl) parts
-goal_names_layer-erased (goal.Soft pref) = name_of_pref-erased pref.name
-goal_names_layer-erased _ = refl
+named_in_goal-erased : (g : PreGoal) → named_in_goal (erased_goal g) ≡ map erased_named (named_in_goal g)
+unfolding named_in_goal
+named_in_goal-erased g = fold_goal-erased goal_names_layer goal_names_layer (map erased_named) goal_names_layer-erased g
 
-goal_names-erased : (g : PreGoal) → goal_names (erased_goal g) ≡ goal_names g
-unfolding goal_names
-goal_names-erased g = fold_goal-erased goal_names_layer goal_names_layer itself goal_names_layer-erased g
+constraint_names_layer-erased : (x : Constraint-F (List Named)) → constraint_names_layer (erased_constraint_layer (map erased_named) x) ≡ map erased_named (constraint_names_layer x)
+constraint_names_layer-erased (constraint.Both parts) = flat_map_into (map erased_named) erased_named (λ part. part) (λ part. part) (λ part. refl) parts
+constraint_names_layer-erased (constraint.Each variables body) = refl
+constraint_names_layer-erased (constraint.Single modal) = refl
+constraint_names_layer-erased (constraint.Soft at name body) = ap (λ names. names ++ map erased_named body) (named_at-erased at name) ∙ sym (map-append erased_named (named_at at name) body)
 
-constraint_names_layer-erased : (x : Constraint-F (List Name)) → constraint_names_layer (erased_constraint_layer itself x) ≡ constraint_names_layer x
-constraint_names_layer-erased (constraint.Both parts) = flat_map_along itself (λ part. part) (λ part. part) (λ part. refl) parts
-constraint_names_layer-erased (constraint.Soft at name body) = ap (λ names. names ++ body) (name_of_pref-erased name)
-constraint_names_layer-erased _ = refl
+named_in_constraint-erased : (c : Constraint) → named_in_constraint (erased_constraint c) ≡ map erased_named (named_in_constraint c)
+unfolding named_in_constraint
+named_in_constraint-erased c = fold_constraint-erased constraint_names_layer constraint_names_layer (map erased_named) constraint_names_layer-erased c
 
-constraint_names-erased : (c : Constraint) → constraint_names (erased_constraint c) ≡ constraint_names c
-unfolding constraint_names
-constraint_names-erased c = fold_constraint-erased constraint_names_layer constraint_names_layer itself constraint_names_layer-erased c
+named_in_domain-erased : (D : Domain) → named_in_domain (erased_domain D) ≡ map erased_named (named_in_domain D)
+named_in_domain-erased D =
+    (λ i. named_in_constraint-erased D.constraints.body i ++ flat_map_into erased_action erased_named (λ action. named_in_goal action.pre.body) (λ action. named_in_goal action.pre.body) (λ action. named_in_goal-erased action.pre.body) D.actions i)
+    ∙ sym (map-append erased_named (named_in_constraint D.constraints.body) (flat_map (λ action. named_in_goal action.pre.body) D.actions))
+
+named_in_problem-erased : (P : Problem) → named_in_problem (erased_problem P) ≡ map erased_named (named_in_problem P)
+named_in_problem-erased P =
+    (λ i. named_in_constraint-erased P.constraints.body i ++ named_in_goal-erased P.goal.body i)
+    ∙ sym (map-append erased_named (named_in_constraint P.constraints.body) (named_in_goal P.goal.body))
 
 header_named-erased : (headers : List Header) (name : Name) → header_named (map erased_header headers) name ≡ option_map erased_header (header_named headers name)
 header_named-erased headers name = find_along erased_header _ _ (λ header. refl) headers
@@ -122,7 +132,9 @@ unknown_header-erased headers word = (λ i. unless (any_along erased_header (λ 
 module _ (T : Task) where
   pub preference_names-erased : preference_names (erased T) ≡ preference_names T
   unfolding preference_names
-  preference_names-erased = λ i. constraint_names-erased T.domain.constraints.body i ++ flat_map_along erased_action (λ action. goal_names action.pre.body) (λ action. goal_names action.pre.body) (λ action. goal_names-erased action.pre.body) T.domain.actions i ++ constraint_names-erased T.problem.constraints.body i ++ goal_names-erased T.problem.goal.body i
+  preference_names-erased =
+      ap (map (λ (named : Named). named.name)) ((λ i. named_in_domain-erased T.domain i ++ named_in_problem-erased T.problem i) ∙ sym (map-append erased_named (named_in_domain T.domain) (named_in_problem T.problem)))
+      ∙ map_along erased_named _ _ (λ named. refl) (named_in_domain T.domain ++ named_in_problem T.problem)
 
   kind_names-erased : (name : Ref) (parent : Option Ref) → kind_names (erased_kind (record { name = name; parent = parent })) ≡ kind_names (record { name = name; parent = parent })
   kind_names-erased name None = refl

@@ -1,6 +1,6 @@
 -- Plans, their faults and their values are the same without offsets.
 use Rattle.std.proofs.Common.{◌≡◌, ◌∙◌, ◌↔◌, ℕ, ◌+◌, refl, sym, ap, not, ◌&&◌, List, [], ◌∷◌, map, Option, None, Some, is_some, ltb, cond, pos, ◌-ℤ◌}
-use Rattle.std.specs.Prelude.{filter_map, slice_get, option_map, option_and_then, position, if◌then◌else◌, zip, sum_by, unwrap_or}
+use Rattle.std.specs.Prelude.{filter_map, slice_get, option_map, option_and_then, position, if◌then◌else◌, sum_by, unwrap_or}
 use Rattle.std.specs.Option.{option_or}
 use Rattle.std.specs.List.{list_all, enumerate_from, prefix_len}
 use Rattle.std.proofs.lemmas.List.{length-map, map-id}
@@ -10,7 +10,7 @@ use Rattle.p3_tree.specs.States.{has_fact, State, start}
 use Rattle.p3_tree.specs.Effects.{next}
 use Rattle.p3_tree.specs.Goals.{StatePref, hard_holds, prefs}
 use Rattle.p3_tree.specs.Costs.{cost_places, initial_cost, effect_cost}
-use Rattle.p3_tree.specs.Plans.{Plan, action_named, arguments, cost_by, fits_by, state_by, step_cost, fits, state_after, visited_from, visited, last_state, moves, steps_fit, Reached}
+use Rattle.p3_tree.specs.Plans.{Plan, action_named, arguments, cost_by, fits_by, state_by, step_cost, fits, state_after, visited_from, visited, last_state, Move, moves_from, moves, steps_fit, Reached}
 use Rattle.p3_tree.specs.Constraints.{HardModal, satisfies, hard_list, Instance, instances}
 use Rattle.p3_tree.specs.Validity.{goal_holds, is_met, is_valid, Arguments, Precondition, NoCost, misfit, misfit_by, AtStep, AtGoal, AtConstraint, step_fault, goal_fault, constraint_fault, first_fault}
 use Rattle.p3_tree.specs.Metrics.{is_called, unsatisfied, false_in, prefs_by, step_prefs, violated, cost, Quantity, sum_of, product_of, quantity_layer, quantity, quantity_by, metric_quantity, metric_places, direction_by, signed, loss_at, value, loss, no_counts, base_loss, one_count, weight, cost_weight}
@@ -76,12 +76,16 @@ module _ (T : Task) where
   unfolding visited
   visited-erased plan = ap (λ s. visited_from (erased T) s plan) (start-erased T) ∙ visited_from-erased (start T) plan
 
+  moves_from-erased : (s : State) (plan : Plan) → moves_from (erased T) s plan ≡ moves_from T s plan
+  moves_from-erased s [] = refl
+  moves_from-erased s (step ∷ plan) = ap (λ rest. record { state = s; step = step } ∷ rest) (ap (λ after. moves_from (erased T) after plan) (state_after-erased s step) ∙ moves_from-erased (state_after T s step) plan)
+
   moves-erased : (plan : Plan) → moves (erased T) plan ≡ moves T plan
-  moves-erased plan = ap (λ states. zip states plan) (visited-erased plan)
+  moves-erased plan = ap (λ s. moves_from (erased T) s plan) (start-erased T) ∙ moves_from-erased (start T) plan
 
   pub steps_fit-erased : (plan : Plan) → steps_fit (erased T) plan ≡ steps_fit T plan
   unfolding steps_fit
-  steps_fit-erased plan = λ i. list_all (λ move. fits-erased move.0 move.1 i) (moves-erased plan i)
+  steps_fit-erased plan = λ i. list_all (λ (move : Move). fits-erased move.state move.step i) (moves-erased plan i)
 
   pub Reached-erased : (s : State) → Reached (erased T) s ↔ Reached T s
   Reached-erased s = (
@@ -118,7 +122,7 @@ module _ (T : Task) where
 
   step_fault-erased : (plan : Plan) → step_fault (erased T) plan ≡ step_fault T plan
   unfolding step_fault
-  step_fault-erased plan = λ i. slice_get (filter_map (λ (move : ℕ × (State × Step)). option_map (AtStep move.0) (misfit-erased move.1.0 move.1.1 i)) (enumerate_from 1 (moves-erased plan i))) 0
+  step_fault-erased plan = λ i. slice_get (filter_map (λ (numbered : ℕ × Move). option_map (AtStep numbered.0) (misfit-erased numbered.1.state numbered.1.step i)) (enumerate_from 1 (moves-erased plan i))) 0
 
   goal_fault-erased : (plan : Plan) → goal_fault (erased T) plan ≡ goal_fault T plan
   unfolding goal_fault
@@ -158,7 +162,7 @@ module _ (T : Task) where
 
   pub violated-erased : (plan : Plan) (name : Name) → violated (erased T) plan name ≡ violated T plan name
   unfolding violated
-  violated-erased plan name = λ i. instance_counts i + sum_by (λ (move : State × Step). step_counts-erased name move.0 move.1 i) (moves-erased plan i)
+  violated-erased plan name = λ i. instance_counts i + sum_by (λ (move : Move). step_counts-erased name move.state move.step i) (moves-erased plan i)
     where
       instance_counts : unsatisfied (erased T) (visited (erased T) plan) name (instances (erased T)) ≡ unsatisfied T (visited T plan) name (instances T)
       instance_counts = (λ i. unsatisfied (erased T) (visited-erased plan i) name (instances-erased T i)) ∙ unsatisfied-erased (visited T plan) name (instances T)

@@ -2,7 +2,7 @@
 use Rattle.std.specs.Prelude.{Bool, true, false, List, [], ◌∷◌, map, codes, if◌then◌else◌, Option, Some, None}
 use Rattle.std.specs.Option.{option_or}
 use Rattle.p3_tree.specs.Names.{Name, same_name, total_cost, is_empty}
-use Rattle.p3_tree.specs.Grammar.Words.{◌>>=◌, Place, Part, descend, raws, all_trees, each_at, only, pair, parts_place, function_place, numeral_place, is_word, headed, choose}
+use Rattle.p3_tree.specs.Grammar.Words.{◌>>=◌, Place, ListPart, descend, raws, all_trees, each_at, only, pair, parts_place, function_place, numeral_place, is_word, headed, choose}
 use Rattle.p3_tree.specs.Grammar.Lists.{term_place, variables_place}
 use Rattle.p3_tree.specs.Grammar.Formulas.{atom_in, formula_place}
 use Rattle.p3_tree.specs.declared.expression.Expression.{Expression}
@@ -17,9 +17,9 @@ abbrev pub Found : Type 0
 Found = Bool → Option Effect
 
 abbrev pub Parts : Type 0
-Parts = List (Part Found)
+Parts = List (ListPart Found)
 
--- `(name term*)` with a function other than the total cost
+-- `(` name term* `)` with a name other than `total-cost`
 abbrev pub function_value_in : List Expression → Option Amount
 function_value_in [] = None
 function_value_in (first ∷ behind) = do
@@ -27,6 +27,7 @@ function_value_in (first ∷ behind) = do
   args ← each_at term_place behind
   if same_name function.name total_cost then None else Some (amount.Value function args)
 
+-- amount: number | `(` name term* `)` with a name other than `total-cost`
 abbrev pub amount_place : Place Amount
 amount_place e = option_or (numeral_place e >>= λ numeral. Some (amount.Number numeral)) (parts_place e >>= function_value_in)
 
@@ -34,10 +35,11 @@ amount_place e = option_or (numeral_place e >>= λ numeral. Some (amount.Number 
 abbrev pub total_cost_place : Place Ref
 total_cost_place e = parts_place e >>= λ parts. only parts >>= is_word total_cost
 
+-- `(and` effect* `)`
 abbrev pub all_form : Parts → Found
-all_form behind free = all_trees (map (λ (part : Part Found). part.tree free) behind) >>= λ parts. Some (effect.All parts)
+all_form behind free = all_trees (map (λ (part : ListPart Found). part.tree free) behind) >>= λ parts. Some (effect.All parts)
 
--- an increase has no `forall` and no `when` above it
+-- `(forall (` variable-list `)` effect `)`; no increase stands under it
 abbrev pub each_form : Parts → Found
 each_form behind free = do
   both ← pair behind
@@ -45,6 +47,7 @@ each_form behind free = do
   body ← both.1.tree false
   Some (effect.Each variables body)
 
+-- `(when` formula effect `)`; no increase stands under it
 abbrev pub when_form : Parts → Found
 when_form behind free = do
   both ← pair behind
@@ -52,6 +55,7 @@ when_form behind free = do
   body ← both.1.tree false
   Some (effect.If condition body)
 
+-- `(not (` name term* `))`
 abbrev pub delete_form : Parts → Found
 delete_form behind free = do
   part ← only (raws behind)
@@ -59,6 +63,7 @@ delete_form behind free = do
   atom ← atom_in parts
   Some (effect.Del atom.pred atom.args)
 
+-- `(increase (total-cost)` amount `)`, where an increase may stand
 abbrev pub increase_form : Parts → Found
 increase_form behind free = do
   both ← pair (raws behind)
@@ -69,16 +74,17 @@ increase_form behind free = do
 abbrev pub effect_forms : List (Name × (Parts → Found))
 effect_forms = (codes "and", all_form) ∷ (codes "forall", each_form) ∷ (codes "when", when_form) ∷ (codes "not", delete_form) ∷ (codes "increase", increase_form) ∷ []
 
--- any other list is an atom, which becomes true
+-- any other list, which becomes true: `(` name term* `)`
 abbrev pub add_form : Parts → Found
 add_form parts free = atom_in (raws parts) >>= λ atom. Some (effect.Add atom.pred atom.args)
 
 abbrev pub effect_in : Parts → Found
-effect_in parts free = headed (λ (part : Part Found). part.raw) parts >>= λ list. choose list.0.name effect_forms (λ behind. add_form parts) list.1 free
+effect_in parts free = headed (λ (part : ListPart Found). part.raw) parts >>= λ list. choose list.0.name effect_forms (λ behind. add_form parts) list.1 free
 
+-- effect: one of these forms
 unfoldable pub effect_place : Place Effect
 effect_place e = descend (λ word free. None) (λ list parts. effect_in parts) e true
 
--- `()` is no effect
+-- effect | `()`, which means `(and)`
 abbrev pub effect_or_empty_place : Place Effect
 effect_or_empty_place e = parts_place e >>= λ parts. if is_empty parts then Some (effect.All []) else effect_place e

@@ -34,6 +34,7 @@ pub record Section : Type 0 where
 abbrev pub section_of : Ref × List Expression → Section
 section_of list = record { word = list.0; behind = list.1 }
 
+-- `(` word x* `)`: a section, or an action
 abbrev pub section_place : Place Section
 section_place e = do
   parts ← parts_place e
@@ -75,15 +76,15 @@ abbrev pub begins_with_colon : Name → Bool
 begins_with_colon [] = false
 begins_with_colon (byte ∷ bytes) = byte == 58
 
--- words that begin with `:`; nothing depends on them
+-- `(:requirements` word* `)`, each word beginning with `:`; nothing depends on them
 abbrev pub requirements : Section → Option (List Ref)
 requirements section = each_at (word_if begins_with_colon) section.behind
 
 abbrev pub no_constraints : Part Constraint
 no_constraints = record { at = 0; body = constraint.Both [] }
 
--- `(define (KIND name)` and sections
-pub record Half : Type 0 where
+-- `(define (` KIND name `)` section* `)`
+pub record NamedSections : Type 0 where
   pub name : Ref
   pub sections : List Section
 
@@ -94,7 +95,7 @@ titled kind e = do
   word ← is_word kind both.0
   name_place both.1
 
-abbrev pub half_in : Name → List Name → List Expression → Option Half
+abbrev pub half_in : Name → List Name → List Expression → Option NamedSections
 half_in kind keywords (word ∷ title ∷ behind) = do
   define ← is_word (codes "define") word
   name ← titled kind title
@@ -103,7 +104,7 @@ half_in kind keywords (word ∷ title ∷ behind) = do
   Some (record { name = name; sections = sections })
 half_in kind keywords _ = None
 
-abbrev pub half_at : Name → List Name → Place Half
+abbrev pub half_at : Name → List Name → Place NamedSections
 half_at kind keywords e = parts_place e >>= half_in kind keywords
 
 -- ---- actions
@@ -120,7 +121,9 @@ keyword_parts (word ∷ body ∷ behind) = do
   others ← keyword_parts behind
   Some (record { word = keyword; behind = body ∷ [] } ∷ others)
 
--- an absent part has the offset of the action's name
+-- `(:action` name action-part* `)`
+-- action-part: `:parameters (` variable-list `)` | `:precondition` pre-goal-or-empty | `:effect` effect-or-empty
+-- Each stands at most once. An absent one means no parameters, `(and)` or no effect, and has the offset of the action's name.
 abbrev pub action_in : List Expression → Option Action
 action_in [] = None
 action_in (first ∷ behind) = do
@@ -144,10 +147,11 @@ all_actions (section ∷ sections) = do
 abbrev pub kind_item : Ref × Option Ref → Kind
 kind_item item = record { name = item.0; parent = item.1 }
 
+-- `(:types` kind-group* name* `)`, where kind-group is name+ `-` name
 abbrev pub kinds_in : Section → Option (List Kind)
 kinds_in section = grouped name_place name_place section.behind >>= λ items. Some (map kind_item items)
 
--- `(name` variables `)`
+-- header: `(` name variable-list `)`
 abbrev pub header_in : Place Ref → List Expression → Option Header
 header_in place [] = None
 header_in place (first ∷ behind) = do
@@ -158,16 +162,21 @@ header_in place (first ∷ behind) = do
 abbrev pub header_place : Place Ref → Place Header
 header_place place e = parts_place e >>= header_in place
 
+-- `(:predicates` header* `)`
 abbrev pub predicates_in : Section → Option (List Header)
 predicates_in section = each_at (header_place predicate_place) section.behind
 
--- groups `header+ - number`, and then headers
+-- `(:functions` function-group* header* `)`, where function-group is header+ `- number`
 abbrev pub functions_in : Section → Option (List Header)
 functions_in section = grouped (header_place function_place) (is_word (codes "number")) section.behind >>= λ items. Some (map (λ (item : Header × Option Ref). item.0) items)
 
 abbrev pub domain_keywords : List Name
 domain_keywords = codes ":requirements" ∷ codes ":types" ∷ codes ":constants" ∷ codes ":predicates" ∷ codes ":functions" ∷ codes ":constraints" ∷ codes ":action" ∷ []
 
+-- domain: `(define (domain` name `)` domain-section* `)`
+-- domain-section: `(:requirements` word* `)` | `(:types` kind-group* name* `)` | `(:constants` object-list `)` | `(:predicates` header* `)`
+--     | `(:functions` function-group* header* `)` | `(:constraints` constraint-or-empty `)` | `(:action` name action-part* `)`
+-- Each but `:action` stands at most once.
 unfoldable pub domain_place : Place Domain
 domain_place e = do
   half ← half_at (codes "domain") domain_keywords e
@@ -182,20 +191,23 @@ domain_place e = do
 
 -- ---- the problem half
 
--- `(name name*)`
+-- `(` name name* `)`
 abbrev pub initial_in : (Ref → List Expression → Option Init) → Place Ref → List Expression → Option Init
 initial_in entry place [] = None
 initial_in entry place (first ∷ behind) = place first >>= λ word. entry word behind
 
+-- `(` name name* `)`
 abbrev pub true_entry : Ref → List Expression → Option Init
 true_entry pred behind = each_at object_place behind >>= λ args. Some (init.True pred args)
 
 abbrev pub false_entry : Ref → List Expression → Option Init
 false_entry pred behind = each_at object_place behind >>= λ args. Some (init.False pred args)
 
+-- `(not (` name name* `))`
 abbrev pub not_form : List Expression → Option Init
 not_form behind = only behind >>= λ e. parts_place e >>= initial_in false_entry predicate_place
 
+-- `(= (` name name* `)` number `)`
 abbrev pub value_form : List Expression → Option Init
 value_form behind = do
   both ← pair behind
@@ -209,12 +221,17 @@ init_forms = (codes "not", not_form) ∷ (codes "=", value_form) ∷ []
 abbrev pub init_in : List Expression → Option Init
 init_in parts = headed (λ (part : Expression). part) parts >>= λ list. choose list.0.name init_forms (λ behind. initial_in true_entry predicate_place parts) list.1
 
+-- init: `(` name name* `)` | `(not (` name name* `))` | `(= (` name name* `)` number `)`
 abbrev pub init_place : Place Init
 init_place e = parts_place e >>= init_in
 
 abbrev pub problem_keywords : List Name
 problem_keywords = codes ":domain" ∷ codes ":requirements" ∷ codes ":objects" ∷ codes ":init" ∷ codes ":goal" ∷ codes ":constraints" ∷ codes ":metric" ∷ []
 
+-- problem: `(define (problem` name `)` problem-section* `)`
+-- problem-section: `(:domain` name `)` | `(:requirements` word* `)` | `(:objects` object-list `)` | `(:init` init* `)` | `(:goal` pre-goal-or-empty `)`
+--     | `(:constraints` constraint-or-empty `)` | `(:metric` direction num `)`
+-- Each stands at most once, and `:domain`, `:init` and `:goal` once.
 unfoldable pub problem_place : Place Problem
 problem_place e = do
   half ← half_at (codes "problem") problem_keywords e

@@ -9,26 +9,27 @@ use Rattle.p3_tree.specs.declared.term.Term.{Term}
 use Rattle.p3_tree.specs.declared.term.Term.TheVariants.{Var, Const}
 use Rattle.p3_tree.specs.declared.term.Typed.{Typed}
 
+-- term: name | variable
 abbrev pub term_place : Place Term
 term_place e = option_or (name_place e >>= λ name. Some (Const name)) (variable_place e >>= λ name. Some (Var name))
 
--- a name stands for an object where no variable may stand
+-- an object: name, where no variable may stand
 abbrev pub object_place : Place Term
 object_place e = name_place e >>= λ name. Some (Const name)
 
 -- ---- types
 
--- `(either name+)`
+-- `(either` name+ `)`
 abbrev pub either_in : List Expression → Option (List Ref)
 either_in parts = do
   list ← headed (λ (part : Expression). part) parts
   if same_name list.0.name (codes "either") && not (is_empty list.1) then each_at name_place list.1 else None
 
--- a name, or several under `either`
+-- type: name | `(either` name+ `)`
 abbrev pub type_place : Place (List Ref)
 type_place e = option_or (name_place e >>= λ name. Some (name ∷ [])) (parts_place e >>= either_in)
 
--- one name
+-- the type of objects: name
 abbrev pub one_type_place : Place (List Ref)
 one_type_place e = name_place e >>= λ name. Some (name ∷ [])
 
@@ -68,12 +69,14 @@ grouped item type list = fold (scanned item type) (Some (record { typed = []; wa
 abbrev pub typed_item : Ref × Option (List Ref) → Typed
 typed_item item = record { name = item.0; types = unwrap_or item.1 [] }
 
+-- variable-list: variable-group* variable*, where variable-group is variable+ `-` type
 abbrev pub variables_in : List Expression → Option (List Typed)
 variables_in list = grouped variable_place type_place list >>= λ items. Some (map typed_item items)
 
--- the variables of a quantifier stand in parentheses
+-- `(` variable-list `)`
 abbrev pub variables_place : Place (List Typed)
 variables_place e = parts_place e >>= variables_in
 
+-- object-list: object-group* name*, where object-group is name+ `-` name
 abbrev pub objects_in : List Expression → Option (List Typed)
 objects_in list = grouped name_place one_type_place list >>= λ items. Some (map typed_item items)

@@ -1,4 +1,5 @@
 -- Words, lists and places of the grammar. A place gives the tree of each of its texts, so that a text has one tree at most.
+-- Over an equation stands its production: `x*` is any number of x, `x+` at least one, `[x]` one or none, and `|` a choice; what stands in quotes stands in the text.
 use Rattle.std.specs.Prelude.{◌≡◌, Bool, List, [], ◌∷◌, map, length, if◌then◌else◌, Option, Some, None}
 use mathlib.Core.Former.{Count}
 pub use Rattle.p3_base.specs.Words.{is_digit, is_name, is_variable, reserved_words, is_function_name, is_predicate_name}
@@ -21,18 +22,18 @@ abbrev pub IsText : {A : Type 0} → Place A → Expression → A → Type 0
 IsText place e tree = place e ≡ Some tree
 
 -- a part of a list: the expression, and what a place makes of it
-pub record Part (A : Type 0) : Type 0 where
+pub record ListPart (A : Type 0) : Type 0 where
   pub raw : Expression
   pub tree : A
 
 -- ---- a place that goes down a tree, given at a word and at a list with its parts
 
 abbrev mutual
-  pub descend : {A : Type 0} → (Expression → A) → (Expression → List (Part A) → A) → Expression → A
+  pub descend : {A : Type 0} → (Expression → A) → (Expression → List (ListPart A) → A) → Expression → A
   descend word list (Word at text) = word (Word at text)
   descend word list (Group' at shape parts) = list (Group' at shape parts) (descend_parts word list parts)
 
-  pub descend_parts : {A : Type 0} → (Expression → A) → (Expression → List (Part A) → A) → {n : Count} → Row_of-Expression n → List (Part A)
+  pub descend_parts : {A : Type 0} → (Expression → A) → (Expression → List (ListPart A) → A) → {n : Count} → Row_of-Expression n → List (ListPart A)
   descend_parts word list end_of-Expression = []
   descend_parts word list (more_of-Expression part rest) = record { raw = part; tree = descend word list part } ∷ descend_parts word list rest
 
@@ -40,7 +41,7 @@ abbrev pub expressions : {n : Count} → Row_of-Expression n → List Expression
 expressions end_of-Expression = []
 expressions (more_of-Expression part rest) = part ∷ expressions rest
 
-abbrev pub raws : {A : Type 0} → List (Part A) → List Expression
+abbrev pub raws : {A : Type 0} → List (ListPart A) → List Expression
 raws parts = map (λ part. part.raw) parts
 
 -- ---- lists of trees
@@ -80,19 +81,22 @@ word_if test e = do
   word ← word_place e
   if test word.name then Some word else None
 
+-- name: a letter, and then any bytes of a word
 abbrev pub name_place : Place Ref
 name_place = word_if is_name
 
+-- variable: `?` and at least one byte more
 abbrev pub variable_place : Place Ref
 variable_place = word_if is_variable
 
--- the name of a function, and of a predicate, which `total-cost` is not
+-- the name of a function is no reserved word, and that of a predicate is not `total-cost` either
 abbrev pub function_place : Place Ref
 function_place = word_if is_function_name
 
 abbrev pub predicate_place : Place Ref
 predicate_place = word_if is_predicate_name
 
+-- number: digits, or digits with one `.` that is neither first nor last; superfluous zeros are allowed
 abbrev pub numeral_place : Place Numeral
 numeral_place e = do
   word ← word_if is_decimal e

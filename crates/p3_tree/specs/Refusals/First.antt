@@ -6,7 +6,6 @@ use Rattle.p3_base.specs.declared.refusal.Side.{Side}
 use Rattle.p3_tree.specs.Sides.{Half, InDomain, InProblem, role_of, byte_limit}
 use Rattle.p3_tree.specs.FirstOffence.{Offence, first_offence}
 use Rattle.p3_tree.specs.PlanTexts.{plan_offence}
-use Rattle.p3_tree.specs.Offences.{WellFormed}
 use Rattle.p3_tree.specs.Grammar.Texts.{Reads}
 use Rattle.p3_tree.specs.Refusals.Places.{refusal_at_word, first_some}
 use Rattle.p3_tree.specs.Refusals.Texts.{text_refusal}

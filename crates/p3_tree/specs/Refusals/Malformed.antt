@@ -1,5 +1,5 @@
 -- Where a text leaves the grammar: the first token such that no text of the grammar has the same tokens up to and including it.
-use Rattle.std.specs.Prelude.{◌≡◌, ℕ, List, [], ◌∷◌, ◌++◌, map, Option, Some, None}
+use Rattle.std.specs.Prelude.{◌≡◌, ℕ, List, [], ◌∷◌, ◌++◌, map}
 use Rattle.p3_base.specs.declared.refusal.Code.TheVariants.{Malformed}
 use Rattle.p3_base.specs.declared.refusal.Refusal.{Refusal}
 use Rattle.p3_base.specs.declared.refusal.Side.{Side}

@@ -1,5 +1,5 @@
 -- What the metric of a well-formed task shows: a product of two quantities, numbers that are too long or too large, a negative weight.
-use Rattle.std.specs.Prelude.{ℕ, nat_lt, nat_le, fold, filter_map, Bool, true, false, not, ◌&&◌, ℤ, pos, int_lt, neg_ℤ, List, [], ◌∷◌, ◌++◌, map, filter, flat_map, find, slice_get, count_by, codes, if◌then◌else◌, Option, Some, None, option_map}
+use Rattle.std.specs.Prelude.{ℕ, nat_lt, nat_le, fold, Bool, true, false, not, ◌&&◌, ℤ, pos, int_lt, neg_ℤ, List, [], ◌∷◌, ◌++◌, map, filter, flat_map, find, slice_get, count_by, codes, if◌then◌else◌, Option, Some, None, option_map}
 use Rattle.std.specs.List.{list_any}
 use Rattle.std.specs.Option.{option_and_then, option_map_or}
 use Rattle.p3_base.specs.declared.refusal.Code.TheVariants.{NonLinear, CostTooLarge, NegativeWeight}

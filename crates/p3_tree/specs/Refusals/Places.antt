@@ -1,5 +1,5 @@
 -- Where a refusal stands.
-use Rattle.std.specs.Prelude.{ℕ, List, [], ◌∷◌, length, Option, Some, None}
+use Rattle.std.specs.Prelude.{ℕ, List, [], ◌∷◌, length, Option, None}
 use Rattle.std.specs.Option.{option_or}
 use Rattle.p3_base.specs.declared.refusal.Code.{Code}
 use Rattle.p3_base.specs.declared.refusal.Refusal.{Refusal}

@@ -9,7 +9,7 @@ use Rattle.p3_tree.specs.Names.{Name}
 use Rattle.p3_tree.specs.Decimals.{is_decimal, has_point, digits_of, places_of}
 use Rattle.p3_tree.specs.Sides.{Half, role_of, level_limit, digit_limit, place_limit}
 use Rattle.p3_tree.specs.FirstOffence.{least_word}
-use Rattle.p3_tree.specs.Tokens.{Token, Tokens, Open, Close, Word, tokens_of}
+use Rattle.p3_tree.specs.Tokens.{Token, Open, Close, Word, tokens_of}
 use Rattle.p3_tree.specs.Expressions.{expression_of}
 use Rattle.p3_tree.specs.Refusals.Constructs.{constructs}
 use Rattle.p3_tree.specs.Refusals.Places.{refusal_at, refusal_at_word, refusal_at_token, first_some}

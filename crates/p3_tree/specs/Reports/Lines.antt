@@ -1,5 +1,5 @@
 -- What all printed lines are made of, and the lines that say no more than which file is meant.
-use Rattle.std.specs.Prelude.{ℕ, List, [], ◌∷◌, ◌++◌, flat_map, codes}
+use Rattle.std.specs.Prelude.{ℕ, List, [], ◌∷◌, ◌++◌, codes}
 use Rattle.p3_base.specs.declared.refusal.Role.{Role}
 use Rattle.p3_base.specs.declared.refusal.Role.TheVariants.{Domain, Problem, WrittenDomain, WrittenProblem, Plan}
 

@@ -1,5 +1,5 @@
 -- Worked lines: what is printed of tasks and of their plans, and the words of a command line.
-use Rattle.std.specs.Prelude.{◌≡◌, ℕ, pos, List, [], ◌∷◌, ◌++◌, map, codes, Option, Some, None, option_map}
+use Rattle.std.specs.Prelude.{◌≡◌, ℕ, pos, List, [], ◌∷◌, map, codes, Option, Some, None, option_map}
 use Prim.Native.String.{String}
 use Rattle.p3_tree.specs.Plans.{Plan}
 use Rattle.p3_tree.specs.Faithful.{extra}
@@ -84,22 +84,22 @@ plan_of_three = step "load" ("p1" ∷ "l0" ∷ []) ∷ step "load" ("p2" ∷ "l0
 
 pub record SamplesForOneAndThree : Type 0 where
   pub problem_of_one : sample_problem 1 ≡ text_of (
-    "(define (problem delivery-1)"
-    ∷ "(:domain delivery)"
-    ∷ "(:objects l0 l1 - place p1 - package)"
-    ∷ "(:init (truck-at l0) (at p1 l0) (dest p1 l1) (= (total-cost) 0) (= (road l0 l1) 2) (= (road l1 l0) 2))"
-    ∷ "(:constraints (and (sometime-after (carrying) (truck-at l1)) (preference tour (sometime-before (truck-at l1) (carrying))) (preference rest (at-most-once (carrying)))))"
-    ∷ "(:goal (and (truck-at l1) (forall (?p - package) (preference home (exists (?l - place) (and (dest ?p ?l) (at ?p ?l)))))))"
-    ∷ "(:metric minimize (+ (total-cost) (* 3 (is-violated calm)) (* 10 (is-violated home)) (* 4 (is-violated tour)) (* 2 (is-violated rest)))))" ∷ [])
+      "(define (problem delivery-1)"
+      ∷ "(:domain delivery)"
+      ∷ "(:objects l0 l1 - place p1 - package)"
+      ∷ "(:init (truck-at l0) (at p1 l0) (dest p1 l1) (= (total-cost) 0) (= (road l0 l1) 2) (= (road l1 l0) 2))"
+      ∷ "(:constraints (and (sometime-after (carrying) (truck-at l1)) (preference tour (sometime-before (truck-at l1) (carrying))) (preference rest (at-most-once (carrying)))))"
+      ∷ "(:goal (and (truck-at l1) (forall (?p - package) (preference home (exists (?l - place) (and (dest ?p ?l) (at ?p ?l)))))))"
+      ∷ "(:metric minimize (+ (total-cost) (* 3 (is-violated calm)) (* 10 (is-violated home)) (* 4 (is-violated tour)) (* 2 (is-violated rest)))))" ∷ [])
   pub plan_of_one : sample_plan 1 ≡ text_of ("(load p1 l0)" ∷ "(drive l0 l1)" ∷ "(unload p1 l1)" ∷ [])
   pub problem_of_three : sample_problem 3 ≡ text_of (
-    "(define (problem delivery-3)"
-    ∷ "(:domain delivery)"
-    ∷ "(:objects l0 l1 l2 l3 - place p1 p2 p3 - package)"
-    ∷ "(:init (truck-at l0) (at p1 l0) (at p2 l0) (at p3 l0) (dest p1 l1) (dest p2 l2) (dest p3 l3) (= (total-cost) 0) (= (road l0 l1) 2) (= (road l1 l0) 2) (= (road l1 l2) 3) (= (road l2 l1) 3) (= (road l2 l3) 4) (= (road l3 l2) 4))"
-    ∷ "(:constraints (and (sometime-after (carrying) (truck-at l3)) (preference tour (sometime-before (truck-at l3) (carrying))) (preference rest (at-most-once (carrying)))))"
-    ∷ "(:goal (and (truck-at l3) (forall (?p - package) (preference home (exists (?l - place) (and (dest ?p ?l) (at ?p ?l)))))))"
-    ∷ "(:metric minimize (+ (total-cost) (* 3 (is-violated calm)) (* 10 (is-violated home)) (* 4 (is-violated tour)) (* 2 (is-violated rest)))))" ∷ [])
+      "(define (problem delivery-3)"
+      ∷ "(:domain delivery)"
+      ∷ "(:objects l0 l1 l2 l3 - place p1 p2 p3 - package)"
+      ∷ "(:init (truck-at l0) (at p1 l0) (at p2 l0) (at p3 l0) (dest p1 l1) (dest p2 l2) (dest p3 l3) (= (total-cost) 0) (= (road l0 l1) 2) (= (road l1 l0) 2) (= (road l1 l2) 3) (= (road l2 l1) 3) (= (road l2 l3) 4) (= (road l3 l2) 4))"
+      ∷ "(:constraints (and (sometime-after (carrying) (truck-at l3)) (preference tour (sometime-before (truck-at l3) (carrying))) (preference rest (at-most-once (carrying)))))"
+      ∷ "(:goal (and (truck-at l3) (forall (?p - package) (preference home (exists (?l - place) (and (dest ?p ?l) (at ?p ?l)))))))"
+      ∷ "(:metric minimize (+ (total-cost) (* 3 (is-violated calm)) (* 10 (is-violated home)) (* 4 (is-violated tour)) (* 2 (is-violated rest)))))" ∷ [])
   pub text_of_plan : sample_plan 3 ≡ text_of ("(load p1 l0)" ∷ "(load p2 l0)" ∷ "(load p3 l0)" ∷ "(drive l0 l1)" ∷ "(unload p1 l1)" ∷ "(drive l1 l2)" ∷ "(drive l2 l3)" ∷ "(unload p3 l3)" ∷ [])
   pub read_plan : IsPlanText (sample_plan 3) plan_of_three
   pub summary : Prints (option_map (λ T. generated_lines T plan_of_three 14 (pos 30)) (task_of_texts sample_domain (sample_problem 3))) ("steps 40" ∷ "preferences 5" ∷ "plan 8" ∷ "embedded 14" ∷ "cost 30" ∷ "metric 30" ∷ [])

@@ -1,4 +1,4 @@
-use Rattle.std.proofs.Common.{◌≡◌, ℕ, List, length, rules, sym, ap, subst, arith, length-take, length-append, length-drop}
+use Rattle.std.proofs.Common.{ℕ, List, length, rules, sym, ap, subst, arith, length-take, length-append, length-drop}
 use Rattle.std.specs.Io.KnownBytes.{Consumes}
 use Rattle.std.proofs.KnownBytes.{Consumes-nil}
 use Rattle.p3_base.proofs.TakenLemmas.{taken_more}

@@ -2,7 +2,7 @@ use Rattle.std.proofs.Common.{◌≡◌, ◌∙◌, ◌+◌, ◌∷◌, [], ◌+
 use Rattle.std.proofs.lemmas.List.{drop_more, drop_all, map-append}
 use Rattle.p3_cli.specs.Asked.{asked_input, asked_inputs}
 use Rattle.p3_cli.specs.Outcome.{ReadsAll, ReadFails}
-use Rattle.p3_cli.specs.Store.{AreNamed, AreWithin, reading}
+use Rattle.p3_cli.specs.Store.{AreStored, AreWithin, reading}
 use Rattle.p3_cli.proofs.StoreLemmas.{among_roles, in_front, read_fails_here, one_more_text, all_texts}
 use Rattle.p3_cli.proofs.store.read_all.Goals as goal
 
@@ -35,7 +35,7 @@ loop-input-preserved g c =
       held = c.in-Ok.ensures.held_stays ∙ c.loop-input.invariant.held;
       reads = omega (arith, c.in-Ok.ensures.read_faults_grow, c.loop-input.invariant.reads);
       writes = omega (arith, c.in-Ok.ensures.write_faults_grow, c.loop-input.invariant.writes);
-      named = λ sure. (subst (λ rest. AreNamed held (asked_inputs rest)) cut (c.loop-input.invariant.named (subst IsTrue c.in-Ok.ensures.sure_stays sure))).1;
+      named = λ sure. (subst (λ rest. AreStored held (asked_inputs rest)) cut (c.loop-input.invariant.named (subst IsTrue c.in-Ok.ensures.sure_stays sure))).1;
       within = λ more fits. subst (AreWithin (asked_inputs inputs))
           (sym (ap (λ all. all ++ more) (ap (map (λ text. text.items)) c.in-Ok-push.ensures.items ∙ map-append (λ text. text.items) c.loop-input.texts.items (c.in-Ok.text ∷ [])) ∙ append_assoc texts (c.in-Ok.text.items ∷ []) more))
           (c.loop-input.invariant.within (c.in-Ok.text.items ∷ more) (subst (λ rest. AreWithin (asked_inputs rest) (c.in-Ok.text.items ∷ more)) (sym cut) (c.in-Ok.ensures.within, fits)));

@@ -1,6 +1,6 @@
 use Rattle.std.proofs.Common.{◌≡◌, ◌≤◌, IfSome, IsTrue, map, drop, ◌++◌, List, ℕ}
 use Rattle.p3_cli.specs.Asked.{asked_inputs}
-use Rattle.p3_cli.specs.Store.{AreNamed, AreWithin, reading}
+use Rattle.p3_cli.specs.Store.{AreStored, AreWithin, reading}
 use Rattle.p3_cli.proofs.StoreLemmas.{in_front}
 use Rattle.p3_cli.proofs.store.read_all.Given as goal
 
@@ -13,7 +13,7 @@ invariant-loop-input g l =
       held : files.held l.files ≡ files.held l.fn.files;
       reads : files.read_faults l.fn.files ≤ files.read_faults l.files;
       writes : files.write_faults l.fn.files ≤ files.write_faults l.files;
-      named : IsTrue (files.sure l.files) → AreNamed (files.held l.fn.files) rest;
+      named : IsTrue (files.sure l.files) → AreStored (files.held l.fn.files) rest;
       within : (more : List (List ℕ)) → AreWithin rest more → AreWithin (asked_inputs l.inputs) (map (λ text. text.items) l.texts.items ++ more);
       so_far : IfSome (files.held l.fn.files) (λ store. in_front (map (λ text. text.items) l.texts.items) (reading store rest) ≡ reading store (asked_inputs l.inputs));
     }

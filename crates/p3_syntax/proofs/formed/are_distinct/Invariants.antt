@@ -1,5 +1,5 @@
 use Rattle.std.proofs.Common.{◌≡◌, length}
-use Rattle.p3_tree.specs.Tiny.{are_distinct}
+use Rattle.p3_compile.specs.Tiny.{are_distinct}
 use Rattle.p3_syntax.proofs.formed.are_distinct.Given as goal
 
 -- the headers passed are declared once

@@ -8,7 +8,7 @@ use Rattle.std.proofs.lemmas.Int.{ints}
 use Rattle.std.proofs.lemmas.List.Sums.{sum_by-cons}
 use Rattle.std.proofs.lemmas.Slice.Eq.{bytes_eq-Decides}
 use Rattle.p3_base.specs.declared.refusal.Direction.TheVariants.{Minimize}
-use Rattle.p3_tree.specs.Names.{Name, same_name}
+use Rattle.p3_tree.specs.Names.{Name, same_name, is_empty}
 use Rattle.p3_tree.specs.States.{State, Environment, has_fact, start}
 use Rattle.p3_tree.specs.Bindings.{extended, are_arguments}
 use Rattle.p3_tree.specs.Effects.{next}
@@ -21,12 +21,12 @@ use Rattle.p3_tree.specs.Validity.{Valid, is_valid, is_met, goal_holds}
 use Rattle.p3_tree.specs.Metrics.{is_called, unsatisfied, false_in, prefs_by, step_prefs, violated, cost, quantity, quantity_by, signed, direction_by, loss_at, loss, base_loss, no_counts}
 use Rattle.p3_tree.specs.Limits.{weight_of, width}
 use Rattle.p3_tree.specs.Faithful.{extra_by, extra}
-use Rattle.p3_tree.specs.Tiny.{Literal, is_empty, literal_of_effect, Wish, wish_of, Summand, summand_of}
+use Rattle.p3_compile.specs.Tiny.{Literal, literal_of_effect, Wish, wish_of, Summand, summand_of}
 use Rattle.p3_tree.proofs.Computes.{trees_compute}
 use Rattle.p3_tree.proofs.StateLemmas.{has_fact-next}
 use Rattle.p3_tree.proofs.PlanLemmas.{fit_from, state_from, false_from, steps_fit-walk, last_state-walk, violated-walk}
-use Rattle.p3_tree.proofs.OneInstance.{Words, IsCount, repeated, held, Reading}
-use Rattle.p3_tree.proofs.TinyMeaning.{fact_of_literal, signed_by, truth, holds_literal, Changes, changes_literal, Wishes, wishes, summand_counts}
+use Rattle.p3_compile.proofs.OneInstance.{Words, IsCount, repeated, held, Reading}
+use Rattle.p3_compile.proofs.TinyMeaning.{fact_of_literal, signed_by, truth, holds_literal, Changes, changes_literal, Wishes, wishes, summand_counts}
 use Rattle.p3_tree.specs.declared.goal.PreGoal.TheVariants as goal
 use Rattle.p3_tree.specs.declared.constraint.Modal.TheVariants.{AtEnd}
 use Rattle.p3_tree.specs.declared.constraint.Constraint.TheVariants as constraint

@@ -6,6 +6,7 @@ use Rattle.std.specs.Option.{option_map_or, option_and_then}
 use Rattle.std.specs.Str.{bytes_eq}
 use Rattle.p3_base.specs.declared.refusal.Direction.{Direction}
 use Rattle.p3_base.specs.declared.refusal.Direction.TheVariants.{Minimize, Maximize}
+use Rattle.p3_tree.specs.Names.{is_empty}
 use Rattle.p3_tree.specs.declared.constraint.Constraint.{Constraint, out-Constraint}
 use Rattle.p3_tree.specs.declared.constraint.Constraint.TheOpen.{Constraint-F}
 use Rattle.p3_tree.specs.declared.effect.Effect.{Effect, out-Effect}
@@ -30,10 +31,6 @@ use Rattle.p3_tree.specs.declared.term.Ref.{Ref}
 pub record Literal : Type 0 where
   pub is_negated : Bool
   pub pred : Ref
-
-abbrev pub is_empty : {A : Type 0} → List A → Bool
-is_empty [] = true
-is_empty (x ∷ xs) = false
 
 -- ---- the literals of the trees
 
@@ -139,13 +136,13 @@ weighted (Num-F.Number number) (Num-F.Violated name) =
     if number.places == 0 && nat_lt number.digits 1000000000000000 then Some (record { name = name; weight = number.digits }) else None
 weighted _ _ = None
 
-abbrev pub product_of : List Num → Option Summand
-product_of (number ∷ count ∷ []) = weighted (out-Num number) (out-Num count)
-product_of _ = None
+abbrev pub summand_of_parts : List Num → Option Summand
+summand_of_parts (number ∷ count ∷ []) = weighted (out-Num number) (out-Num count)
+summand_of_parts _ = None
 
 abbrev pub summand_in : Num-F Num → Option Summand
 summand_in (Num-F.Violated name) = Some (record { name = name; weight = 1 })
-summand_in (Num-F.Product at parts) = product_of parts
+summand_in (Num-F.Product at parts) = summand_of_parts parts
 summand_in _ = None
 
 -- `(is-violated g)` or `(* n (is-violated g))`, with n of at most 15 digits
@@ -201,12 +198,6 @@ declares_all domain problem =
 
 unfoldable pub is_tiny_task : Task → Bool
 is_tiny_task task = is_tiny_domain task.domain && is_tiny_problem task.problem && declares_all task.domain task.problem
-
-abbrev pub IsTinyDomain : Domain → Type 0
-IsTinyDomain domain = IsTrue (is_tiny_domain domain)
-
-abbrev pub IsTinyProblem : Problem → Type 0
-IsTinyProblem problem = IsTrue (is_tiny_problem problem)
 
 abbrev pub IsTinyTask : Task → Type 0
 IsTinyTask task = IsTrue (is_tiny_task task)

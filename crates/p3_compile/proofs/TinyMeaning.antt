@@ -3,14 +3,14 @@ use Rattle.std.proofs.Common.{◌≡◌, ◌∙◌, refl, sym, ap, subst, ℕ, �
 use Rattle.std.specs.Prelude.{option_map}
 use mathlib.Core.Former.{none_left, one_more}
 use denote.Hole.Carrier.{out, shown}
-use Rattle.p3_tree.specs.Names.{Name}
+use Rattle.p3_tree.specs.Names.{Name, is_empty}
 use Rattle.p3_tree.specs.States.{State, Environment, has_fact}
 use Rattle.p3_tree.specs.Formulas.{holds}
 use Rattle.p3_tree.specs.Effects.{adds, dels}
 use Rattle.p3_tree.specs.Goals.{hard_holds, prefs}
 use Rattle.p3_tree.specs.Costs.{increases}
 use Rattle.p3_tree.specs.Metrics.{Quantity, quantity}
-use Rattle.p3_tree.specs.Tiny.{Literal, is_empty, atom_in, literal_of_formula, literal_of_effect, literal_without, is_nothing, is_unconstrained, Wish, named_wish, wish_of, Summand, weighted, product_of, summand_of}
+use Rattle.p3_compile.specs.Tiny.{Literal, atom_in, literal_of_formula, literal_of_effect, literal_without, is_nothing, is_unconstrained, Wish, named_wish, wish_of, Summand, weighted, summand_of_parts, summand_of}
 use Rattle.p3_tree.specs.declared.state.Fact.{Fact}
 use Rattle.p3_tree.specs.declared.term.Ref.{Ref}
 use Rattle.p3_tree.specs.declared.term.Term.{Term}
@@ -177,7 +177,7 @@ module _ (T : Task) (counts : Name → ℕ) (total : ℕ) where
   weighted_value (num.Number number) (num.Violated name) summand e = weighted_by _ number.digits name summand e
   weighted_value _ _ summand e = absurd (cc)
 
-  product_value : (at : ℕ) (parts : List Num) (summand : Summand) → product_of parts ≡ Some summand → units (num.Product at parts) ≡ summand_value summand
+  product_value : (at : ℕ) (parts : List Num) (summand : Summand) → summand_of_parts parts ≡ Some summand → units (num.Product at parts) ≡ summand_value summand
   product_value at [] summand e = absurd (cc)
   product_value at (number ∷ []) summand e = absurd (cc)
   product_value at (number ∷ count ∷ []) summand e = ap (λ (whole : Quantity). whole.units) (quantity-Product T counts total at (number ∷ count ∷ [])) ∙ weighted_value number count summand e

@@ -6,9 +6,10 @@ use Rattle.std.proofs.lemmas.Bool.{and_parts}
 use Rattle.std.proofs.lemmas.Slice.Eq.{bytes_eq-Decides}
 use Rattle.p3_base.specs.declared.refusal.Direction.{Direction}
 use Rattle.p3_base.specs.declared.refusal.Direction.TheVariants.{Minimize, Maximize}
-use Rattle.p3_tree.specs.Tiny.{Literal, is_empty, literal_of_effect, is_unconstrained, is_plain_header, is_tiny_action, has_one_at_most, has_tiny_domain_shape, is_well_formed_domain, is_tiny_domain, Wish, wish_of, Summand, summand_of, is_minimize, is_tiny_metric, is_atom_entry, has_tiny_problem_shape, counted, is_same_name, is_well_formed_problem, is_tiny_problem, declares_all, is_tiny_task, IsTinyTask}
-use Rattle.p3_tree.proofs.TinyMeaning.{nothing_is, unconstrained_is}
-use Rattle.p3_tree.proofs.TinyReading.{OneAction, OnePreference}
+use Rattle.p3_tree.specs.Names.{is_empty}
+use Rattle.p3_compile.specs.Tiny.{Literal, literal_of_effect, is_unconstrained, is_plain_header, is_tiny_action, has_one_at_most, has_tiny_domain_shape, is_well_formed_domain, is_tiny_domain, Wish, wish_of, Summand, summand_of, is_minimize, is_tiny_metric, is_atom_entry, has_tiny_problem_shape, counted, is_same_name, is_well_formed_problem, is_tiny_problem, declares_all, is_tiny_task, IsTinyTask}
+use Rattle.p3_compile.proofs.TinyMeaning.{nothing_is, unconstrained_is}
+use Rattle.p3_compile.proofs.TinyReading.{OneAction, OnePreference}
 use Rattle.p3_tree.specs.declared.goal.PreGoal.TheVariants as goal
 use Rattle.p3_tree.specs.declared.constraint.Constraint.TheVariants as constraint
 use Rattle.p3_tree.specs.declared.metric.Metric.{Metric}
