@@ -1,0 +1,10 @@
+pub mod Walks
+pub mod GroundWalks
+pub mod Simulation
+pub mod Machine
+pub mod GadgetLaws
+pub mod Made
+pub mod MadeLaws
+pub mod MadeMachine
+pub mod CompiledLaw
+pub mod Spread
