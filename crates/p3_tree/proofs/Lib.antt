@@ -17,6 +17,7 @@ pub mod PlacesLemmas
 pub mod PlanLemmas
 pub mod PreferenceNameLaws
 pub mod RefusalLaws
+pub mod ShapeLemmas
 pub mod SpellingLemmas
 pub mod StateLemmas
 pub mod StaticLaws
