@@ -6,7 +6,7 @@ use Rattle.std.specs.Fmt.{decimal, digits, digits_onto, digit_glyph}
 use Rattle.std.proofs.lemmas.Bool.{and_parts}
 use Rattle.std.proofs.lemmas.Bool.Decides.{nat_tests}
 use Rattle.std.proofs.lemmas.Fmt.{decimal_injective}
-use Rattle.p3_base.specs.Copies.{copy_prefix, is_copy_of}
+use Rattle.p3_base.specs.Copies.{copy_prefix, is_copy_of, copy_name}
 use Rattle.p3_base.specs.Words.{Name, is_digit}
 
 -- ---- decimal numbers are made of digits
@@ -66,10 +66,6 @@ only_digits (d ∷ ds) (e ∷ es) rest is_ds is_es is =
     let same : d ≡ e = grind (arith, nat_tests, both.0) in
     let later = only_digits ds es rest (and_parts (is_digit d) (list_all is_digit ds) is_ds).1 (and_parts (is_digit e) (list_all is_digit es) is_es).1 both.1 in
     λ i. same i ∷ later i
-
--- the name of a copy of a step
-abbrev pub copy_name : ℕ → Name → Name
-copy_name number rest = codes "s" ++ (decimal number ++ (codes "v" ++ rest))
 
 pub copy_of_own : (number : ℕ) (rest : Name) → is_copy_of number (copy_name number rest) ≡ true
 copy_of_own number rest = begins_with (copy_name number rest) (copy_prefix number) ∙ own_digits (decimal number) rest

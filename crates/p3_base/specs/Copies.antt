@@ -7,6 +7,10 @@ use Rattle.p3_base.specs.Words.{Name}
 abbrev pub copy_prefix : ℕ → Name
 copy_prefix number = codes "s" ++ decimal number ++ codes "v"
 
+-- the name of a copy of a step
+abbrev pub copy_name : ℕ → Name → Name
+copy_name number rest = codes "s" ++ (decimal number ++ (codes "v" ++ rest))
+
 abbrev pub is_copy_of : ℕ → Name → Bool
 is_copy_of number name = starts_with ◌==◌ name (copy_prefix number)
 

@@ -1,10 +1,11 @@
 -- The steps as which actions count, by their names.
 use Rattle.std.proofs.Common.{◌≡◌, ◌∙◌, ◌≢◌, ℕ, zero, suc, ◌+◌, ◌<◌, ◌≤◌, ◌^◌, Bool, true, false, ◌∷◌, Some, None, refl, sym, ap, arith}
-use Rattle.std.specs.Prelude.{◌==◌, cond, find}
+use Rattle.std.specs.Prelude.{cond, find}
 use Rattle.std.specs.List.{range_with_len}
-use Rattle.p3_base.specs.Copies.{is_copy_of}
+use Rattle.std.proofs.lemmas.Bool.{ne_eqb}
+use Rattle.p3_base.specs.Copies.{is_copy_of, copy_name}
 use Rattle.p3_base.specs.Words.{Name}
-use Rattle.p3_base.proofs.CopyLemmas.{copy_name, copy_of_own, copy_of_only, copy_of_none}
+use Rattle.p3_base.proofs.CopyLemmas.{copy_of_own, copy_of_only, copy_of_none}
 use Rattle.p3_formula.specs.Targets.{lifted_number}
 use Rattle.p3_formula.specs.declared.task.GroundTask.{GroundTask}
 
@@ -31,6 +32,6 @@ copy_lifted G number rest within small =
     (λ n little is. copy_of_only number n rest (omega (arith, within, small)) little is) G.step_count 0 (omega arith) (omega (arith, within)) (omega (arith, small))
 
 -- a name that begins with another letter counts as none
-pub other_not_lifted : (G : GroundTask) (byte : ℕ) (rest : Name) → (115 == byte) ≡ false → lifted_number G (byte ∷ rest) ≡ None
+pub other_not_lifted : (G : GroundTask) (byte : ℕ) (rest : Name) → 115 ≢ byte → lifted_number G (byte ∷ rest) ≡ None
 other_not_lifted G byte rest differ =
-    found_none (λ n. is_copy_of n (byte ∷ rest)) (λ n. copy_of_none n byte rest differ) G.step_count 0
+    found_none (λ n. is_copy_of n (byte ∷ rest)) (λ n. copy_of_none n byte rest (ne_eqb 115 byte differ)) G.step_count 0

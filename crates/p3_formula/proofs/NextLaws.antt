@@ -11,7 +11,8 @@ use Rattle.std.proofs.lemmas.List.FromFn.{get_or-map-range_with_len, length-map-
 use Rattle.std.proofs.Math.ListN.{get_or-eq_default}
 use mathlib.Core.Former.{Count}
 use Rattle.p3_formula.specs.Folds.{fold_forms}
-use Rattle.p3_formula.specs.Forms.{State, is_set, truth, truth_layer, has_atoms, within_layer, HasSameTruth}
+use Rattle.p3_formula.specs.Alike.{AreAlike, AgreeBelow, AreConditionsBelow}
+use Rattle.p3_formula.specs.Forms.{State, is_set, truth, truth_layer, has_atoms, within_layer, IsBelow}
 use Rattle.p3_formula.specs.Next.{is_added, is_deleted, is_set_after, after}
 use Rattle.p3_formula.specs.declared.form.Change.{Change}
 use Rattle.p3_formula.specs.declared.form.Form.{Form, Row_of-Form, end_of-Form, more_of-Form}
@@ -105,18 +106,6 @@ pub truth-unchanged : (state : State) (effects : List Change) (form : Form)
     → has_atoms (λ atom. not (list_any (λ change. change.atom == atom) effects)) form ≡ true → truth (after state effects) form ≡ truth state form
 truth-unchanged state effects = truth-agree (after state effects) state _ (λ atom h. is_set-unchanged state effects atom (not-true _ h))
 
--- changes of the same atoms, under conditions that hold in the same states
-pub record IsAlike (one other : Change) : Type 0 where
-  pub atom : one.atom ≡ other.atom
-  pub add : one.add ≡ other.add
-  pub cond : HasSameTruth one.cond other.cond
-
-abbrev pub AreAlike : List Change → List Change → Type 0
-AreAlike [] [] = Unit {0}
-AreAlike (one ∷ effects) (other ∷ others) = IsAlike one other × AreAlike effects others
-AreAlike [] (other ∷ others) = ⊥
-AreAlike (one ∷ effects) [] = ⊥
-
 module _ (state : State) where
   any-alike : (pick : Bool → Bool) (atom : ℕ) (effects others : List Change) → AreAlike effects others
       → list_any (λ (change : Change). (change.atom == atom) && pick change.add && truth state change.cond) effects ≡ list_any (λ (change : Change). (change.atom == atom) && pick change.add && truth state change.cond) others
@@ -133,20 +122,19 @@ module _ (state : State) where
       λ i. map (λ atom. any-alike (λ add. add) atom effects others alike i || is_set state atom && not (any-alike not atom effects others alike i)) (range_with_len 0 (length state))
 
 -- states that agree on the atoms below a number agree there after changes under conditions on these atoms
-module _ (count : ℕ) (first second : State) (agree : (atom : ℕ) → atom < count → is_set first atom ≡ is_set second atom) where
-  same_cond : (form : Form) → has_atoms (λ atom. nat_lt atom count) form ≡ true → truth first form ≡ truth second form
-  same_cond = truth-agree first second (λ atom. nat_lt atom count) (λ atom h. agree atom (grind (arith, nat_tests)))
+module _ (count : ℕ) (first second : State) (agree : AgreeBelow count first second) where
+  pub truth-below : (form : Form) → IsBelow count form → truth first form ≡ truth second form
+  truth-below = truth-agree first second (λ atom. nat_lt atom count) (λ atom h. agree atom (grind (arith, nat_tests)))
 
-  any-agree : (pick : Bool → Bool) (atom : ℕ) (effects : List Change) → list_all (λ (change : Change). has_atoms (λ other. nat_lt other count) change.cond) effects ≡ true
+  any-agree : (pick : Bool → Bool) (atom : ℕ) (effects : List Change) → AreConditionsBelow count effects
       → list_any (λ (change : Change). (change.atom == atom) && pick change.add && truth first change.cond) effects ≡ list_any (λ (change : Change). (change.atom == atom) && pick change.add && truth second change.cond) effects
   any-agree pick atom [] below = refl
   any-agree pick atom (change ∷ effects) below =
       let parts = and_parts (has_atoms (λ other. nat_lt other count) change.cond) _ below in
-      λ i. ((change.atom == atom) && pick change.add && same_cond change.cond parts.0 i) || any-agree pick atom effects parts.1 i
+      λ i. ((change.atom == atom) && pick change.add && truth-below change.cond parts.0 i) || any-agree pick atom effects parts.1 i
 
-  pub after-agree : (effects : List Change) → count ≤ length first → count ≤ length second → list_all (λ (change : Change). has_atoms (λ other. nat_lt other count) change.cond) effects ≡ true
-      → (atom : ℕ) → atom < count → is_set (after first effects) atom ≡ is_set (after second effects) atom
-  after-agree effects room_first room_second below atom within =
+  pub after-agree : (effects : List Change) → AreConditionsBelow count effects → count ≤ length first → count ≤ length second → AgreeBelow count (after first effects) (after second effects)
+  after-agree effects below room_first room_second atom within =
       is_set-after first effects atom (omega (arith, within, room_first))
       ∙ (λ i. any-agree (λ add. add) atom effects below i || agree atom within i && not (any-agree not atom effects below i))
       ∙ sym (is_set-after second effects atom (omega (arith, within, room_second)))

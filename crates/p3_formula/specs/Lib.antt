@@ -3,6 +3,7 @@ pub mod Forms
 pub mod GroundSat
 pub mod GroundPlans
 pub mod Next
+pub mod Alike
 pub mod Constructors
 pub mod Modals
 pub mod Kept

@@ -1,5 +1,5 @@
 -- The plans of a target, how they lift to ground plans, and what it is that a target is a compiled ground task (Keyder and Geffner's end phase; names of steps are this project's profile).
-use Rattle.std.specs.Prelude.{◌≡◌, ℕ, ◌+◌, ◌==◌, nat_lt, Bool, true, false, not, ◌&&◌, ◌||◌, List, [], ◌∷◌, ◌++◌, length, map, find, filter_map, sum_by, codes, Option, Some, None, IsTrue, Contains, bytes_eq}
+use Rattle.std.specs.Prelude.{◌≡◌, ℕ, ◌+◌, ◌==◌, nat_lt, Bool, false, not, ◌&&◌, ◌||◌, List, [], ◌∷◌, ◌++◌, length, map, find, filter_map, sum_by, Option, Some, None, IsTrue, Contains, bytes_eq}
 use Rattle.std.specs.List.{list_all, range_with_len}
 use Rattle.p3_base.specs.Copies.{is_copy_of}
 use Rattle.p3_base.specs.Words.{Name, are_different, are_digits, is_lowered, is_name, is_predicate_name}

@@ -9,6 +9,7 @@ mod constructors;
 mod copy;
 mod evaluation;
 mod form;
+mod laws;
 mod modal;
 mod node;
 mod simpler;
@@ -22,6 +23,9 @@ pub use copy::{change_copied, copied, effects_copied};
 pub use evaluation::eval;
 pub use form::{Change, Effects, Form};
 pub use modal::{GroundModal, GroundPref, GroundSoft};
+pub use laws::{
+    alike_changes_make_the_same_state, copies_count_as_their_step, states_agree_after_changes,
+};
 pub use node::Node;
 pub use simpler::{negate, simplify};
 pub use stepping::after;

@@ -1,6 +1,7 @@
 -- Several monitors that ride on one step.
-use Rattle.std.specs.Prelude.{◌≡◌, ℕ, ◌+◌, ◌≤◌, ◌<◌, nat_lt, List, [], ◌∷◌, ◌++◌, flat_map}
-use Rattle.p3_formula.specs.Forms.{State, is_set}
+use Rattle.std.specs.Prelude.{ℕ, ◌+◌, ◌≤◌, nat_lt, List, [], ◌∷◌, ◌++◌, flat_map}
+use Rattle.p3_formula.specs.Forms.{State}
+use Rattle.p3_formula.specs.Alike.{AgreeBelow}
 use Rattle.p3_formula.specs.Next.{after}
 use Rattle.p3_formula.specs.declared.form.Change.{Change}
 use Rattle.p3_formula.specs.Kept.{Kept, is_own, atom_count}
@@ -30,9 +31,6 @@ AreKept (monitor ∷ monitors) W state = Kept monitor.base monitor.modal W state
 abbrev pub AreBeside : List Monitor → List Change → Type 0
 AreBeside [] others = Unit {0}
 AreBeside (monitor ∷ monitors) others = HasNone (is_own monitor.base monitor.modal) others × AreBeside monitors others
-
-abbrev pub AgreeBelow : ℕ → State → State → Type 0
-AgreeBelow count first second = (atom : ℕ) → atom < count → is_set first atom ≡ is_set second atom
 
 -- the state after the changes of a step, of the monitors and of others, made at once
 abbrev pub after_all : State → List Change → List (List Change) → List Change → State

@@ -1,43 +1,23 @@
 -- A target made of the actions of all steps and those of the end phase simulates its ground task.
-use Rattle.std.proofs.Common.{◌≡◌, ◌∙◌, inl, inr, ℕ, ◌+◌, ◌<◌, ◌≤◌, nat_lt, Bool, true, false, not, ◌&&◌, ◌||◌, List, [], ◌∷◌, length, refl, sym, ap, subst, arith}
+use Rattle.std.proofs.Common.{◌≡◌, ◌∙◌, inl, inr, ℕ, ◌+◌, ◌<◌, ◌≤◌, Bool, true, false, ◌||◌, List, [], ◌∷◌, length, refl, sym, ap, subst, arith}
 use Rattle.std.specs.Prelude.{◌==◌, Contains}
-use Rattle.std.specs.List.{list_any}
 use Rattle.std.proofs.lemmas.Bool.{and_parts, ne_eqb}
-use Rattle.std.proofs.lemmas.Bool.Decides.{nat_tests}
-use Rattle.p3_formula.specs.Forms.{State, is_set, truth, has_atoms, IsBelow}
+use Rattle.p3_formula.specs.Forms.{State, is_set, truth}
 use Rattle.p3_formula.specs.Next.{after}
-use Rattle.p3_formula.specs.declared.form.Change.{Change}
 use Rattle.p3_formula.specs.declared.form.Form.{Form}
 use Rattle.p3_formula.specs.declared.modal.GroundModal.{GroundModal}
 use Rattle.p3_formula.specs.declared.modal.GroundModal.TheVariants.{AtEnd, Always, Sometime, AtMostOnce, SometimeAfter, SometimeBefore}
 use Rattle.p3_formula.specs.declared.target.TargetAction.{TargetAction}
-use Rattle.p3_formula.proofs.NextLaws.{is_set-after, is_set-unchanged, truth-agree}
+use Rattle.p3_formula.proofs.NextLaws.{is_set-unchanged}
 use Rattle.p3_endphase.specs.declared.phase.SoftEnd.{SoftEnd}
 use Rattle.p3_endphase.specs.Ends.{moving, IsMove, Settles, AreActions}
 use Rattle.p3_formula.specs.Kept.{AreAt, atom_count, watched}
-use Rattle.p3_monitors.specs.Riders.{AreKept, AgreeBelow}
+use Rattle.p3_monitors.specs.Riders.{AreKept}
+use Rattle.p3_formula.specs.Alike.{AgreeBelow}
 use Rattle.p3_monitors.specs.declared.watching.Monitor.{Monitor}
 use Rattle.p3_formula.proofs.ReadAtoms.{read_below}
 use Rattle.p3_simulation.proofs.Walks.{head_or_tail, in_none}
-pub use Rattle.p3_simulation.specs.Parts.{AreConditionsBelow, AreBefore}
-
--- ---- states that agree below a number
-
-module _ (count : ℕ) (first second : State) (agree : AgreeBelow count first second) where
-  pub same_truth : (form : Form) → IsBelow count form → truth first form ≡ truth second form
-  same_truth form below = truth-agree first second (λ atom. nat_lt atom count) (λ atom low. agree atom (grind (arith, nat_tests))) form below
-
-  same_any : (test : Change → Bool → Bool) (effects : List Change) → AreConditionsBelow count effects → list_any (λ change. test change (truth first change.cond)) effects ≡ list_any (λ change. test change (truth second change.cond)) effects
-  same_any test [] below = refl
-  same_any test (change ∷ effects) below =
-      let parts = and_parts (has_atoms (λ atom. nat_lt atom count) change.cond) _ below in
-      λ i. test change (same_truth change.cond parts.0 i) || same_any test effects parts.1 i
-
-  pub agree_after : (effects : List Change) → AreConditionsBelow count effects → count ≤ length first → count ≤ length second → AgreeBelow count (after first effects) (after second effects)
-  agree_after effects below room room_two atom low =
-      is_set-after first effects atom (omega (arith, low, room))
-      ∙ (λ i. same_any (λ change holds. (change.atom == atom) && change.add && holds) effects below i || agree atom low i && not (same_any (λ change holds. (change.atom == atom) && not change.add && holds) effects below i))
-      ∙ sym (is_set-after second effects atom (omega (arith, low, room_two)))
+use Rattle.p3_simulation.specs.Parts.{AreBefore}
 
 -- ---- monitors are kept in states that agree on all lower atoms
 

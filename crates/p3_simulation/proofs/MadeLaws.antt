@@ -15,7 +15,8 @@ use Rattle.p3_formula.proofs.NextLaws.{length-after}
 use Rattle.p3_endphase.specs.declared.phase.EndPhase.{EndPhase}
 use Rattle.p3_endphase.specs.declared.phase.SoftEnd.{SoftEnd}
 use Rattle.p3_endphase.specs.Ends.{IsSingleAt}
-use Rattle.p3_monitors.specs.Riders.{AreKept, AgreeBelow}
+use Rattle.p3_monitors.specs.Riders.{AreKept}
+use Rattle.p3_formula.specs.Alike.{AgreeBelow}
 use Rattle.p3_monitors.specs.declared.watching.Monitor.{Monitor}
 use Rattle.p3_simulation.proofs.Walks.{counted}
 use Rattle.p3_simulation.proofs.Machine.{Phases}

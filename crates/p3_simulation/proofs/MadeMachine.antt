@@ -22,7 +22,8 @@ use Rattle.p3_formula.proofs.NextLaws.{length-after}
 use Rattle.p3_endphase.specs.declared.phase.EndPhase.{EndPhase}
 use Rattle.p3_endphase.specs.declared.phase.SoftEnd.{SoftEnd}
 use Rattle.p3_endphase.specs.Ends.{IsSingleAt, Ends, violation, HasOneEnd}
-use Rattle.p3_monitors.specs.Riders.{AreRiders, AgreeBelow, IsRidden, after_all, AreBeside}
+use Rattle.p3_monitors.specs.Riders.{AreRiders, IsRidden, after_all, AreBeside}
+use Rattle.p3_formula.specs.Alike.{AgreeBelow}
 use Rattle.p3_monitors.specs.declared.watching.Monitor.{Monitor}
 use Rattle.p3_monitors.proofs.RiderLaws.{ride_together}
 use Rattle.p3_formula.proofs.WatchedLaws.{last-next}
@@ -32,7 +33,8 @@ use Rattle.p3_simulation.proofs.GroundWalks.{stepped, may_end, end_loss, step_lo
 use Rattle.p3_simulation.proofs.Simulation.{Ending}
 use Rattle.p3_simulation.proofs.Machine.{Asks, Returns, Further', Moves, Machine}
 use Rattle.p3_simulation.specs.Gadgets.{IsOpen, Turns, Back, On}
-use Rattle.p3_simulation.proofs.Made.{same_truth, agree_after, kept_still}
+use Rattle.p3_simulation.proofs.Made.{kept_still}
+use Rattle.p3_formula.proofs.NextLaws.{truth-below, after-agree}
 use Rattle.p3_simulation.proofs.GadgetLaws.{found_step, step_found, Owner, owner, Maker, maker}
 use Rattle.p3_simulation.proofs.MadeLaws.{IsMade, Running, IsAmid, IsClosing, phases, behind_go, in_all, in_phase, single_open, none_of_phase, some_of_step, last_on, closing_of_phase, closing_from}
 
@@ -109,7 +111,7 @@ module _ (G : GroundTask) (weights : Weights) (X : Target) (monitors : List Moni
       let found : step_of G number ≡ Some o.step = ap (step_of G) (sym same) ∙ found_step 0 G.steps is.rising o.step o.has_step in
       (λ i. fits_by state (found i))
       ∙ and_from (truth state o.step.pre) (is_some o.step.cost)
-      (sym (same_truth G.atoms bits state runs.agrees o.step.pre (is.preconditions o.step o.has_step)) ∙ o.made.gadget.open_fits bits runs.opens action o.own fits.holds) o.costs
+      (sym (truth-below G.atoms bits state runs.agrees o.step.pre (is.preconditions o.step o.has_step)) ∙ o.made.gadget.open_fits bits runs.opens action o.own fits.holds) o.costs
 
   turns_open : (current : ℕ) (actions : List TargetAction) (bits : State) (plan : List TargetAction) (later : State) → Turns go first size current actions bits plan later → IsOpen go first size later
   turns_open current actions bits plan later (Back _ opens) = opens
@@ -137,7 +139,7 @@ module _ (G : GroundTask) (weights : Weights) (X : Target) (monitors : List Moni
         below atom low = same atom low ∙ ap (λ effects. is_set (after bits (step.effects ++ effects)) atom) (sym (append-nil (flat_map (λ effects. effects) changes)))
 
         stepped_alike : AgreeBelow G.atoms (after bits step.effects) (after state step.effects)
-        stepped_alike = agree_after G.atoms bits state runs.agrees step.effects (is.conditions step member)
+        stepped_alike = after-agree G.atoms bits state runs.agrees step.effects (is.conditions step member)
             (let l = runs.opens.room in let r = is.room in let i = is.inside in let b = behind_go G weights X monitors go first last size all phase finish instances is in omega arith) (let r = runs.room in omega arith)
 
         ridden : IsRidden G.atoms monitors (front ++ state ∷ []) (after state step.effects) (after bits step.effects) (after_all bits step.effects changes [])
@@ -149,7 +151,7 @@ module _ (G : GroundTask) (weights : Weights) (X : Target) (monitors : List Moni
         let parts = and_parts (truth state step.pre) (is_some step.cost) fits in
         let at = step_found number G.steps step e in
         let m = maker_of step at.0 parts.1 in
-        let turn = m.made.gadget.turn bits runs.opens (same_truth G.atoms bits state runs.agrees step.pre (is.preconditions step at.0) ∙ parts.0) in
+        let turn = m.made.gadget.turn bits runs.opens (truth-below G.atoms bits state runs.agrees step.pre (is.preconditions step at.0) ∙ parts.0) in
         record {
           first = turn.begin;
           rest = turn.rest;
@@ -160,7 +162,7 @@ module _ (G : GroundTask) (weights : Weights) (X : Target) (monitors : List Moni
               (subst (λ o. Runs (front ++ state ∷ []) (state_by state o) turn.later) (sym e)
               (runs_on step at.0 m.made.changes m.made.riders turn.later (turns_open m.current m.actions (after bits turn.begin.effects) turn.rest turn.later turn.turns) turn.same));
           costs = turn.costs
-              ∙ ap (λ n. weights.total_cost * unwrap_or step.cost 0 + n) (same_violation weights.by_name bits state step.prefs (λ pref member. same_truth G.atoms bits state runs.agrees pref.body (is.bodies step at.0 pref member)))
+              ∙ ap (λ n. weights.total_cost * unwrap_or step.cost 0 + n) (same_violation weights.by_name bits state step.prefs (λ pref member. truth-below G.atoms bits state runs.agrees pref.body (is.bodies step at.0 pref member)))
               ∙ (λ i. step_loss G weights state (sym e i));
           count = turn.count ∙ (λ i. extra_by weights.by_name (sym e i));
         }

@@ -1,13 +1,12 @@
 -- What a target is made of, so that it is a compiled task.
-use Rattle.std.specs.Prelude.{◌≡◌, ℕ, ◌+◌, ◌≤◌, nat_lt, Bool, true, false, not, ◌&&◌, List, [], ◌∷◌, ◌++◌, length, sum_by, Option, None, Contains, IsTrue, if◌then◌else◌}
+use Rattle.std.specs.Prelude.{◌≡◌, ℕ, ◌+◌, ◌≤◌, Bool, true, false, not, ◌&&◌, List, [], ◌∷◌, ◌++◌, length, sum_by, Option, None, Contains, if◌then◌else◌}
 use Rattle.std.specs.List.{list_all}
-use Rattle.p3_formula.specs.Forms.{State, truth, has_atoms, IsBelow}
+use Rattle.p3_formula.specs.Forms.{State, truth, IsBelow}
 use Rattle.p3_formula.specs.Next.{after}
 use Rattle.p3_formula.specs.GroundSat.{ground_sat}
 use Rattle.p3_formula.specs.GroundPlans.{last_of}
 use Rattle.p3_formula.specs.Weighted.{named_weight}
 use Rattle.p3_formula.specs.Targets.{lifted_number}
-use Rattle.p3_formula.specs.declared.form.Change.{Change}
 use Rattle.p3_formula.specs.declared.form.Form.{Form}
 use Rattle.p3_formula.specs.declared.modal.GroundPref.{GroundPref}
 use Rattle.p3_formula.specs.declared.modal.GroundSoft.{GroundSoft}
@@ -21,7 +20,8 @@ use Rattle.p3_endphase.specs.declared.phase.SoftEnd.{SoftEnd}
 use Rattle.p3_endphase.specs.Ends.{IsEndPhase, IsSingleAt, Ends, violation, HasOneEnd}
 use Rattle.p3_formula.specs.Modals.{IsModalBelow}
 use Rattle.p3_formula.specs.Kept.{atom_count}
-use Rattle.p3_monitors.specs.Riders.{AreKept, AgreeBelow}
+use Rattle.p3_monitors.specs.Riders.{AreKept}
+use Rattle.p3_formula.specs.Alike.{AgreeBelow, AreConditionsBelow}
 use Rattle.p3_monitors.specs.declared.watching.Monitor.{Monitor}
 use Rattle.p3_simulation.specs.Gadgets.{IsOpen, AreGadgets, AreRising}
 
@@ -43,10 +43,6 @@ module _ (G : GroundTask) (weights : Weights) where
 
   abbrev pub end_loss : List State → ℕ
   end_loss W = sum_by (λ (soft : GroundSoft). weigh weights.by_name (is_bad W soft) soft.name) G.soft
-
--- each form of the changes is below the count
-abbrev pub AreConditionsBelow : ℕ → List Change → Type 0
-AreConditionsBelow count effects = IsTrue (list_all (λ (change : Change). has_atoms (λ atom. nat_lt atom count) change.cond) effects)
 
 -- the monitors' own atoms are below the number, and their constraints have source atoms alone
 abbrev pub AreBefore : ℕ → ℕ → List Monitor → Type 0

@@ -1,8 +1,7 @@
 -- The steps of a task by their numbers.
 use Rattle.std.specs.Prelude.{◌≡◌, ℕ, true, List, slice_get, Some}
-use Rattle.std.specs.List.{AllZip}
 use Rattle.p3_tree.specs.Bindings.{are_arguments}
-use Rattle.p3_tree.specs.Plans.{Plan, action_named}
+use Rattle.p3_tree.specs.Plans.{action_named}
 use Rattle.p3_tree.specs.Lifting.{steps}
 use Rattle.p3_tree.specs.declared.task.Action.{Action}
 use Rattle.p3_tree.specs.declared.task.Step.{Step}
@@ -10,10 +9,6 @@ use Rattle.p3_tree.specs.declared.task.Task.{Task}
 
 abbrev pub HasNumber : Task → Step → ℕ → Type 0
 HasNumber T step number = slice_get (steps T) number ≡ Some step
-
--- the steps of a plan and their numbers, one after the other
-abbrev pub AreNumbers : Task → Plan → List ℕ → Type 0
-AreNumbers T plan numbers = AllZip (HasNumber T) plan numbers
 
 -- the step's action exists, and its arguments are objects of the parameters' types
 pub record IsOwn (T : Task) (step : Step) : Type 0 where
