@@ -1,4 +1,3 @@
-pub mod AcceptedLemmas
 pub mod MeaningLemmas
 pub mod PutLemmas
 pub mod RunLemmas

@@ -23,15 +23,17 @@ use Rattle.p3_tree.specs.declared.task.Step.{Step}
 use Rattle.p3_tree.specs.declared.task.Task.{Task}
 use Rattle.p3_syntax.proofs.GrammarLemmas.{task_text}
 use Rattle.p3_cli.specs.Ending.{status_of}
-use Rattle.p3_cli.specs.Meaning.{HoldsTask, direction_name, task_report, IsCompiled, IsDone}
+use Rattle.p3_tree.specs.Reports.Tasks.{direction_name}
+use Rattle.p3_cli.specs.Meaning.{HoldsTask, task_report, IsCompiled, IsDone}
 use Rattle.p3_cli.specs.Product.{Produces}
-use Rattle.p3_cli.specs.Request.{Request, Compile, Input, Output, inputs, outputs, is_file_word, are_compile_words, request_of}
+use Rattle.p3_cli.specs.Request.{Request, Compile, inputs, outputs, are_compile_words, request_of}
+use Rattle.p3_tree.specs.Commands.{Input, Output, is_file_word}
 use Rattle.p3_cli.specs.Run.{FilesState, SinkState, Leaves, Tells, Answers}
 use Rattle.p3_cli.specs.Store.{Reading, Texts, TooLong, Absent, with_text, reading, reading_on, holding_all}
 use Rattle.p3_cli.specs.Translation.{IsTranslation, report_text}
 use Rattle.p3_cli.specs.declared.ending.Ending.{Ending}
 use Rattle.p3_cli.specs.declared.ending.Ending.TheVariants as ending
-use Rattle.p3_cli.proofs.AcceptedLemmas.{tiny_well_formed}
+use Rattle.p3_compile.proofs.TinyWellFormed.{tiny_well_formed}
 use Rattle.p3_cli.proofs.RunLemmas.{kept_status}
 use Rattle.p3_cli.proofs.SpelledLemmas.{spelled_task}
 

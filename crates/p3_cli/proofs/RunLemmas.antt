@@ -11,7 +11,8 @@ use Rattle.std.specs.FinMap.{get, get-insert, slice_cmp-IsAntisymmetric, nat_cmp
 use Rattle.p3_base.specs.Outside.{Store, Rose, bytes_under, holding, IsPartlyWritten}
 use Rattle.p3_base.specs.declared.refusal.Role.{Role}
 use Rattle.p3_cli.specs.Ending.{status_of}
-use Rattle.p3_cli.specs.Request.{Request, Output, outputs}
+use Rattle.p3_cli.specs.Request.{Request, outputs}
+use Rattle.p3_tree.specs.Commands.{Output}
 use Rattle.p3_cli.specs.Run.{FilesState, SinkState, IsAccepted, IsProduct, refusal_in, shown_by, Comes, Leaves, Tells, Answers, IsRefusedIn, IsAcceptedIn, SameUnder, OthersStay}
 use Rattle.p3_cli.specs.Store.{holding_all, IsWrittenUpTo}
 use Rattle.p3_cli.specs.declared.ending.Ending.{Ending}

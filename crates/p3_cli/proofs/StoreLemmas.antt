@@ -6,7 +6,7 @@ use Rattle.p3_base.specs.Outside.{Store, bytes_under, holding, Rose}
 use Rattle.p3_base.specs.declared.refusal.Role.{Role}
 use Rattle.p3_cli.specs.Asked.{asked_inputs, asked_written, asked_writings}
 use Rattle.p3_cli.specs.Outcome.{ReadsAll, ReadFails}
-use Rattle.p3_cli.specs.Request.{Input, Output}
+use Rattle.p3_tree.specs.Commands.{Input, Output}
 use Rattle.p3_cli.specs.Store.{Reading, Texts, TooLong, with_text, reading, reading_on, holding_all}
 use Rattle.p3_cli.specs.declared.ending.Ending.{Ending}
 use Rattle.p3_cli.specs.declared.ending.Ending.TheVariants as ending

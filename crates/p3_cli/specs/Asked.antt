@@ -1,6 +1,7 @@
 -- The code's requests, as the words that they name.
 use Rattle.std.specs.Prelude.{ℕ, List, map}
 use Rattle.p3_cli.specs.Request as spec
+use Rattle.p3_tree.specs.Commands as commands
 use Rattle.p3_cli.specs.declared.request.Request.{Request}
 use Rattle.p3_cli.specs.declared.request.Request.TheVariants.{Compile}
 use Rattle.p3_cli.specs.declared.request.Input.{Input}
@@ -10,14 +11,14 @@ abbrev pub asked_request : Request → spec.Request
 asked_request (Compile domain problem written_domain written_problem) =
     spec.Compile domain.now problem.now written_domain.now written_problem.now
 
-abbrev pub asked_input : Input → spec.Input
+abbrev pub asked_input : Input → commands.Input
 asked_input input = record { role = input.role; name = input.name.now; limit = input.limit }
 
-abbrev pub asked_inputs : List Input → List spec.Input
+abbrev pub asked_inputs : List Input → List commands.Input
 asked_inputs = map asked_input
 
-abbrev pub asked_written : Written → spec.Output × List ℕ
+abbrev pub asked_written : Written → commands.Output × List ℕ
 asked_written written = (record { role = written.role; name = written.name.now }, written.text.items)
 
-abbrev pub asked_writings : List Written → List (spec.Output × List ℕ)
+abbrev pub asked_writings : List Written → List (commands.Output × List ℕ)
 asked_writings = map asked_written

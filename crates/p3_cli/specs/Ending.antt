@@ -1,6 +1,7 @@
 -- How a run ends: its status, and the lines that it puts.
-use Rattle.std.specs.Prelude.{ℕ, List, ◌++◌, codes}
-use Rattle.p3_cli.specs.Role.{role_name, line}
+use Rattle.std.specs.Prelude.{ℕ, List, codes}
+use Rattle.p3_tree.specs.Reports.Lines.{line, read_fault_line, write_fault_line, want_of_memory_line}
+use Rattle.p3_tree.specs.Reports.Refusals.{too_long_line}
 use Rattle.p3_cli.specs.declared.ending.Ending.{Ending}
 use Rattle.p3_cli.specs.declared.ending.Ending.TheVariants.{Done, Refused, TooLong, ReadFailed, WriteFailed, OutOfMemory, Usage}
 
@@ -18,8 +19,8 @@ status_of Usage = 64
 abbrev pub lines_of : Ending → List ℕ
 lines_of (Done report) = report
 lines_of (Refused text) = text
-lines_of (TooLong role) = codes "refused 21 file too long: " ++ line (role_name role)
-lines_of (ReadFailed role) = codes "read fault: " ++ line (role_name role)
-lines_of (WriteFailed role) = codes "write fault: " ++ line (role_name role)
-lines_of OutOfMemory = line (codes "want of memory")
+lines_of (TooLong role) = too_long_line role
+lines_of (ReadFailed role) = read_fault_line role
+lines_of (WriteFailed role) = write_fault_line role
+lines_of OutOfMemory = want_of_memory_line
 lines_of Usage = line (codes "usage: pddl3c compile D P OD OP")

@@ -4,9 +4,7 @@ pub mod Layout
 pub mod Meaning
 pub mod Outcome
 pub mod Product
-pub mod Refusal
 pub mod Request
-pub mod Role
 pub mod Run
 pub mod Store
 pub mod Translation

@@ -2,13 +2,12 @@
 use Rattle.std.specs.Prelude.{◌≡◌, ℕ, List, ◌++◌, codes, Option, Some, None, IsSomeAnd}
 use Rattle.std.specs.Fmt.{decimal, signed_decimal}
 use Rattle.p3_base.specs.Outside.{Store, bytes_under, with_put}
-use Rattle.p3_base.specs.declared.refusal.Direction.{Direction}
-use Rattle.p3_base.specs.declared.refusal.Direction.TheVariants.{Minimize, Maximize}
 use Rattle.p3_tree.specs.Grammar.Texts.{Reads}
 use Rattle.p3_tree.specs.Faithful.{Faithful}
 use Rattle.p3_tree.specs.Limits.{step_count, instance_count}
 use Rattle.p3_tree.specs.Metrics.{base_loss, direction}
 use Rattle.p3_tree.specs.Offences.{WellFormed}
+use Rattle.p3_tree.specs.Reports.Tasks.{direction_name}
 use Rattle.p3_compile.specs.Tiny.{IsTinyTask}
 use Rattle.p3_tree.specs.declared.task.Task.{Task}
 use Rattle.p3_cli.specs.Request.{Request, Compile}
@@ -16,10 +15,6 @@ use Rattle.p3_cli.specs.Request.{Request, Compile}
 -- the bytes under the two names are texts of the halves of the task
 abbrev pub HoldsTask : Store → List ℕ → List ℕ → Task → Type 0
 HoldsTask store domain problem task = IsSomeAnd (bytes_under store domain) (λ d. IsSomeAnd (bytes_under store problem) (λ p. Reads d p task))
-
-abbrev pub direction_name : Direction → List ℕ
-direction_name Minimize = codes "minimize"
-direction_name Maximize = codes "maximize"
 
 -- the number of steps, that of preference instances, the loss of no violation, and the direction
 abbrev pub task_report : Task → List ℕ

@@ -1,7 +1,7 @@
 -- What comes of reading all inputs and of writing all outputs.
 use Rattle.std.specs.Prelude.{ℕ, ◌≡◌, List, Option, IfSome, Contains, map}
 use Rattle.p3_base.specs.Outside.{Store, Rose}
-use Rattle.p3_cli.specs.Request.{Input, Output}
+use Rattle.p3_tree.specs.Commands.{Input, Output}
 use Rattle.p3_cli.specs.Store.{reading, Texts, TooLong, AreFirstWritten, IsWrittenUpTo}
 use Rattle.p3_cli.specs.declared.ending.Ending.{Ending}
 use Rattle.p3_cli.specs.declared.ending.Ending.TheVariants as ending

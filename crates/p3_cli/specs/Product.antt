@@ -1,6 +1,7 @@
 -- What a command makes of the texts that it read.
 use Rattle.std.specs.Prelude.{ℕ, ◌≡◌, List, [], ◌∷◌, Option, Some, None}
-use Rattle.p3_cli.specs.Request.{Request, Output, Compile}
+use Rattle.p3_cli.specs.Request.{Request, Compile}
+use Rattle.p3_tree.specs.Commands.{Output}
 use Rattle.p3_cli.specs.Translation.{refused_texts, IsTranslation}
 use Rattle.p3_cli.specs.declared.ending.Ending.{Ending}
 use Rattle.p3_cli.specs.declared.ending.Ending.TheVariants.{Done, Refused, TooLong, ReadFailed, WriteFailed, OutOfMemory, Usage}

@@ -5,7 +5,8 @@ use Rattle.std.specs.List.{AllByRecursion}
 use Rattle.p3_base.specs.Outside.{Store, Rose, IsPartlyPut, bytes_under, with_put}
 use Rattle.p3_cli.specs.Ending.{status_of, lines_of}
 use Rattle.p3_cli.specs.Product.{refused, Produces}
-use Rattle.p3_cli.specs.Request.{Request, Output, inputs, outputs}
+use Rattle.p3_cli.specs.Request.{Request, inputs, outputs}
+use Rattle.p3_tree.specs.Commands.{Output}
 use Rattle.p3_cli.specs.Store.{Reading, Texts, TooLong, Absent, reading, AreStored, holding_all, AreFirstWritten, IsWrittenUpTo}
 use Rattle.p3_cli.specs.declared.ending.Ending.{Ending}
 use Rattle.p3_cli.specs.declared.ending.Ending.TheVariants as ending

@@ -11,7 +11,7 @@ use Rattle.p3_tree.specs.declared.task.Task.{Task}
 use Rattle.p3_syntax.specs.Texts.{domain_of_text, problem_of_text, malformed}
 use Rattle.p3_compile.specs.Written.{written_of}
 use Rattle.p3_cli.specs.Layout.{domain_layout, problem_layout}
-use Rattle.p3_cli.specs.Refusal.{refusal_line}
+use Rattle.p3_tree.specs.Reports.Refusals.{refusal_line}
 use Rattle.p3_cli.specs.WrittenText.{HasFaithfulText}
 use Rattle.p3_cli.specs.declared.ending.Ending.{Ending}
 use Rattle.p3_cli.specs.declared.ending.Ending.TheVariants.{Refused}

@@ -2,7 +2,7 @@
 
 ghost use Rattle.std.specs.Prelude.{◌≡◌, ◌++◌, ◌≤◌, OnOk, OnErr};
 ghost use Rattle.p3_base.specs.Outside.{IsPartlyPut, Rose, with_put};
-ghost use Rattle.p3_cli.specs.Role.{line, role_name};
+ghost use Rattle.p3_tree.specs.Reports.Lines.{line, role_name};
 
 use p3_base::{List, NoMemory, Role, Sink, SinkFailed};
 

@@ -1,8 +1,16 @@
 //! The line that says why and where an input is refused.
 
-ghost use Rattle.std.specs.Prelude.{◌≡◌, ◌++◌, ◌≤◌, length, take, IfOk, OnOk, string_bytes};
-ghost use Rattle.p3_cli.specs.Refusal.{code_text, refusal_head, refusal_line, shown_word};
-ghost use Rattle.p3_cli.specs.Role.{role_name};
+ghost use Rattle.std.specs.Prelude.{◌≡◌, ◌++◌, ◌<◌, ◌≤◌, false, length, take, IfOk, OnOk, string_bytes};
+ghost use Rattle.std.specs.Fmt.{digit_glyph};
+ghost use Rattle.p3_tree.specs.Reports.Lines.{role_name};
+ghost use Rattle.p3_tree.specs.Reports.Refusals.{
+  code_text,
+  refusal_head,
+  refusal_line,
+  shown_at_fault,
+  shown_byte,
+  shown_word,
+};
 
 use p3_base::{Code, NoMemory, Refusal, Role, line_column};
 use std::alloc::{AllocError, Global};
@@ -25,7 +33,7 @@ pub(crate) fn line_of_refusal(
     let file = role_word(refusal.pos.role);
     let start = head(alloc, why, file, line, column)?;
     let mut out = Vec::from_slice(alloc, start.as_bytes())?;
-    push_word(alloc, &mut out, text, refusal)?;
+    push_at_fault(alloc, &mut out, text, refusal)?;
     out.push(b'\n')?;
     Ok(out)
 }
@@ -35,6 +43,54 @@ fn head(alloc: Global, why: &str, file: &str, row: u32, column: u32) -> Result<S
     ensures { IfOk result (λ head. string_bytes head ≡ refusal_head why.now file.now row column) }
 {
     format!(in alloc; "refused {why}: {file} {row}:{column} ")
+}
+
+/// Puts the word or byte at fault at the end.
+fn push_at_fault(
+    alloc: Global,
+    out: &mut Vec<u8>,
+    text: &[u8],
+    refusal: &Refusal,
+) -> Result<(), NoMemory>
+    requires { refusal.now.pos.offset ≤ length text.now }
+    ensures { OnOk result (out.new.items ≡ out.old.items ++ shown_at_fault refusal.now.code text.now refusal.now) }
+{
+    match refusal.code {
+        Code::BadByte => {
+            let byte = text.get(refusal.pos.offset as usize).copied().unwrap_or(0);
+            push_byte(out, byte)
+        }
+        _ => push_word(alloc, out, text, refusal),
+    }
+}
+
+/// Puts a foreign byte at the end, by two hexadecimal digits.
+fn push_byte(out: &mut Vec<u8>, byte: u8) -> Result<(), NoMemory>
+    ensures { OnOk result (out.new.items ≡ out.old.items ++ shown_byte byte) }
+{
+    let shown = [
+        b'b',
+        b'y',
+        b't',
+        b'e',
+        b' ',
+        digit(byte / 16),
+        digit(byte % 16),
+    ];
+    out.extend_from_slice(&shown)?;
+    Ok(())
+}
+
+/// A hexadecimal digit.
+fn digit(number: u8) -> u8
+    requires { number < 16 }
+    ensures { result ≡ digit_glyph false number }
+{
+    if number < 10 {
+        b'0' + number
+    } else {
+        b'a' + (number - 10)
+    }
 }
 
 /// Puts the word at fault at the end.

@@ -2,7 +2,10 @@
 
 ghost use Rattle.std.specs.Prelude.{◌≡◌, IfOk};
 ghost use Rattle.std.specs.Option.{option_map};
-ghost use Rattle.p3_cli.specs.Request.{request_of, is_file_word, inputs, source_limit};
+ghost use Rattle.p3_cli.specs.Request.{request_of, inputs};
+ghost use Rattle.p3_tree.specs.Commands.{is_file_word};
+ghost use Rattle.p3_base.specs.declared.refusal.Side.TheVariants.{Source};
+ghost use Rattle.p3_tree.specs.Sides.{byte_limit};
 ghost use Rattle.p3_cli.specs.Asked.{asked_request, asked_input, asked_inputs};
 
 use p3_base::{NoMemory, Role, Word};
@@ -99,7 +102,7 @@ impl<'a> Request<'a> {
 
 /// A file of the task read.
 fn source(role: Role, name: &Word) -> Input<'_>
-    ensures { asked_input result ≡ record { role = role; name = name.now; limit = source_limit } }
+    ensures { asked_input result ≡ record { role = role; name = name.now; limit = byte_limit Source } }
 {
     Input {
         role,

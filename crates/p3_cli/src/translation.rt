@@ -4,7 +4,7 @@ ghost use Rattle.std.specs.Prelude.{◌≡◌, ◌≤◌, length, IfOk, IfErr, O
 ghost use Rattle.p3_compile.specs.Tiny.{IsTinyTask};
 ghost use Rattle.p3_syntax.specs.Texts.{domain_of_text, problem_of_text, malformed};
 ghost use Rattle.p3_cli.specs.Product.{IsRefusedBy};
-ghost use Rattle.p3_cli.specs.Refusal.{refusal_line};
+ghost use Rattle.p3_tree.specs.Reports.Refusals.{refusal_line};
 ghost use Rattle.p3_cli.specs.Translation.{IsSpelled, IsTranslation, IsWritten, refused_texts, refused_domain, refused_problem, report_text};
 ghost use Rattle.p3_cli.specs.declared.ending.Ending.TheVariants as ending;
 

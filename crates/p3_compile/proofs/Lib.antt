@@ -11,4 +11,5 @@ pub mod TinyLemmas
 pub mod TinyMeaning
 pub mod TinyParts
 pub mod TinyReading
+pub mod TinyWellFormed
 pub mod WellFormed

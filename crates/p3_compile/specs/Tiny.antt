@@ -145,7 +145,7 @@ summand_in (Num-F.Violated name) = Some (record { name = name; weight = 1 })
 summand_in (Num-F.Product at parts) = summand_of_parts parts
 summand_in _ = None
 
--- `(is-violated g)` or `(* n (is-violated g))`, with n of at most 15 digits
+-- `(is-violated g)` or `(* n (is-violated g))`, with n of at most 15 digits and without a point
 unfoldable pub summand_of : Num → Option Summand
 summand_of num = summand_in (out-Num num)
 
