@@ -1,11 +1,14 @@
 -- Equations of the definitions on forms, one for each kind of form.
-use Rattle.std.proofs.Common.{◌≡◌, ◌∙◌, ℕ, ◌+◌, ◌<◌, nat_lt, Bool, true, false, not, ◌||◌, List, [], ◌∷◌, map, sum, sum_by, refl, sym, ap, arith}
+use Rattle.std.proofs.Common.{◌≡◌, ◌∙◌, ℕ, ◌+◌, ◌<◌, nat_lt, Bool, true, false, not, ◌&&◌, ◌||◌, List, [], ◌∷◌, map, sum, sum_by, refl, sym, ap, arith}
 use Rattle.std.proofs.lemmas.Bool.Decides.{nat_tests}
 use Rattle.std.proofs.lemmas.List.Folds.{list_all-map}
-use Rattle.std.proofs.lemmas.List.Sums.{sum-map}
+use Rattle.std.proofs.Math.Bool.{and-true}
+use Rattle.std.proofs.lemmas.Bool.{and_from}
+use Rattle.std.proofs.lemmas.List.Sums.{sum-map, sum_by-cons}
 use Rattle.std.specs.List.{list_any, list_all}
 use mathlib.Core.Former.{Count}
 use denote.Hole.Carrier.{hidden}
+use Rattle.p3_formula.specs.Constructors.{both}
 use Rattle.p3_formula.specs.Folds.{fold_form, fold_forms}
 use Rattle.p3_formula.specs.Forms.{State, is_set, truth, truth_layer, has_atoms, within_layer, nodes, nodes_layer, IsBelow, AreBelow}
 use Rattle.p3_formula.specs.declared.form.Form.{Form, Form-F, Row_of-Form, end_of-Form, more_of-Form, items-the_row-Form, items_hidden-the_row-Form-1}
@@ -103,6 +106,21 @@ pub ruleset truth_laws = (truth-True, truth-False, truth-Atom, truth-Not, truth-
 pub ruleset atom_laws = (has_atoms-True, has_atoms-False, has_atoms-Atom, has_atoms-Not, has_atoms-And, has_atoms-Or)
 
 pub ruleset node_laws = (nodes-True, nodes-False, nodes-Atom, nodes-Not, nodes-And, nodes-Or)
+
+-- ---- both forms
+
+pub truth-both : (state : State) (first second : Form) → truth state (both first second) ≡ (truth state first && truth state second)
+truth-both state first second = truth-And state (first ∷ second ∷ []) ∙ ap (λ b. truth state first && b) (and-true (truth state second))
+
+pub has_atoms-both : (allowed : ℕ → Bool) (first second : Form) → has_atoms allowed first ≡ true → has_atoms allowed second ≡ true → has_atoms allowed (both first second) ≡ true
+has_atoms-both allowed first second f s = has_atoms-And allowed (first ∷ second ∷ []) ∙ and_from (has_atoms allowed first) _ f (and_from (has_atoms allowed second) true s refl)
+
+pub nodes-both : (first second : Form) → nodes (both first second) ≡ 1 + (nodes first + nodes second)
+nodes-both first second =
+    let h = nodes-And (first ∷ second ∷ []) in
+    let p = sum_by-cons nodes first (second ∷ []) in
+    let q = sum_by-cons nodes second [] in
+    omega arith
 
 -- what the atoms of a form are below, those of its parts are below
 module _ (count : ℕ) (form : Form) where

@@ -13,3 +13,4 @@ pub mod KeptLaws
 pub mod WorkedOperators
 pub mod NodeLemmas
 pub mod StepLaws
+pub mod WorkedLed

@@ -18,11 +18,12 @@ use Rattle.p3_formula.specs.declared.form.Form.TheBlock.{hidden-the_row-Form-0, 
 use Rattle.p3_formula.specs.declared.form.Form.TheVariants.{True, Atom, Not, And}
 use Rattle.p3_formula.specs.declared.modal.GroundModal.TheVariants.{AtEnd}
 use Rattle.p3_formula.specs.declared.target.Target.{Target}
+use Rattle.p3_formula.specs.declared.target.TargetAction.{TargetAction}
 use Rattle.p3_formula.specs.declared.target.Weights.{Weights}
 use Rattle.p3_formula.specs.declared.task.GroundTask.{GroundTask}
 
 -- the only atom is numbered 0
-abbrev task : GroundTask
+abbrev pub task : GroundTask
 task = record {
   atoms = 1;
   initial = false ∷ [];
@@ -35,24 +36,32 @@ task = record {
   names = 1;
 }
 
-abbrev weights : Weights
+abbrev pub weights : Weights
 weights = record { total_cost = 0; by_name = 5 ∷ []; base = pos 0; direction = Minimize }
 
--- the source atom, the running atom, and the two chain atoms
-abbrev target : Target
+-- its actions, over the source atom, the running atom, and the two chain atoms
+abbrev pub step : TargetAction
+step = record { name = codes "s0v"; pre = Atom 1; effects = sets 0 ∷ []; cost = 0 }
+
+abbrev pub finish : TargetAction
+finish = record { name = codes "finish"; pre = Atom 1; effects = clears 1 ∷ sets 2 ∷ []; cost = 0 }
+
+abbrev pub collect : TargetAction
+collect = record { name = codes "collect0"; pre = And (Atom 2 ∷ Atom 0 ∷ []); effects = clears 2 ∷ sets 3 ∷ []; cost = 0 }
+
+abbrev pub forgo : TargetAction
+forgo = record { name = codes "forgo0"; pre = And (Atom 2 ∷ Not (Atom 0) ∷ []); effects = clears 2 ∷ sets 3 ∷ []; cost = 5 }
+
+abbrev pub target : Target
 target = record {
   predicates = codes "f0" ∷ codes "go" ∷ codes "e0" ∷ codes "e1" ∷ [];
   initial = false ∷ true ∷ false ∷ false ∷ [];
-  actions =
-      record { name = codes "s0v"; pre = Atom 1; effects = sets 0 ∷ []; cost = 0 }
-      ∷ record { name = codes "finish"; pre = Atom 1; effects = clears 1 ∷ sets 2 ∷ []; cost = 0 }
-      ∷ record { name = codes "collect0"; pre = And (Atom 2 ∷ Atom 0 ∷ []); effects = clears 2 ∷ sets 3 ∷ []; cost = 0 }
-      ∷ record { name = codes "forgo0"; pre = And (Atom 2 ∷ Not (Atom 0) ∷ []); effects = clears 2 ∷ sets 3 ∷ []; cost = 5 } ∷ [];
+  actions = step ∷ finish ∷ collect ∷ forgo ∷ [];
   goal = Atom 3;
 }
 
 -- the definitions, to be unfolded together
-unfoldable computes : Unit {0}
+unfoldable pub computes : Unit {0}
 unfolding hidden hidden-the_row-Form-0 hidden-the_row-Form-1 shape-the_row-Form-0 shape-the_row-Form-1 digits truth has_atoms after ground_sat visited_from is_ground_valid ground_violated ground_cost ground_loss reaches_goal target_cost ground_lift
 computes = tt
 

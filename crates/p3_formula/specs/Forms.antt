@@ -1,5 +1,5 @@
 -- Truth of a form in a state, the atoms that it reads, and its size.
-use Rattle.std.specs.Prelude.{◌≡◌, ℕ, ◌+◌, nat_lt, Bool, true, false, not, List, slice_index_or, sum, IsTrue}
+use Rattle.std.specs.Prelude.{◌≡◌, ℕ, ◌+◌, ◌==◌, nat_lt, Bool, true, false, not, List, slice_index_or, sum, IsTrue}
 use Rattle.std.specs.List.{list_any, list_all}
 use Rattle.p3_formula.specs.Folds.{fold_form}
 use Rattle.p3_formula.specs.declared.form.Form.{Form}
@@ -44,6 +44,10 @@ within_layer allowed (Or parts) = list_all (λ part. part) parts
 -- each atom of the form is one of those
 unfoldable pub has_atoms : (ℕ → Bool) → Form → Bool
 has_atoms allowed form = fold_form (within_layer allowed) form
+
+-- another atom than this
+abbrev pub is_other : ℕ → ℕ → Bool
+is_other atom one = not (one == atom)
 
 -- each atom of the form is below the count
 abbrev pub is_below : ℕ → Form → Bool

@@ -1,7 +1,8 @@
 -- The forms of a trajectory constraint, and the atoms that stand in them.
-use Rattle.std.specs.Prelude.{◌≡◌, ℕ, ◌==◌, nat_lt, Bool, true, not, List, [], ◌∷◌, sum_by, IsTrue}
-use Rattle.std.specs.List.{list_all}
-use Rattle.p3_formula.specs.Forms.{State, is_set, has_atoms, nodes}
+use Rattle.std.specs.Prelude.{◌≡◌, ℕ, nat_lt, Bool, true, not, List, [], ◌∷◌, sum_by, IsTrue}
+use Rattle.std.specs.List.{list_any, list_all}
+use Rattle.p3_formula.specs.Forms.{State, is_set, has_atoms, is_other, nodes}
+use Rattle.p3_formula.specs.declared.form.Change.{Change}
 use Rattle.p3_formula.specs.declared.form.Form.{Form}
 use Rattle.p3_formula.specs.declared.modal.GroundModal.{GroundModal}
 use Rattle.p3_formula.specs.declared.modal.GroundModal.TheVariants.{AtEnd, Always, Sometime, AtMostOnce, SometimeAfter, SometimeBefore}
@@ -27,7 +28,11 @@ IsModalBelow count modal = IsTrue (is_modal_below count modal)
 
 -- the atom stands in one of its forms
 abbrev pub is_read : GroundModal → ℕ → Bool
-is_read modal atom = not (modal_has (λ other. not (other == atom)) modal)
+is_read modal atom = not (modal_has (is_other atom) modal)
+
+-- some change names an atom that stands there
+abbrev pub touches : GroundModal → List Change → Bool
+touches modal step = list_any (λ (change : Change). is_read modal change.atom) step
 
 -- the states agree on the atoms of the constraint
 abbrev pub Agree : GroundModal → State → State → Type 0

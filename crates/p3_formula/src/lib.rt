@@ -2,6 +2,7 @@
 //! tasks and targets that are made of them.
 #![tactic(auto)]
 
+mod atoms;
 mod bits;
 #[cfg(test)]
 mod cases;
@@ -18,6 +19,7 @@ mod table;
 mod target;
 mod task;
 
+pub use atoms::is_free_of;
 pub use bits::Bits;
 pub use copy::{change_copied, copied, effects_copied};
 pub use evaluation::eval;

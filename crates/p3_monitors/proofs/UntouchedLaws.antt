@@ -1,9 +1,9 @@
 -- A step that changes no atom of a constraint keeps its monitor on without changes of the monitor's atoms.
 use Rattle.std.proofs.Common.{◌≡◌, ◌∙◌, ℕ, ◌+◌, ◌<◌, ◌≤◌, Bool, true, false, not, ◌&&◌, ◌||◌, List, [], ◌∷◌, ◌++◌, length, refl, sym, ap, subst, arith}
 use Rattle.std.specs.Prelude.{◌==◌}
-use Rattle.std.specs.List.{list_any}
+use Rattle.std.specs.List.{list_any, list_all}
 use Rattle.std.proofs.Math.Bool.{and-true}
-use Rattle.std.proofs.lemmas.Bool.{and_parts}
+use Rattle.std.proofs.lemmas.Bool.{and_parts, true≢false}
 use Rattle.p3_formula.specs.Forms.{State, is_set, truth, has_atoms}
 use Rattle.p3_base.specs.Trajectories.{each, some, came_back, is_awaited, came_early}
 use Rattle.p3_formula.specs.GroundSat.{holds_at}
@@ -17,6 +17,7 @@ use Rattle.p3_regress.specs.Regressed.{IsTrueBefore}
 use Rattle.p3_formula.specs.Kept.{watched, AreAt, is_own}
 use Rattle.p3_formula.specs.Modals.{is_read, IsModalBelow}
 use Rattle.p3_monitors.specs.KeepsOn.{HasNone, KeepsOn}
+use Rattle.p3_monitors.specs.Riders.{RidesUntouched}
 use Rattle.p3_formula.proofs.ReadAtoms.{reads, has_more}
 use Rattle.p3_formula.proofs.WatchedLaws.{length-watched, last-next, each-next, some-next, came-next, awaited-next, early-next}
 use Rattle.p3_monitors.proofs.ChangeLaws.{Stage, reached, own_after, truth_now, truth_later, keeps_on, none_named}
@@ -134,5 +135,21 @@ module _ (base : ℕ) (modal : GroundModal) (step : List Change) (none : HasNone
       (moved_bits (watched stage.W modal) base stage.state (reached stage)
       (λ atom from lt. own_after stage atom from (let l = length-watched stage.W modal in omega (arith, lt)) ∙ and-true (is_set stage.state atom)) stage.kept.carries.stand)
 
-pub untouched_keeps_on : (base : ℕ) (modal : GroundModal) (step : List Change) → IsModalBelow base modal → HasNone (is_read modal) step → HasNone (is_own base modal) step → KeepsOn base modal step []
+untouched_keeps_on : (base : ℕ) (modal : GroundModal) (step : List Change) → IsModalBelow base modal → HasNone (is_read modal) step → HasNone (is_own base modal) step → KeepsOn base modal step []
 untouched_keeps_on base modal step below none free = keeps_on base modal step [] below refl (λ stage. bits base modal step none stage) free
+
+-- where no item passes, each fails
+none_pass : {A : Type 0} (test : A → Bool) (xs : List A) → list_any test xs ≡ false → list_all (λ x. not (test x)) xs ≡ true
+none_pass test [] none = refl
+none_pass test (x ∷ xs) none = by (test x) refl (none_pass test xs) where
+  by : (b : Bool) → test x ≡ b → (list_any test xs ≡ false → list_all (λ y. not (test y)) xs ≡ true) → (not (test x) && list_all (λ y. not (test y)) xs) ≡ true
+  by true e rest = absurd (true≢false (sym (ap (λ b. b || list_any test xs) e) ∙ none))
+  by false e rest = ap (λ b. not b && list_all (λ y. not (test y)) xs) e ∙ rest (sym (ap (λ b. b || list_any test xs) e) ∙ none)
+
+pub rides_untouched : RidesUntouched
+rides_untouched sources from step monitor sourced behind untouched free = record {
+  below = sourced;
+  behind = behind;
+  own = refl;
+  keeps = untouched_keeps_on monitor.base monitor.modal step monitor.below (none_pass (λ (change : Change). is_read monitor.modal change.atom) step untouched) free;
+}

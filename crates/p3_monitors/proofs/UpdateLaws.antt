@@ -6,39 +6,27 @@ use Rattle.std.proofs.lemmas.Bool.{and_parts, and_from}
 use Rattle.std.proofs.lemmas.Bool.Decides.{nat_tests}
 use Rattle.std.proofs.lemmas.List.Sums.{sum_by-cons}
 use Rattle.std.proofs.lemmas.Result.{IfOk-weaker}
-use Rattle.std.proofs.Math.Bool.{and-true, or-false, not-not}
+use Rattle.std.proofs.Math.Bool.{or-false, not-not}
 use Rattle.p3_formula.specs.Forms.{State, is_set, truth, has_atoms, nodes}
 use Rattle.p3_base.specs.Trajectories.{each, came_back, is_awaited, came_early}
 use Rattle.p3_formula.specs.GroundSat.{holds_at}
+use Rattle.p3_formula.specs.Constructors.{both}
 use Rattle.p3_formula.specs.Next.{is_set_after}
 use Rattle.p3_formula.specs.declared.form.Change.{Change}
 use Rattle.p3_formula.specs.declared.form.Form.{Form}
 use Rattle.p3_formula.specs.declared.form.Form.TheVariants.{Atom, Not}
 use Rattle.p3_formula.specs.declared.modal.GroundModal.{GroundModal}
 use Rattle.p3_formula.specs.declared.modal.GroundModal.TheVariants as modal
-use Rattle.p3_formula.proofs.FormLemmas.{truth-Atom, truth-Not, truth-And, has_atoms-Atom, has_atoms-Not, has_atoms-And, nodes-Atom, nodes-Not, nodes-And}
+use Rattle.p3_formula.proofs.FormLemmas.{truth-Atom, truth-Not, truth-both, has_atoms-Atom, has_atoms-Not, has_atoms-both, nodes-Atom, nodes-Not, nodes-both}
 use Rattle.p3_formula.proofs.NextLaws.{is_set_after-front, is_set_after-back}
-use Rattle.p3_regress.specs.Regressed.{IsTrueBefore, HasAtomsOfBoth, growth}
+use Rattle.p3_regress.specs.Regressed.{growth}
 use Rattle.p3_formula.specs.Kept.{is_own}
 use Rattle.p3_formula.specs.Modals.{forms_of, is_read, IsModalBelow}
 use Rattle.p3_monitors.specs.KeepsOn.{AreOwn, condition_nodes}
-use Rattle.p3_monitors.specs.Updates.{IsUpdate, change, both, always, sometime, at_most_once, sometime_after, sometime_before}
+use Rattle.p3_monitors.specs.Updates.{IsRegressed, IsUpdate, change, always, sometime, at_most_once, sometime_after, sometime_before}
 use Rattle.p3_formula.proofs.ReadAtoms.{same_number, reads}
 use Rattle.p3_formula.proofs.WatchedLaws.{each-next, some-next, came-next, awaited-next, early-next}
 use Rattle.p3_monitors.proofs.ChangeLaws.{own_from, own_after, truth_now, truth_later, keeps_on, set_by, cleared_by}
-
-truth-both : (state : State) (first second : Form) → truth state (both first second) ≡ (truth state first && truth state second)
-truth-both state first second = truth-And state (first ∷ second ∷ []) ∙ ap (λ b. truth state first && b) (and-true (truth state second))
-
-atoms-both : (allowed : ℕ → Bool) (first second : Form) → has_atoms allowed first ≡ true → has_atoms allowed second ≡ true → has_atoms allowed (both first second) ≡ true
-atoms-both allowed first second f s = has_atoms-And allowed (first ∷ second ∷ []) ∙ and_from (has_atoms allowed first) _ f (and_from (has_atoms allowed second) true s refl)
-
-nodes-both : (first second : Form) → nodes (both first second) ≡ 1 + (nodes first + nodes second)
-nodes-both first second =
-    let h = nodes-And (first ∷ second ∷ []) in
-    let p = sum_by-cons nodes first (second ∷ []) in
-    let q = sum_by-cons nodes second [] in
-    omega arith
 
 module _ {A : Type 0} (size : A → ℕ) where
   one_sum : (one : A) → sum_by size (one ∷ []) ≡ size one
@@ -115,7 +103,7 @@ module _ (base : ℕ) (step : List Change) where
     size = omega arith;
   }
 
-  module _ (f : Form) (later : Form) (regressed : IsTrueBefore step f later) (of_both : HasAtomsOfBoth step f later) (small : nodes later ≤ nodes f + growth step f) where
+  module _ (f later : Form) (made : IsRegressed step f later) where
     -- a constraint of one form
     module _ (operator : GroundModal) (one : forms_of operator ≡ f ∷ []) where
       reads_it : has_atoms (is_read operator) f ≡ true
@@ -127,14 +115,14 @@ module _ (base : ℕ) (step : List Change) where
         own_after stage base (at_base base) (in_one base)
             ∙ cleared_by stage.state base (Not later)
             ∙ (λ i. stage.kept.carries.stand.0 i && not (truth-Not stage.state later i))
-            ∙ ap (λ b. each (length stage.W) (holds_at stage.W f) && b) (not-not (truth stage.state later) ∙ truth_later stage f (reads_it (modal.Always f) refl) later regressed)
+            ∙ ap (λ b. each (length stage.W) (holds_at stage.W f) && b) (not-not (truth stage.state later) ∙ truth_later stage f (reads_it (modal.Always f) refl) later made.truth)
             ∙ sym (each-next stage.W stage.next f),
         tt,
       ));
       own = mine;
-      atoms = λ allowed of own conds. and_from (has_atoms allowed (Not later)) true (has_atoms-Not allowed later ∙ of_both allowed (and_parts _ _ of).0 conds) refl;
+      atoms = λ allowed of own conds. and_from (has_atoms allowed (Not later)) true (has_atoms-Not allowed later ∙ made.atoms allowed (and_parts _ _ of).0 conds) refl;
       few = omega arith;
-      size = let n = nodes-Not later in let c : condition_nodes (always base later) ≡ nodes (Not later) = one_sum (λ c. nodes c.cond) (change false base (Not later)) in let m = one_sum nodes f in let g = one_sum (growth step) f in omega arith;
+      size = let n = nodes-Not later in let c : condition_nodes (always base later) ≡ nodes (Not later) = one_sum (λ c. nodes c.cond) (change false base (Not later)) in let m = one_sum nodes f in let s = made.size in let g = one_sum (growth step) f in omega arith;
     } where
       mine : AreOwn base (modal.Always f) (always base later)
       mine = and_from (is_own base (modal.Always f) base) true (own_from base (modal.Always f) base (at_base base) (in_one base)) refl
@@ -144,14 +132,14 @@ module _ (base : ℕ) (step : List Change) where
       kept = keeps_on base (modal.Sometime f) step (sometime base later) below mine (λ stage. (
         own_after stage base (at_base base) (in_one base)
             ∙ set_by stage.state base later
-            ∙ (λ i. stage.kept.carries.stand.0 i || truth_later stage f (reads_it (modal.Sometime f) refl) later regressed i)
+            ∙ (λ i. stage.kept.carries.stand.0 i || truth_later stage f (reads_it (modal.Sometime f) refl) later made.truth i)
             ∙ sym (some-next stage.W stage.next f),
         tt,
       ));
       own = mine;
-      atoms = λ allowed of own conds. and_from (has_atoms allowed later) true (of_both allowed (and_parts _ _ of).0 conds) refl;
+      atoms = λ allowed of own conds. and_from (has_atoms allowed later) true (made.atoms allowed (and_parts _ _ of).0 conds) refl;
       few = omega arith;
-      size = let c : condition_nodes (sometime base later) ≡ nodes later = one_sum (λ c. nodes c.cond) (change true base later) in let m = one_sum nodes f in let g = one_sum (growth step) f in omega arith;
+      size = let c : condition_nodes (sometime base later) ≡ nodes later = one_sum (λ c. nodes c.cond) (change true base later) in let m = one_sum nodes f in let s = made.size in let g = one_sum (growth step) f in omega arith;
     } where
       mine : AreOwn base (modal.Sometime f) (sometime base later)
       mine = and_from (is_own base (modal.Sometime f) base) true (own_from base (modal.Sometime f) base (at_base base) (in_one base)) refl
@@ -159,7 +147,7 @@ module _ (base : ℕ) (step : List Change) where
     pub at_most_once_update : IsModalBelow base (modal.AtMostOnce f) → IsUpdate base (modal.AtMostOnce f) step (at_most_once base f later)
     at_most_once_update below = record {
       kept = keeps_on base (modal.AtMostOnce f) step (at_most_once base f later) below mine (λ stage.
-          let comes = truth_later stage f (reads_it (modal.AtMostOnce f) refl) later regressed in
+          let comes = truth_later stage f (reads_it (modal.AtMostOnce f) refl) later made.truth in
           let was = truth_now stage f (reads_it (modal.AtMostOnce f) refl) in (
             own_after stage base (at_base base) (in_two base)
                 ∙ first_set stage.state base later back
@@ -176,12 +164,12 @@ module _ (base : ℕ) (step : List Change) where
           ));
       own = mine;
       atoms = λ allowed of own conds.
-          let now = of_both allowed (and_parts _ _ of).0 conds in
+          let now = made.atoms allowed (and_parts _ _ of).0 conds in
           let held = has_atoms-Atom allowed base ∙ own base first_own in
           and_from (has_atoms allowed later) _ now
-          (and_from (has_atoms allowed back) true (atoms-both allowed _ later (atoms-both allowed (Atom base) (Not f) held (has_atoms-Not allowed f ∙ (and_parts _ _ of).0)) now) refl);
+          (and_from (has_atoms allowed back) true (has_atoms-both allowed _ later (has_atoms-both allowed (Atom base) (Not f) held (has_atoms-Not allowed f ∙ (and_parts _ _ of).0)) now) refl);
       few = omega arith;
-      size = let b = nodes-both (both (Atom base) (Not f)) later in let i = nodes-both (Atom base) (Not f) in let a = nodes-Atom base in let n = nodes-Not f in let c : condition_nodes (at_most_once base f later) ≡ nodes later + nodes back = two_sum (λ c. nodes c.cond) (change true base later) (change true (base + 1) back) in let m = one_sum nodes f in let g = one_sum (growth step) f in omega arith;
+      size = let b = nodes-both (both (Atom base) (Not f)) later in let i = nodes-both (Atom base) (Not f) in let a = nodes-Atom base in let n = nodes-Not f in let c : condition_nodes (at_most_once base f later) ≡ nodes later + nodes back = two_sum (λ c. nodes c.cond) (change true base later) (change true (base + 1) back) in let m = one_sum nodes f in let s = made.size in let g = one_sum (growth step) f in omega arith;
     } where
       back : Form
       back = both (both (Atom base) (Not f)) later
@@ -195,8 +183,7 @@ module _ (base : ℕ) (step : List Change) where
       back_truth : (state : State) → truth state back ≡ ((is_set state base && not (truth state f)) && truth state later)
       back_truth state = truth-both state (both (Atom base) (Not f)) later ∙ ap (λ b. b && truth state later) (truth-both state (Atom base) (Not f) ∙ (λ i. truth-Atom state base i && truth-Not state f i))
 
-  module _ (f g : Form) (later answer : Form) (regressed : IsTrueBefore step f later) (of_both : HasAtomsOfBoth step f later) (other_regressed : IsTrueBefore step g answer) (other_of_both : HasAtomsOfBoth step g answer)
-      (small : nodes later ≤ nodes f + growth step f) (other_small : nodes answer ≤ nodes g + growth step g) where
+  module _ (f g later answer : Form) (made : IsRegressed step f later) (other_made : IsRegressed step g answer) where
     -- a constraint of two forms
     module _ (operator : GroundModal) (two : forms_of operator ≡ f ∷ g ∷ []) where
       reads_both : (has_atoms (is_read operator) f ≡ true) × (has_atoms (is_read operator) g ≡ true)
@@ -205,8 +192,8 @@ module _ (base : ℕ) (step : List Change) where
     pub sometime_after_update : IsModalBelow base (modal.SometimeAfter f g) → IsUpdate base (modal.SometimeAfter f g) step (sometime_after base later answer)
     sometime_after_update below = record {
       kept = keeps_on base (modal.SometimeAfter f g) step (sometime_after base later answer) below mine (λ stage.
-          let comes = truth_later stage f (reads_both (modal.SometimeAfter f g) refl).0 later regressed in
-          let answers = truth_later stage g (reads_both (modal.SometimeAfter f g) refl).1 answer other_regressed in (
+          let comes = truth_later stage f (reads_both (modal.SometimeAfter f g) refl).0 later made.truth in
+          let answers = truth_later stage g (reads_both (modal.SometimeAfter f g) refl).1 answer other_made.truth in (
             own_after stage base (at_base base) (in_one base)
                 ∙ switched_by stage.state base answer (both later (Not answer))
                 ∙ (λ i. truth-both stage.state later (Not answer) i || (stage.kept.carries.stand.0 i && not (answers i)))
@@ -218,11 +205,11 @@ module _ (base : ℕ) (step : List Change) where
       own = mine;
       atoms = λ allowed of own conds.
           let parts = and_parts (has_atoms allowed f) _ of in
-          let first = of_both allowed parts.0 conds in
-          let second = other_of_both allowed (and_parts _ _ parts.1).0 conds in
-          and_from (has_atoms allowed answer) _ second (and_from (has_atoms allowed (both later (Not answer))) true (atoms-both allowed later (Not answer) first (has_atoms-Not allowed answer ∙ second)) refl);
+          let first = made.atoms allowed parts.0 conds in
+          let second = other_made.atoms allowed (and_parts _ _ parts.1).0 conds in
+          and_from (has_atoms allowed answer) _ second (and_from (has_atoms allowed (both later (Not answer))) true (has_atoms-both allowed later (Not answer) first (has_atoms-Not allowed answer ∙ second)) refl);
       few = omega arith;
-      size = let b = nodes-both later (Not answer) in let n = nodes-Not answer in let c : condition_nodes (sometime_after base later answer) ≡ nodes answer + nodes (both later (Not answer)) = two_sum (λ c. nodes c.cond) (change false base answer) (change true base (both later (Not answer))) in let m = two_sum nodes f g in let h = two_sum (growth step) f g in omega arith;
+      size = let b = nodes-both later (Not answer) in let n = nodes-Not answer in let c : condition_nodes (sometime_after base later answer) ≡ nodes answer + nodes (both later (Not answer)) = two_sum (λ c. nodes c.cond) (change false base answer) (change true base (both later (Not answer))) in let m = two_sum nodes f g in let s = made.size in let o = other_made.size in let h = two_sum (growth step) f g in omega arith;
     } where
       mine : AreOwn base (modal.SometimeAfter f g) (sometime_after base later answer)
       mine =
@@ -232,8 +219,8 @@ module _ (base : ℕ) (step : List Change) where
     pub sometime_before_update : IsModalBelow base (modal.SometimeBefore f g) → IsUpdate base (modal.SometimeBefore f g) step (sometime_before base later answer)
     sometime_before_update below = record {
       kept = keeps_on base (modal.SometimeBefore f g) step (sometime_before base later answer) below mine (λ stage.
-          let comes = truth_later stage f (reads_both (modal.SometimeBefore f g) refl).0 later regressed in
-          let answers = truth_later stage g (reads_both (modal.SometimeBefore f g) refl).1 answer other_regressed in (
+          let comes = truth_later stage f (reads_both (modal.SometimeBefore f g) refl).0 later made.truth in
+          let answers = truth_later stage g (reads_both (modal.SometimeBefore f g) refl).1 answer other_made.truth in (
             own_after stage base (at_base base) (in_two base)
                 ∙ first_set stage.state base answer soon
                 ∙ (λ i. stage.kept.carries.stand.0 i || answers i)
@@ -250,12 +237,12 @@ module _ (base : ℕ) (step : List Change) where
       own = mine;
       atoms = λ allowed of own conds.
           let parts = and_parts (has_atoms allowed f) _ of in
-          let first = of_both allowed parts.0 conds in
-          let second = other_of_both allowed (and_parts _ _ parts.1).0 conds in
+          let first = made.atoms allowed parts.0 conds in
+          let second = other_made.atoms allowed (and_parts _ _ parts.1).0 conds in
           let held = has_atoms-Not allowed (Atom base) ∙ has_atoms-Atom allowed base ∙ own base first_own in
-          and_from (has_atoms allowed answer) _ second (and_from (has_atoms allowed soon) true (atoms-both allowed later (Not (Atom base)) first held) refl);
+          and_from (has_atoms allowed answer) _ second (and_from (has_atoms allowed soon) true (has_atoms-both allowed later (Not (Atom base)) first held) refl);
       few = omega arith;
-      size = let b = nodes-both later (Not (Atom base)) in let n = nodes-Not (Atom base) in let a = nodes-Atom base in let c : condition_nodes (sometime_before base later answer) ≡ nodes answer + nodes soon = two_sum (λ c. nodes c.cond) (change true base answer) (change true (base + 1) soon) in let m = two_sum nodes f g in let h = two_sum (growth step) f g in omega arith;
+      size = let b = nodes-both later (Not (Atom base)) in let n = nodes-Not (Atom base) in let a = nodes-Atom base in let c : condition_nodes (sometime_before base later answer) ≡ nodes answer + nodes soon = two_sum (λ c. nodes c.cond) (change true base answer) (change true (base + 1) soon) in let m = two_sum nodes f g in let s = made.size in let o = other_made.size in let h = two_sum (growth step) f g in omega arith;
     } where
       soon : Form
       soon = both later (Not (Atom base))

@@ -1,11 +1,11 @@
 -- Several monitors that ride on one step.
-use Rattle.std.specs.Prelude.{ℕ, ◌+◌, ◌≤◌, nat_lt, List, [], ◌∷◌, ◌++◌, flat_map}
+use Rattle.std.specs.Prelude.{◌≡◌, ℕ, ◌+◌, ◌≤◌, nat_lt, false, List, [], ◌∷◌, ◌++◌, flat_map}
 use Rattle.p3_formula.specs.Forms.{State}
 use Rattle.p3_formula.specs.Alike.{AgreeBelow}
 use Rattle.p3_formula.specs.Next.{after}
 use Rattle.p3_formula.specs.declared.form.Change.{Change}
 use Rattle.p3_formula.specs.Kept.{Kept, is_own, atom_count}
-use Rattle.p3_formula.specs.Modals.{IsModalBelow}
+use Rattle.p3_formula.specs.Modals.{IsModalBelow, touches}
 use Rattle.p3_monitors.specs.KeepsOn.{KeepsOn, HasNone, AreOwn}
 use Rattle.p3_monitors.specs.declared.watching.Monitor.{Monitor}
 
@@ -15,6 +15,12 @@ pub record IsRider (sources from : ℕ) (step : List Change) (monitor : Monitor)
   pub behind : from ≤ monitor.base
   pub own : AreOwn monitor.base monitor.modal effects
   pub keeps : KeepsOn monitor.base monitor.modal step effects
+
+-- a monitor that a step does not touch is a rider with no changes
+abbrev pub RidesUntouched : Type 0
+RidesUntouched =
+    (sources from : ℕ) (step : List Change) (monitor : Monitor) → IsModalBelow sources monitor.modal → from ≤ monitor.base → touches monitor.modal step ≡ false
+    → HasNone (is_own monitor.base monitor.modal) step → IsRider sources from step monitor []
 
 -- each monitor with its changes; the atoms of each stand behind those of the ones before it
 abbrev pub AreRiders : ℕ → ℕ → List Change → List Monitor → List (List Change) → Type 0

@@ -1,10 +1,13 @@
 -- The changes that a monitor makes, from the forms as they will be after the step.
 use Rattle.std.specs.Prelude.{ℕ, ◌+◌, ◌*◌, ◌≤◌, Bool, true, false, List, [], ◌∷◌, length}
+use Rattle.p3_formula.specs.Constructors.{both}
+use Rattle.p3_formula.specs.Forms.{nodes}
 use Rattle.p3_formula.specs.declared.form.Change.{Change}
 use Rattle.p3_formula.specs.declared.form.Form.{Form}
-use Rattle.p3_formula.specs.declared.form.Form.TheVariants.{Atom, Not, And}
+use Rattle.p3_formula.specs.declared.form.Form.TheVariants.{Atom, Not}
 use Rattle.p3_formula.specs.declared.modal.GroundModal.{GroundModal}
 use Rattle.p3_formula.specs.declared.modal.GroundModal.TheVariants as modal
+use Rattle.p3_regress.specs.Regressed.{IsTrueBefore, HasAtomsOfBoth, growth}
 use Rattle.p3_formula.specs.Kept.{is_own}
 use Rattle.p3_formula.specs.Modals.{modal_nodes}
 use Rattle.p3_monitors.specs.KeepsOn.{HasNone, AreOwn, KeepsOn, HasConditions, modal_growth, condition_nodes}
@@ -12,10 +15,6 @@ use Rattle.p3_monitors.specs.KeepsOn.{HasNone, AreOwn, KeepsOn, HasConditions, m
 -- the atom is set, or else cleared, where the condition holds
 abbrev pub change : Bool → ℕ → Form → Change
 change add atom cond = record { cond = cond; atom = atom; add = add }
-
--- the form and the other one, which comes first
-abbrev pub both : Form → Form → Form
-both first second = And (first ∷ second ∷ [])
 
 abbrev pub always : ℕ → Form → List Change
 always base later = change false base (Not later) ∷ []
@@ -40,6 +39,12 @@ accept_form base (modal.Sometime f) = Atom base
 accept_form base (modal.AtMostOnce f) = Not (Atom (base + 1))
 accept_form base (modal.SometimeAfter f g) = Not (Atom base)
 accept_form base (modal.SometimeBefore f g) = Not (Atom (base + 1))
+
+-- the form before a step in place of one after it: what it says, the atoms that it reads, and its size
+pub record IsRegressed (step : List Change) (form before : Form) : Type 0 where
+  pub truth : IsTrueBefore step form before
+  pub atoms : HasAtomsOfBoth step form before
+  pub size : nodes before ≤ nodes form + growth step form
 
 -- what the changes of a monitor are to be
 pub record IsUpdate (base : ℕ) (modal : GroundModal) (step effects : List Change) : Type 0 where

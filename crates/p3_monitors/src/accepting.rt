@@ -4,7 +4,7 @@ ghost use Rattle.std.specs.Prelude.{◌≡◌, ◌≤◌, ◌+◌, ◌-◌, ◌^
 ghost use Rattle.p3_formula.specs.Kept.{atom_count};
 ghost use Rattle.p3_monitors.specs.Updates as made;
 
-use p3_base::{Boxed, NoMemory};
+use p3_base::NoMemory;
 use p3_formula::{Form, GroundModal, copied};
 use std::alloc::Global;
 
@@ -16,14 +16,9 @@ pub(crate) fn accept_form(alloc: Global, modal: &GroundModal, base: usize) -> Re
     match modal {
         GroundModal::AtEnd(form) => copied(alloc, form),
         GroundModal::Always(_) | GroundModal::Sometime(_) => Ok(Form::Atom(base)),
-        GroundModal::SometimeAfter(_, _) => unset(alloc, base),
-        GroundModal::AtMostOnce(_) | GroundModal::SometimeBefore(_, _) => unset(alloc, base + 1),
+        GroundModal::SometimeAfter(_, _) => Form::negation(alloc, Form::Atom(base)),
+        GroundModal::AtMostOnce(_) | GroundModal::SometimeBefore(_, _) => {
+            Form::negation(alloc, Form::Atom(base + 1))
+        }
     }
-}
-
-/// The atom is not set.
-fn unset(alloc: Global, atom: usize) -> Result<Form, NoMemory>
-    ensures { IfOk result (λ form. form ≡ Form.Not (Form.Atom atom)) }
-{
-    Ok(Form::Not(Boxed::new(alloc, Form::Atom(atom))?))
 }

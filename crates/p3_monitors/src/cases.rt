@@ -6,7 +6,7 @@ ghost use Rattle.p3_formula.specs.Modals.{IsModalBelow};
 ghost use Rattle.p3_monitors.specs.KeepsOn.{HasNone};
 
 use crate::monitor;
-use p3_base::{Boxed, List, NoMemory};
+use p3_base::{List, NoMemory};
 use p3_formula::{Bits, Change, Effects, Form, GroundModal};
 use std::alloc::Global;
 use std::process::Abort;
@@ -175,7 +175,7 @@ fn literal(alloc: Global, atom: usize, value: bool) -> Result<Form, NoMemory> {
     if value {
         return Ok(form);
     }
-    Ok(Form::Not(Boxed::new(alloc, form)?))
+    Form::negation(alloc, form)
 }
 
 /// The step from one state of atoms 0 and 1 to another. It clears both, and sets each where the
@@ -186,9 +186,9 @@ fn step(alloc: Global, modal: &GroundModal, from: u32, to: u32) -> Result<Effect
     let first = (from & 2 != 0) == (to & 1 != 0);
     let second = (from & 1 != 0) == (to & 2 != 0);
     let mut effects = List::new(alloc);
-    effects.push(change(Form::True, 0, false))?;
+    effects.push(Change::clears(0))?;
     effects.push(change(literal(alloc, 1, first)?, 0, true))?;
-    effects.push(change(Form::True, 1, false))?;
+    effects.push(Change::clears(1))?;
     effects.push(change(literal(alloc, 0, second)?, 1, true))?;
     Ok(effects)
 }
@@ -317,5 +317,29 @@ fn monitors_have_few_atoms(rt: HostRuntime) -> Result<(), Fail> {
     let awaited = "Not(Boxed { inner: Atom(2) })";
     becomes(&rt, 4, "[true]", awaited, "[(2, false), (2, true)]")?;
     becomes(&rt, 5, "[false, true]", unset, "[(2, true), (3, true)]")?;
+    Ok(())
+}
+
+/// Which of the six monitors a step that clears the atom touches, in order.
+fn touched_by(alloc: Global, atom: usize) -> Result<Vec<bool>, NoMemory> {
+    let mut step = List::new(alloc);
+    step.push(Change::clears(atom))?;
+    let mut touched = Vec::new(alloc);
+    for number in 0u32..6 {
+        let monitor = monitor(alloc, &operator(number), &initial_state(alloc, 0)?, 2)?;
+        touched.push(monitor.touched(&step))?;
+    }
+    Ok(touched)
+}
+
+#[test]
+fn a_step_touches_the_constraints_that_read_its_atom(rt: HostRuntime) -> Result<(), Fail> {
+    let alloc = rt.alloc();
+    assert_eq!(&rt; touched_by(alloc, 0)?.as_slice(), [true; 6].as_slice());
+    assert_eq!(&rt;
+        touched_by(alloc, 1)?.as_slice(),
+        [false, false, false, false, true, true].as_slice()
+    );
+    assert_eq!(&rt; touched_by(alloc, 2)?.as_slice(), [false; 6].as_slice());
     Ok(())
 }

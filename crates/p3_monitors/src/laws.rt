@@ -4,7 +4,7 @@ ghost use Rattle.std.specs.Prelude.{◌≡◌, List};
 ghost use Rattle.p3_formula.specs.Forms.{State, truth};
 ghost use Rattle.p3_formula.specs.GroundSat.{ground_sat};
 ghost use Rattle.p3_formula.specs.Kept.{Kept};
-ghost use Rattle.p3_monitors.specs.Riders.{RideTogether};
+ghost use Rattle.p3_monitors.specs.Riders.{RideTogether, RidesUntouched};
 ghost use Rattle.p3_monitors.specs.declared.watching.Monitor.{Monitor};
 
 /// Where a monitor's atoms are right of the states visited so far, its accept form is satisfaction.
@@ -16,4 +16,10 @@ pub fn accepting_is_satisfaction()
 /// them, each is kept.
 pub fn monitors_ride_together()
     ensures { RideTogether }
+{}
+
+/// A monitor whose constraint the step does not touch, and none of whose own atoms it changes, is
+/// kept with its atoms left alone.
+pub fn untouched_monitors_ride()
+    ensures { RidesUntouched }
 {}

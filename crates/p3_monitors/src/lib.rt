@@ -9,9 +9,10 @@ mod cases;
 mod copying;
 mod laws;
 mod making;
+mod reading;
 mod updates;
 mod watching;
 
-pub use laws::{accepting_is_satisfaction, monitors_ride_together};
+pub use laws::{accepting_is_satisfaction, monitors_ride_together, untouched_monitors_ride};
 pub use making::monitor;
 pub use watching::Monitor;

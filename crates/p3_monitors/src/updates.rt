@@ -3,7 +3,7 @@
 ghost use Rattle.std.specs.Prelude.{◌≡◌, ◌≤◌, ◌+◌, ◌-◌, ◌^◌, [], ◌∷◌, IfOk};
 ghost use Rattle.p3_monitors.specs.Updates as made;
 
-use p3_base::{Boxed, List, NoMemory};
+use p3_base::{List, NoMemory};
 use p3_formula::{Change, Effects, Form, copied};
 use std::alloc::Global;
 
@@ -33,28 +33,11 @@ fn two(alloc: Global, first: Change, second: Change) -> Result<Effects, NoMemory
     Ok(effects)
 }
 
-/// The form does not hold.
-fn not(alloc: Global, form: Form) -> Result<Form, NoMemory>
-    ensures { IfOk result (λ negation. negation ≡ Form.Not form) }
-{
-    Ok(Form::Not(Boxed::new(alloc, form)?))
-}
-
-/// Both hold.
-fn both(alloc: Global, first: Form, second: Form) -> Result<Form, NoMemory>
-    ensures { IfOk result (λ form. form ≡ Form.And (first ∷ second ∷ [])) }
-{
-    let mut parts = List::new(alloc);
-    parts.push(first)?;
-    parts.push(second)?;
-    Ok(Form::And(parts))
-}
-
 /// It has held in every state: no more where it does not hold after the step.
 pub(crate) fn always(alloc: Global, base: usize, later: Form) -> Result<Effects, NoMemory>
     ensures { IfOk result (λ effects. effects ≡ made.always base later) }
 {
-    one(alloc, change(not(alloc, later)?, base, false))
+    one(alloc, change(Form::negation(alloc, later)?, base, false))
 }
 
 /// It has held in some state: so it has where it holds after the step.
@@ -76,8 +59,9 @@ pub(crate) fn at_most_once(
     ensures { IfOk result (λ effects. effects ≡ made.at_most_once base form.now later) }
 {
     let held = change(copied(alloc, &later)?, base, true);
-    let ceased = both(alloc, Form::Atom(base), not(alloc, copied(alloc, form)?)?)?;
-    let back = change(both(alloc, ceased, later)?, base + 1, true);
+    let gone = Form::negation(alloc, copied(alloc, form)?)?;
+    let ceased = Form::both(alloc, Form::Atom(base), gone)?;
+    let back = change(Form::both(alloc, ceased, later)?, base + 1, true);
     two(alloc, held, back)
 }
 
@@ -92,7 +76,8 @@ pub(crate) fn sometime_after(
     ensures { IfOk result (λ effects. effects ≡ made.sometime_after base first second) }
 {
     let met = change(copied(alloc, &second)?, base, false);
-    let awaited = change(both(alloc, first, not(alloc, second)?)?, base, true);
+    let unmet = Form::negation(alloc, second)?;
+    let awaited = change(Form::both(alloc, first, unmet)?, base, true);
     two(alloc, met, awaited)
 }
 
@@ -107,7 +92,7 @@ pub(crate) fn sometime_before(
     requires { base + 1 ≤ 2 ^ 64 - 1 }
     ensures { IfOk result (λ effects. effects ≡ made.sometime_before base first second) }
 {
-    let early = both(alloc, first, not(alloc, Form::Atom(base))?)?;
+    let early = Form::both(alloc, first, Form::negation(alloc, Form::Atom(base))?)?;
     let held = change(second, base, true);
     two(alloc, held, change(early, base + 1, true))
 }

@@ -5,14 +5,16 @@ ghost use Rattle.p3_formula.specs.Forms.{State, truth, is_set};
 ghost use Rattle.p3_formula.specs.Next.{after};
 ghost use Rattle.p3_formula.specs.declared.form.Change.{Change};
 ghost use Rattle.p3_formula.specs.Kept.{atom_count, accepts, is_own};
-ghost use Rattle.p3_formula.specs.Modals.{IsModalBelow, modal_nodes};
+ghost use Rattle.p3_formula.specs.Modals.{IsModalBelow, modal_nodes, touches};
 ghost use Rattle.p3_monitors.specs.KeepsOn.{HasNone, KeepsOn, AreOwn, HasConditions, HasAccept, modal_growth, condition_nodes};
-ghost use Rattle.p3_monitors.specs.Updates.{IsUpdate};
+ghost use Rattle.p3_monitors.specs.Updates.{IsRegressed, IsUpdate};
+ghost use Rattle.p3_regress.specs.Answers.{Extends};
 
+use crate::reading::reads;
 use crate::updates::{always, at_most_once, sometime, sometime_after, sometime_before};
 use p3_base::{List, NoMemory};
-use p3_formula::{Effects, Form, GroundModal};
-use p3_regress::regress;
+use p3_formula::{Effects, Form, GroundModal, Table};
+use p3_regress::Regressed;
 use std::alloc::Global;
 
 /// A monitor of a trajectory constraint (the PDDL3 report). Its own atoms are those from the base
@@ -51,7 +53,40 @@ impl Monitor {
         ensures few { IfOk result (λ effects. length effects ≤ 2) }
         ensures size { IfOk result (λ effects. condition_nodes effects ≤ 4 + 3 * (modal_nodes self.now.modal + modal_growth step.now self.now.modal)) }
     {
-        updates(alloc, &self.modal, self.base, step)
+        let mut regressed = Regressed::open(alloc, Table::new(alloc), step)?;
+        self.effects_in(alloc, &mut regressed)
+    }
+
+    /// The changes of its own atoms that ride on the step of a regression. Monitors that share the
+    /// regression share what it answers.
+    #[tactic(auto, using(crate::proofs::ChangeLaws::others_stay))]
+    pub fn effects_in(&self, alloc: Global, regressed: &mut Regressed) -> Result<Effects, NoMemory>
+        requires apart { HasNone (is_own self.now.base self.now.modal) regressed.old.effects }
+        // With the step's changes and those of other monitors they keep the bits over one state more.
+        ensures kept { IfOk result (KeepsOn self.now.base self.now.modal regressed.old.effects) }
+        // They are of its own atoms.
+        ensures own { IfOk result (AreOwn self.now.base self.now.modal) }
+        // The other atoms are as without them.
+        ensures others { IfOk result (λ effects. (state : State) (atom : ℕ) → is_own self.now.base self.now.modal atom ≡ false → is_set (after state (regressed.old.effects ++ effects)) atom ≡ is_set (after state regressed.old.effects) atom) }
+        // They read no atoms but its own and those of the constraint and of the step's conditions.
+        ensures atoms { IfOk result (HasConditions self.now.base self.now.modal regressed.old.effects) }
+        // They are few and small.
+        ensures few { IfOk result (λ effects. length effects ≤ 2) }
+        ensures size { IfOk result (λ effects. condition_nodes effects ≤ 4 + 3 * (modal_nodes self.now.modal + modal_growth regressed.old.effects self.now.modal)) }
+        // The regression keeps its step, its nodes and its answers.
+        ensures extends { Extends regressed.old regressed.new }
+    {
+        updates(alloc, &self.modal, self.base, regressed)
+    }
+
+    /// Whether an atom that some change of the step names stands in a form of the constraint. It
+    /// takes no memory. Where it does not, the monitor rides on the step with no changes.
+    pub fn touched(&self, step: &Effects) -> bool
+        ensures { result ≡ touches self.now.modal step.now }
+    {
+        step.items()
+            .iter()
+            .any(|change| reads(&self.modal, change.atom))
     }
 }
 
@@ -60,26 +95,52 @@ fn updates(
     alloc: Global,
     modal: &GroundModal,
     base: usize,
-    step: &Effects,
+    regressed: &mut Regressed,
 ) -> Result<Effects, NoMemory>
     requires below { IsModalBelow base modal.now }
     requires room { base + atom_count modal.now ≤ 2 ^ 64 - 1 }
-    ensures { IfOk result (IsUpdate base modal.now step.now) }
+    ensures update { IfOk result (IsUpdate base modal.now regressed.old.effects) }
+    ensures extends { Extends regressed.old regressed.new }
 {
     match modal {
         GroundModal::AtEnd(_) => Ok(List::new(alloc)),
-        GroundModal::Always(form) => always(alloc, base, regress(alloc, form, step)?),
-        GroundModal::Sometime(form) => sometime(alloc, base, regress(alloc, form, step)?),
+        GroundModal::Always(form) => always(alloc, base, before(alloc, regressed, form)?),
+        GroundModal::Sometime(form) => sometime(alloc, base, before(alloc, regressed, form)?),
         GroundModal::AtMostOnce(form) => {
-            at_most_once(alloc, base, form, regress(alloc, form, step)?)
+            at_most_once(alloc, base, form, before(alloc, regressed, form)?)
         }
         GroundModal::SometimeAfter(first, second) => {
-            let first = regress(alloc, first, step)?;
-            sometime_after(alloc, base, first, regress(alloc, second, step)?)
+            let (first, second) = both_before(alloc, regressed, first, second)?;
+            sometime_after(alloc, base, first, second)
         }
         GroundModal::SometimeBefore(first, second) => {
-            let first = regress(alloc, first, step)?;
-            sometime_before(alloc, base, first, regress(alloc, second, step)?)
+            let (first, second) = both_before(alloc, regressed, first, second)?;
+            sometime_before(alloc, base, first, second)
         }
     }
+}
+
+/// The form before the step in place of this one after it.
+fn before(alloc: Global, regressed: &mut Regressed, form: &Form) -> Result<Form, NoMemory>
+    ensures made { IfOk result (IsRegressed regressed.old.effects form.now) }
+    ensures extends { Extends regressed.old regressed.new }
+{
+    regressed.form(alloc, form)
+}
+
+/// The forms before the step in place of these after it.
+#[tactic(auto, using(p3_regress::proofs::AnswerLemmas::extends_trans))]
+fn both_before(
+    alloc: Global,
+    regressed: &mut Regressed,
+    first: &Form,
+    second: &Form,
+) -> Result<(Form, Form), NoMemory>
+    ensures first { IfOk result (λ both. IsRegressed regressed.old.effects first.now both.0) }
+    ensures second { IfOk result (λ both. IsRegressed regressed.old.effects second.now both.1) }
+    ensures extends { Extends regressed.old regressed.new }
+{
+    let first = before(alloc, regressed, first)?;
+    let second = before(alloc, regressed, second)?;
+    Ok((first, second))
 }

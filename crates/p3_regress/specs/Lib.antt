@@ -1,2 +1,3 @@
 pub mod Regressed
 pub mod Sorted
+pub mod Answers

@@ -4,9 +4,9 @@ ghost use Rattle.std.specs.Prelude.{◌≡◌, IfOk, IsTrue, length, nat_lt};
 ghost use Rattle.std.specs.List.{list_all};
 ghost use Rattle.p3_formula.specs.Forms.{has_atoms, IsBelow};
 
-use crate::regress;
+use crate::{Regressed, regress};
 use p3_base::{List, NoMemory};
-use p3_formula::{Bits, Change, Effects, Form, eval};
+use p3_formula::{Bits, Change, Effects, Form, Table, eval};
 use std::alloc::Global;
 use std::test::Fail;
 
@@ -74,6 +74,21 @@ fn an_add_wins_over_a_delete(rt: HostRuntime) -> Result<(), Fail> {
     let alloc = rt.alloc();
     let before = before_two_changes(alloc)?;
     assert_eq!(&rt; states(alloc, &before)?, 5);
+    Ok(())
+}
+
+#[test]
+fn a_number_is_answered_once(rt: HostRuntime) -> Result<(), Fail> {
+    let alloc = rt.alloc();
+    let effects = two_changes(alloc)?;
+    let mut table = Table::new(alloc);
+    let number = table.of(&Form::Atom(0))?;
+    let mut regressed = Regressed::open(alloc, table, &effects)?;
+    let first = regressed.of(number)?;
+    let count = regressed.table().len();
+    let second = regressed.of(number)?;
+    assert_eq!(&rt; first, second);
+    assert_eq!(&rt; regressed.table().len(), count);
     Ok(())
 }
 

@@ -4,7 +4,8 @@
 #[cfg(test)]
 mod cases;
 mod changed;
+mod memory;
 mod regression;
 mod sorted;
 
-pub use regression::regress;
+pub use regression::{Regressed, regress};

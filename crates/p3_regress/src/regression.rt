@@ -1,68 +1,215 @@
 //! Forms before a step in place of forms after it.
 
-ghost use Rattle.std.specs.Prelude.{◌≡◌, ◌≤◌, ◌+◌, IfOk, map};
+ghost use Rattle.std.specs.Prelude.{◌≡◌, ◌≤◌, ◌<◌, ◌+◌, ℕ, length, map, [], Some, None, Ok, All, IfOk};
 ghost use Rattle.p3_formula.specs.Forms.{nodes};
+ghost use Rattle.p3_formula.specs.Nodes.{IsNodeBelow, form_of, node_form};
+ghost use Rattle.p3_regress.specs.Answers.{answer_of, AreRight, GoesOn, Extends, AnswersAgain};
 ghost use Rattle.p3_regress.specs.Regressed.{IsTrueBefore, IsUntouched, HasAtomsOfBoth, growth};
 ghost use Rattle.p3_regress.specs.Regressed as made;
 ghost use Rattle.p3_regress.specs.Sorted.{lent, IsRising};
 
 use crate::changed::atom_after;
+use crate::memory::Memory;
 use crate::sorted::{by_atom, changes_of};
-use p3_base::{Boxed, List, NoMemory};
-use p3_formula::{Change, Effects, Form};
+use p3_base::{List, NoMemory};
+use p3_formula::{Change, Effects, Form, Node, Table};
 use std::alloc::Global;
+use std::marker::Model;
+
+/// A table under the changes of one step: for a number, the one that is true before the step
+/// exactly where the given one is true after it. Contracts see the table, the effects and the
+/// answers given so far.
+#[derive(Drop)]
+pub struct Regressed<'e> {
+    effects: &'e Effects,
+    changes: Vec<&'e Change>,
+    memory: Memory,
+}
+
+impl<'e> Model for Regressed<'e> {
+    ghost use Rattle.std.specs.List.Sorted.{IsPermutation};
+    ghost use Rattle.p3_regress.specs.Answers.{Regression, AreRight};
+    ghost use Rattle.p3_regress.specs.Sorted.{lent, IsRising};
+
+    ghost Value = { Regression };
+
+    ghost use Rattle.p3_formula.specs.contracts.form.Form as form;
+    ghost use Rattle.std.specs.Coded.{codes};
+
+    ghost coded = { Prim.hlevel (codes, form.the_row.coded) };
+
+    ghost view = { λ all. record { table = all.memory.table; effects = all.effects.now; answers = all.memory.answers.items } };
+
+    ghost invariant = { λ all. IsPermutation all.effects.now (lent all.changes.items) × IsRising all.changes.items × AreRight (lent all.changes.items) all.memory.table all.memory.answers.items };
+}
+
+impl<'e> Regressed<'e> {
+    /// The table under the changes. Nothing is answered yet.
+    pub fn open(
+        alloc: Global,
+        table: Table,
+        effects: &'e Effects,
+    ) -> Result<Regressed<'e>, NoMemory>
+        ensures table { IfOk result (λ all. all.table ≡ table) }
+        ensures effects { IfOk result (λ all. all.effects ≡ effects.now) }
+        ensures answers { IfOk result (λ all. all.answers ≡ []) }
+    {
+        let changes = by_atom(alloc, effects.items())?;
+        Ok(Regressed {
+            effects,
+            changes,
+            memory: Memory {
+                alloc,
+                table,
+                answers: Vec::new(alloc),
+            },
+        })
+    }
+
+    /// The number that is true before the step exactly where the given one is true after it. A
+    /// number that was answered is answered alike, and the table is then unchanged.
+    pub fn of(&mut self, number: usize) -> Result<usize, NoMemory>
+        requires { number < length self.old.table }
+        ensures truth { IfOk result (λ before. IsTrueBefore self.old.effects (form_of self.old.table number) (form_of self.new.table before)) }
+        ensures within { IfOk result (λ before. before < length self.new.table) }
+        ensures again { AnswersAgain self.old self.new number result }
+        ensures answered { IfOk result (λ before. answer_of self.new.answers number ≡ Some before) }
+        // Nodes, effects and answers that are there stay.
+        ensures extends { Extends self.old self.new }
+    {
+        before(&mut self.memory, &self.changes, number)
+    }
+
+    /// The form that holds before the step exactly where this one holds after it, in each state
+    /// that has this one's atoms.
+    pub fn form(&mut self, alloc: Global, form: &Form) -> Result<Form, NoMemory>
+        ensures truth { IfOk result (λ before. IsTrueBefore self.old.effects form.now before) }
+        ensures untouched { IsUntouched self.old.effects form.now → IfOk result (λ before. before ≡ form.now) }
+        ensures size { IfOk result (λ before. nodes before ≤ nodes form.now + growth self.old.effects form.now) }
+        ensures atoms { IfOk result (λ before. HasAtomsOfBoth self.old.effects form.now before) }
+        // Nodes, effects and answers that are there stay.
+        ensures extends { Extends self.old self.new }
+    {
+        let number = self.memory.of(form)?;
+        let before = before(&mut self.memory, &self.changes, number)?;
+        self.memory.table.form(alloc, before)
+    }
+
+    /// The table.
+    pub fn table(&self) -> &Table
+        ensures { result.now ≡ self.now.table }
+    {
+        &self.memory.table
+    }
+}
 
 /// The form that holds before a step exactly where this one holds after it, in each state that
 /// has this one's atoms.
 ///
 /// An atom becomes the disjunction of the conditions that set it and of its staying set, and an
-/// atom that no change names stays. The changes are sorted once, and each atom's are found by
-/// halving, so that the time is near-linear in the form, the changes and, for each place of an
-/// atom in the form, the conditions of its changes.
-#[tactic(auto, using(crate::proofs::RegressedLaws::sorted_truth, crate::proofs::RegressedLaws::sorted_same, crate::proofs::RegressedLaws::sorted_atoms, crate::proofs::RegressedLaws::sorted_nodes))]
+/// atom that no change names stays. The changes are sorted once, each atom's are found by halving,
+/// and equal parts are regressed once, so that the time is near-linear in the form, the changes
+/// and what is made.
 pub fn regress(alloc: Global, form: &Form, effects: &Effects) -> Result<Form, NoMemory>
     ensures truth { IfOk result (λ before. IsTrueBefore effects.now form.now before) }
     ensures untouched { IsUntouched effects.now form.now → IfOk result (λ before. before ≡ form.now) }
     ensures size { IfOk result (λ before. nodes before ≤ nodes form.now + growth effects.now form.now) }
     ensures atoms { IfOk result (λ before. HasAtomsOfBoth effects.now form.now before) }
 {
-    let changes = by_atom(alloc, effects.items())?;
-    regressed(alloc, form, &changes)
+    let mut regressed = Regressed::open(alloc, Table::new(alloc), effects)?;
+    regressed.form(alloc, form)
 }
 
-/// The form with each atom as it is after the changes.
-#[cycle(regress)]
-#[tactic(auto, using(crate::proofs::RegressedLemmas::regressed_laws))]
-fn regressed(alloc: Global, form: &Form, changes: &[&Change]) -> Result<Form, NoMemory>
-    requires { IsRising changes.now }
-    ensures { IfOk result (λ before. before ≡ made.regressed (lent changes.now) form.now) }
+/// The number before the changes in place of this one after them, as it was answered or else as it
+/// is made.
+#[cycle(before)]
+fn before(memory: &mut Memory, changes: &[&Change], number: usize) -> Result<usize, NoMemory>
+    requires within { number < length memory.old.table }
+    requires rising { IsRising changes.now }
+    requires right { AreRight (lent changes.now) memory.old.table memory.old.answers.items }
+    ensures goes_on { GoesOn (lent changes.now) memory.old.table memory.new.table memory.old.answers.items memory.new.answers.items }
+    ensures answered { IfOk result (λ before. answer_of memory.new.answers.items number ≡ Some before) }
+    ensures again { (before : ℕ) → answer_of memory.old.answers.items number ≡ Some before → (result ≡ Ok before) × (memory.new ≡ memory.old) }
 {
-    match form {
-        Form::True => Ok(Form::True),
-        Form::False => Ok(Form::False),
-        Form::Atom(atom) => atom_after(alloc, changes_of(changes, *atom), *atom),
-        Form::Not(part) => negation(alloc, regressed(alloc, part.get(), changes)?),
-        Form::And(parts) => Ok(Form::And(all_regressed(alloc, parts.items(), changes)?)),
-        Form::Or(parts) => Ok(Form::Or(all_regressed(alloc, parts.items(), changes)?)),
+    match memory.answer(number) {
+        Some(before) => Ok(before),
+        None => answered(memory, changes, number),
     }
 }
 
-/// A negation.
-fn negation(alloc: Global, part: Form) -> Result<Form, NoMemory>
-    ensures { IfOk result (λ form. form ≡ Form.Not part) }
+/// The number before the changes, made and noted.
+#[cycle(before)]
+fn answered(memory: &mut Memory, changes: &[&Change], number: usize) -> Result<usize, NoMemory>
+    requires within { number < length memory.old.table }
+    requires new { answer_of memory.old.answers.items number ≡ None }
+    requires rising { IsRising changes.now }
+    requires right { AreRight (lent changes.now) memory.old.table memory.old.answers.items }
+    ensures goes_on { GoesOn (lent changes.now) memory.old.table memory.new.table memory.old.answers.items memory.new.answers.items }
+    ensures answered { IfOk result (λ before. answer_of memory.new.answers.items number ≡ Some before) }
 {
-    Ok(Form::Not(Boxed::new(alloc, part)?))
-}
-
-/// The forms, each with each atom as it is after the changes.
-#[cycle(regress)]
-fn all_regressed(alloc: Global, forms: &[Form], changes: &[&Change]) -> Result<List<Form>, NoMemory>
-    requires { IsRising changes.now }
-    ensures { IfOk result (λ before. before ≡ map (made.regressed (lent changes.now)) forms.now) }
-{
-    let mut before = List::new(alloc);
-    for form in forms {
-        before.push(regressed(alloc, form, changes)?)?;
-    }
+    let node = memory.node(number)?;
+    let before = node_before(memory, changes, number, node)?;
+    memory.note(number, before)?;
     Ok(before)
+}
+
+/// The number before the changes in place of a node after them, whose numbers are below the count.
+#[cycle(before)]
+fn node_before(
+    memory: &mut Memory,
+    changes: &[&Change],
+    count: usize,
+    node: Node,
+) -> Result<usize, NoMemory>
+    requires within { count ≤ length memory.old.table }
+    requires parts { IsNodeBelow count node }
+    requires rising { IsRising changes.now }
+    requires right { AreRight (lent changes.now) memory.old.table memory.old.answers.items }
+    ensures goes_on { GoesOn (lent changes.now) memory.old.table memory.new.table memory.old.answers.items memory.new.answers.items }
+    ensures within { IfOk result (λ before. before < length memory.new.table) }
+    ensures stands { IfOk result (λ before. form_of memory.new.table before ≡ made.regressed (lent changes.now) (node_form (form_of memory.old.table) node)) }
+{
+    match node {
+        Node::True => memory.add(Node::True),
+        Node::False => memory.add(Node::False),
+        Node::Atom(atom) => {
+            let form = atom_after(memory.alloc, changes_of(changes, atom), atom)?;
+            memory.of(&form)
+        }
+        Node::Not(part) => {
+            let part = before(memory, changes, part)?;
+            memory.add(Node::Not(part))
+        }
+        Node::And(parts) => {
+            let parts = all_before(memory, changes, count, parts.items())?;
+            memory.add(Node::And(parts))
+        }
+        Node::Or(parts) => {
+            let parts = all_before(memory, changes, count, parts.items())?;
+            memory.add(Node::Or(parts))
+        }
+    }
+}
+
+/// The numbers before the changes in place of these after them.
+#[cycle(before)]
+fn all_before(
+    memory: &mut Memory,
+    changes: &[&Change],
+    count: usize,
+    numbers: &[usize],
+) -> Result<List<usize>, NoMemory>
+    requires within { count ≤ length memory.old.table }
+    requires parts { All (λ number. number < count) numbers.now }
+    requires rising { IsRising changes.now }
+    requires right { AreRight (lent changes.now) memory.old.table memory.old.answers.items }
+    ensures goes_on { GoesOn (lent changes.now) memory.old.table memory.new.table memory.old.answers.items memory.new.answers.items }
+    ensures below { IfOk result (λ befores. All (λ before. before < length memory.new.table) befores) }
+    ensures stand { IfOk result (λ befores. map (form_of memory.new.table) befores ≡ map (made.regressed (lent changes.now)) (map (form_of memory.old.table) numbers.now)) }
+{
+    let mut befores = List::new(memory.alloc);
+    for number in numbers {
+        befores.push(before(memory, changes, *number)?)?;
+    }
+    Ok(befores)
 }
