@@ -13,4 +13,6 @@ pub mod KeptLaws
 pub mod WorkedOperators
 pub mod NodeLemmas
 pub mod StepLaws
+pub mod GuardLaws
+pub mod TurnLaws
 pub mod WorkedLed

@@ -5,6 +5,7 @@ pub mod GroundPlans
 pub mod Next
 pub mod Alike
 pub mod Constructors
+pub mod Guards
 pub mod Modals
 pub mod Kept
 pub mod Weighted

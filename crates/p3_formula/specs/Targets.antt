@@ -3,7 +3,7 @@ use Rattle.std.specs.Prelude.{◌≡◌, ℕ, ◌+◌, ◌==◌, nat_lt, Bool, f
 use Rattle.std.specs.List.{list_all, range_with_len}
 use Rattle.p3_base.specs.Copies.{is_copy_of}
 use Rattle.p3_base.specs.Words.{Name, are_different, are_digits, is_lowered, is_name, is_predicate_name}
-use Rattle.p3_formula.specs.Forms.{State, truth, is_below, IsBelow}
+use Rattle.p3_formula.specs.Forms.{State, has_atoms, truth, is_below, IsBelow}
 use Rattle.p3_formula.specs.Next.{after}
 use Rattle.p3_formula.specs.GroundPlans.{GroundPlan, GroundValid, ground_loss}
 use Rattle.p3_formula.specs.Weighted.{ground_extra}
@@ -61,6 +61,13 @@ is_sized_change count change = nat_lt change.atom count && is_below count change
 
 abbrev pub is_sized_action : ℕ → TargetAction → Bool
 is_sized_action count action = is_below count action.pre && list_all (is_sized_change count) action.effects
+
+-- the atoms of a change, and of an action, are some of those
+abbrev pub has_change_atoms : (ℕ → Bool) → Change → Bool
+has_change_atoms allowed change = allowed change.atom && has_atoms allowed change.cond
+
+abbrev pub has_action_atoms : (ℕ → Bool) → TargetAction → Bool
+has_action_atoms allowed action = has_atoms allowed action.pre && list_all (has_change_atoms allowed) action.effects
 
 -- all atoms are below the number of predicates, and there is one initial bit for each predicate
 pub record IsSized (X : Target) : Type 0 where

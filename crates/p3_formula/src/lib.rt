@@ -10,6 +10,7 @@ mod constructors;
 mod copy;
 mod evaluation;
 mod form;
+mod guards;
 mod laws;
 mod modal;
 mod node;
@@ -24,6 +25,7 @@ pub use bits::Bits;
 pub use copy::{change_copied, copied, effects_copied};
 pub use evaluation::eval;
 pub use form::{Change, Effects, Form};
+pub use guards::{guarded, turned};
 pub use modal::{GroundModal, GroundPref, GroundSoft};
 pub use laws::{
     alike_changes_make_the_same_state, copies_count_as_their_step, states_agree_after_changes,

@@ -1,2 +1,7 @@
 pub mod CopyLemmas
 pub mod PatternLemmas
+pub mod NameLaws
+pub mod LinkLaws
+pub mod TurnLaws
+pub mod ChainLaws
+pub mod ChainAtoms

@@ -82,7 +82,7 @@ fn first_copies(
 }
 
 /// The cost of a step, weighted.
-fn weighted_cost(weight: u64, cost: Option<u128>) -> u64
+pub(crate) fn weighted_cost(weight: u64, cost: Option<u128>) -> u64
     requires { weight * unwrap_or cost 0 < 2 ^ 62 }
     ensures { result ≡ weight * unwrap_or cost 0 }
 {
@@ -90,7 +90,7 @@ fn weighted_cost(weight: u64, cost: Option<u128>) -> u64
 }
 
 /// The weight of a preference: without a name it has none.
-fn weight_of(by_name: &List<u64>, pref: &GroundPref) -> u64
+pub(crate) fn weight_of(by_name: &List<u64>, pref: &GroundPref) -> u64
     requires { HasNameBelow (length by_name.now) pref.now.name }
     ensures { result ≡ weight_of by_name.now pref.now }
 {

@@ -4,5 +4,9 @@
 #[cfg(test)]
 mod cases;
 mod copies;
+mod questions;
+#[cfg(test)]
+mod walks;
 
 pub use copies::{StepCopy, split};
+pub use questions::ask;
