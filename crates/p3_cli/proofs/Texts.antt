@@ -4,5 +4,4 @@ pub mod Layouts
 pub mod Parts
 pub mod Places
 pub mod Symbols
-pub mod Words
 pub mod Written

@@ -14,7 +14,7 @@ use Rattle.p3_syntax.specs.Domain.{domain_of}
 use Rattle.p3_syntax.specs.Problem.{problem_of}
 use Rattle.p3_syntax.specs.Texts.{source_depth, kept, domain_of_text, problem_of_text, IsHalfText}
 use Rattle.p3_syntax.proofs.TinyLemmas.{along, IfSome-guard}
-use Rattle.p3_syntax.proofs.SpelledLemmas.{text_balanced}
+use Rattle.p3_tree.proofs.ReadingLemmas.{text_balanced}
 use Rattle.p3_syntax.proofs.GrammarWords.{Agrees}
 use Rattle.p3_syntax.proofs.GrammarDomain.{domain_agrees}
 use Rattle.p3_syntax.proofs.GrammarProblem.{problem_agrees}

@@ -2,9 +2,12 @@ pub mod Loops
 pub mod PartLemmas
 pub mod ExpressionLemmas
 pub mod TinyLemmas
-pub mod SpelledLemmas
 pub mod GrammarWords
 pub mod GrammarParts
 pub mod GrammarDomain
 pub mod GrammarProblem
 pub mod GrammarLemmas
+pub mod NodeLemmas
+pub mod BalanceLemmas
+pub mod SoundLemmas
+pub mod BuildLemmas

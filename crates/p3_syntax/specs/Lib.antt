@@ -9,3 +9,7 @@ pub mod Contents
 pub mod Progresses
 pub mod Prefs
 pub mod Texts
+pub mod Nodes
+pub mod Balances
+pub mod Builds
+pub mod Outlines

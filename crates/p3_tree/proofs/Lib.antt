@@ -16,6 +16,7 @@ pub mod OptimaLemmas
 pub mod PlacesLemmas
 pub mod PlanLemmas
 pub mod PreferenceNameLaws
+pub mod ReadingLemmas
 pub mod RefusalLaws
 pub mod ShapeLemmas
 pub mod SpellingLemmas

@@ -9,7 +9,7 @@ use Rattle.p3_tree.proofs.Computes.{trees_compute}
 use Rattle.p3_tree.specs.declared.expression.Expression.{Expression}
 use Rattle.p3_tree.specs.declared.expression.Expression.TheBlock.{hidden-the_row-Expression-0, shape-the_row-Expression-0}
 use Rattle.p3_tree.specs.declared.expression.Expression.TheVariants as expression
-use Rattle.p3_cli.proofs.Texts.Words.{IsWord, is_apart, past, word_read}
+use Rattle.p3_lexer.proofs.WordLemmas.{IsWord, is_apart, past, word_read}
 
 -- A word stands behind a space or at the head of a list, so that no two words touch.
 pub data Document : Type 0 where

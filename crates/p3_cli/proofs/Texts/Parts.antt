@@ -23,7 +23,7 @@ use Rattle.p3_tree.specs.declared.task.Action.{Action}
 use Rattle.p3_tree.specs.declared.task.Part.{Part}
 use Rattle.p3_tree.specs.declared.term.Ref.{Ref}
 use Rattle.p3_compile.specs.Written as w
-use Rattle.p3_cli.proofs.Texts.Words.{IsWord}
+use Rattle.p3_lexer.proofs.WordLemmas.{IsWord}
 use Rattle.p3_cli.proofs.Texts.Documents.{Document, end, space, line, none, word, list, placed}
 use Rattle.p3_cli.proofs.Texts.Symbols.{Symbol, Number}
 use Rattle.p3_cli.proofs.Texts.Places.{Given, given_none, given_more, at_offset, checked, atom_goal, atom_added, negated_goal, negated_deleted, increase_given}

@@ -19,7 +19,7 @@ use Rattle.p3_tree.specs.Grammar.Effects.{effect_forms}
 use Rattle.p3_tree.specs.Grammar.Goals.{goal_forms}
 use Rattle.p3_tree.specs.Grammar.Halves.{init_forms}
 use Rattle.p3_compile.specs.Written.{source_atom}
-use Rattle.p3_cli.proofs.Texts.Words.{IsWord}
+use Rattle.p3_lexer.proofs.WordLemmas.{IsWord}
 
 -- no form begins with the name
 abbrev pub heads_none : {F : Type 0} → Name → List (Name × F) → Bool

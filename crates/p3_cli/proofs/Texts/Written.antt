@@ -27,7 +27,7 @@ use Rattle.p3_compile.specs.Written.{wished_of, weight_of, written_of}
 use Rattle.p3_cli.specs.Layout.{domain_layout, problem_layout}
 use Rattle.p3_cli.specs.WrittenText.{HasText, HasFaithfulText}
 use Rattle.p3_cli.proofs.Texts.Documents.{Document, bytes, document_balanced}
-use Rattle.p3_cli.proofs.Texts.Words.{IsWord}
+use Rattle.p3_lexer.proofs.WordLemmas.{IsWord}
 use Rattle.p3_cli.proofs.Texts.Symbols.{Symbol, Number, go, first_link, last_link, source, number}
 use Rattle.p3_cli.proofs.Texts.Parts.{One, Both, Change, Signed, Costs, change_tree, Act, act_tree}
 use Rattle.p3_cli.proofs.Texts.Halves.{domain_inside, problem_inside, half_document, half_at, header_trees, entry_trees, domain_tree, problem_tree, IsDomain, is_domain, IsProblem, is_problem}

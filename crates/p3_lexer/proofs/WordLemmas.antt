@@ -29,14 +29,14 @@ past at (byte ∷ bytes) = past (at + 1) bytes
 -- ---- bytes, by the tests of them
 
 -- a byte of a word before a word, which it goes on with or not
-abbrev prefixed_by : Bool → (at byte next : ℕ) → List ℕ → List Token → List Token
+abbrev pub prefixed_by : Bool → (at byte next : ℕ) → List ℕ → List Token → List Token
 prefixed_by follows at byte next text later =
     if follows then Word at (to_ascii_lowercase byte ∷ text) ∷ later else Word at (to_ascii_lowercase byte ∷ []) ∷ Word next text ∷ later
 
 abbrev with_word_byte : ℕ → ℕ → Tokens → Tokens
 with_word_byte at byte later = record { tokens = prefixed at byte later.tokens; foreign = later.foreign }
 
-abbrev read_by : (opens closes goes_on is_silent : Bool) → ℕ → ℕ → Tokens → Tokens
+abbrev pub read_by : (opens closes goes_on is_silent : Bool) → ℕ → ℕ → Tokens → Tokens
 read_by opens closes goes_on is_silent at byte later =
     if opens then before (Open at) later
     else (if closes then before (Close at) later

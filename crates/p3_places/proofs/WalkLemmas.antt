@@ -1,0 +1,51 @@
+-- A walk over a text, token by token.
+use Rattle.std.proofs.Common.{◌≡◌, ◌∙◌, refl, sym, ap, ℕ, Bool, true, false, ◌≢◌, if◌then◌else◌, List, length, codes, Option, Some, None}
+use Rattle.std.specs.Option.{option_map}
+use Rattle.std.specs.Str.{bytes_eq, str_to_ascii_lowercase}
+use Rattle.p3_base.specs.declared.refusal.Code.TheVariants.{Malformed}
+use Rattle.p3_base.specs.declared.refusal.Role.{Role}
+use Rattle.p3_tree.specs.Tokens.{Open, Close, Word, Tokens, before}
+use Rattle.p3_tree.specs.PlanTexts.{Opens, Closes, Names, mark_of}
+use Rattle.p3_tree.specs.Refusals.Places.{refusal_at, refusal_at_token}
+use Rattle.p3_lexer.specs.Lexing.{token_of, with_next}
+use Rattle.p3_lexer.proofs.MarkLemmas.{refusal_of_token}
+use Rattle.p3_lexer.specs.declared.lexer.Next.{Next}
+use Rattle.p3_lexer.specs.declared.lexer.Next.TheVariants as next
+use Rattle.p3_places.specs.Machine.{first_fault, step, or_at}
+use Rattle.p3_places.specs.Places.{grammar_table}
+use Rattle.p3_places.specs.Walks.{the_stack, mark_in, fault_among}
+use Rattle.p3_places.specs.declared.state.State.{State}
+use Rattle.p3_places.specs.declared.walk.Walk.{Walk}
+
+mark_by : (opens closes : Bool) (offset : ℕ) (word : List ℕ)
+    → mark_of (if opens then Open offset else (if closes then Close offset else Word offset (str_to_ascii_lowercase word)))
+    ≡ (if opens then Opens else (if closes then Closes else Names (str_to_ascii_lowercase word)))
+mark_by true closes offset word = refl
+mark_by false true offset word = refl
+mark_by false false offset word = refl
+
+mark_of_token : (offset : ℕ) (word : List ℕ) → mark_of (token_of offset word) ≡ mark_in word
+mark_of_token offset word = mark_by (bytes_eq word (codes "(")) (bytes_eq word (codes ")")) offset word
+
+module _ (role : Role) (stack : List State) (offset : ℕ) (word : List ℕ) (later : Tokens) (found : Option Walk) (is : option_map the_stack found ≡ step grammar_table stack (mark_in word)) where
+  stepped : step grammar_table stack (mark_of (token_of offset word)) ≡ option_map the_stack found
+  stepped = ap (step grammar_table stack) (mark_of_token offset word) ∙ sym is
+
+  -- one token more
+  pub walk_more : (walk : Walk) → found ≡ Some walk → fault_among role stack (before (token_of offset word) later) ≡ fault_among role (the_stack walk) later
+  unfolding first_fault
+  walk_more walk some = ap (λ o. option_map (refusal_at_token Malformed role) (or_at (token_of offset word) (λ s. first_fault grammar_table s later.tokens) o)) (stepped ∙ ap (option_map the_stack) some)
+
+  -- the token may not stand here
+  pub walk_stops : found ≡ None → fault_among role stack (before (token_of offset word) later) ≡ Some (refusal_at Malformed role offset (length word))
+  unfolding first_fault
+  walk_stops none =
+      ap (λ o. option_map (refusal_at_token Malformed role) (or_at (token_of offset word) (λ s. first_fault grammar_table s later.tokens) o)) (stepped ∙ ap (option_map the_stack) none)
+      ∙ ap Some (refusal_of_token Malformed role offset word)
+
+-- there is no token more
+pub walk_ends : (role : Role) (stack : List State) (given : Next) (later : Tokens) → ((word : _) (offset : _) → given ≢ next.Token word offset) → fault_among role stack (with_next given later) ≡ None
+unfolding first_fault
+walk_ends role stack (next.Token word offset) later not = absurd (not word offset refl)
+walk_ends role stack next.End later not = refl
+walk_ends role stack (next.Bad offset) later not = refl

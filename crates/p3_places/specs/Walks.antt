@@ -1,0 +1,40 @@
+-- What a walk over a text has come to, and what it finds.
+use Rattle.std.specs.Prelude.{ℕ, if◌then◌else◌, List, [], ◌∷◌, reverse, codes, Option}
+use Rattle.std.specs.Option.{option_map}
+use Rattle.std.specs.Str.{bytes_eq, str_to_ascii_lowercase}
+use Rattle.p3_base.specs.declared.refusal.Code.TheVariants.{Malformed}
+use Rattle.p3_base.specs.declared.refusal.Refusal.{Refusal}
+use Rattle.p3_base.specs.declared.refusal.Role.{Role}
+use Rattle.p3_base.specs.declared.refusal.Role.TheVariants as role
+use Rattle.p3_tree.specs.Tokens.{Tokens, tokens_of}
+use Rattle.p3_tree.specs.PlanTexts.{Mark, Opens, Closes, Names}
+use Rattle.p3_tree.specs.Refusals.Places.{refusal_at_token}
+use Rattle.p3_places.specs.Machine.{first_fault}
+use Rattle.p3_places.specs.Places.{grammar_table, start}
+use Rattle.p3_places.specs.declared.state.Place.{Place}
+use Rattle.p3_places.specs.declared.state.Place.TheVariants as place
+use Rattle.p3_places.specs.declared.state.State.{State}
+use Rattle.p3_places.specs.declared.walk.Walk.{Walk}
+
+-- the innermost list, and those around it, the innermost of which stands last in the code
+abbrev pub the_stack : Walk → List State
+the_stack walk = walk.top ∷ reverse walk.outer.items
+
+-- what the bytes of a token are
+abbrev pub mark_in : List ℕ → Mark
+mark_in text = if bytes_eq text (codes "(") then Opens else (if bytes_eq text (codes ")") then Closes else Names (str_to_ascii_lowercase text))
+
+-- the first token that may not stand where it does, among those that are left
+abbrev pub fault_among : Role → List State → Tokens → Option Refusal
+fault_among role stack left = option_map (refusal_at_token Malformed role) (first_fault grammar_table stack left.tokens)
+
+abbrev pub fault_of : Role → Place → List ℕ → Option Refusal
+fault_of role p text = fault_among role (start p ∷ []) (tokens_of text)
+
+-- where the whole text of a file stands
+abbrev pub place_of : Role → Place
+place_of role.Domain = place.Domain
+place_of role.WrittenDomain = place.Domain
+place_of role.Problem = place.Problem
+place_of role.WrittenProblem = place.Problem
+place_of role.Plan = place.Problem

@@ -1,0 +1,16 @@
+//! Where a text leaves the grammar: the first token after which no text of a domain, or of a
+//! problem, goes on.
+#![tactic(auto)]
+
+#[cfg(test)]
+mod cases;
+mod domain_sections;
+mod heads;
+mod rests;
+mod sections;
+mod state;
+mod step;
+mod walk;
+mod word;
+
+pub use walk::first_malformed;

@@ -1,0 +1,181 @@
+//! Words, compared without letter case.
+
+ghost use Rattle.std.specs.Prelude.{◌≡◌, ◌∷◌, [], map, codes, not, ◌&&◌};
+ghost use Rattle.std.specs.Char.{to_ascii_lowercase};
+ghost use Rattle.std.specs.List.{list_all};
+ghost use Rattle.std.specs.Str.{str_to_ascii_lowercase};
+ghost use Rattle.p3_base.specs.Words.{is_digit, is_name, is_variable, is_predicate_name, is_function_name, reserved_words, has_name};
+ghost use Rattle.p3_tree.specs.Decimals.{are_digits, is_decimal};
+ghost use Rattle.p3_tree.specs.Names.{same_name, total_cost};
+ghost use Rattle.p3_tree.specs.Grammar.Halves.{begins_with_colon};
+ghost use Rattle.p3_places.specs.Places.{goes_on_as_decimal, is_word_of};
+
+use crate::state::Class;
+
+/// Whether a word is the text, which has no capital letter.
+#[tactic(auto, using(crate::proofs::WordLemmas::same_lowered))]
+pub(crate) fn is(word: &[u8], text: &[u8]) -> bool
+    requires { str_to_ascii_lowercase text.now ≡ text.now }
+    ensures { result ≡ same_name text.now (str_to_ascii_lowercase word.now) }
+{
+    word.eq_ignore_ascii_case(text)
+}
+
+pub(crate) fn is_name_word(word: &[u8]) -> bool
+    ensures { result ≡ is_name (str_to_ascii_lowercase word.now) }
+{
+    match word {
+        [] => false,
+        [first, ..] => first.to_ascii_lowercase() >= b'a' && first.to_ascii_lowercase() <= b'z',
+    }
+}
+
+pub(crate) fn is_variable_word(word: &[u8]) -> bool
+    ensures { result ≡ is_variable (str_to_ascii_lowercase word.now) }
+{
+    match word {
+        [first, _, ..] => first.to_ascii_lowercase() == b'?',
+        _ => false,
+    }
+}
+
+fn is_digit_byte(byte: &u8) -> bool
+    ensures { result ≡ is_digit (to_ascii_lowercase byte.now) }
+{
+    let byte = byte.to_ascii_lowercase();
+    byte >= b'0' && byte <= b'9'
+}
+
+fn are_all_digits(word: &[u8]) -> bool
+    ensures { result ≡ list_all is_digit (str_to_ascii_lowercase word.now) }
+{
+    for byte in word {
+        if !is_digit_byte(byte) {
+            return false;
+        }
+    }
+    true
+}
+
+fn are_digits(word: &[u8]) -> bool
+    ensures { result ≡ are_digits (str_to_ascii_lowercase word.now) }
+{
+    match word {
+        [] => false,
+        [_, ..] => are_all_digits(word),
+    }
+}
+
+/// Whether a word goes on as a number behind its first digit.
+#[tactic(auto, using(crate::proofs::DecimalWords::point_here, crate::proofs::DecimalWords::digit_here, crate::proofs::DecimalWords::other_here))]
+fn is_decimal_behind(word: &[u8]) -> bool
+    ensures { result ≡ goes_on_as_decimal (str_to_ascii_lowercase word.now) }
+{
+    for (index, byte) in word.iter().enumerate() {
+        if *byte == b'.' {
+            return are_digits(&word[index + 1..]);
+        }
+        if !is_digit_byte(byte) {
+            return false;
+        }
+    }
+    true
+}
+
+/// Whether a word is digits, or digits with one point that is neither first nor last.
+#[tactic(auto, using(crate::proofs::DecimalWords::first_and_behind))]
+fn is_decimal_word(word: &[u8]) -> bool
+    ensures { result ≡ is_decimal (str_to_ascii_lowercase word.now) }
+{
+    match word {
+        [] => false,
+        [first, behind @ ..] => is_digit_byte(first) && is_decimal_behind(behind),
+    }
+}
+
+pub(crate) fn is_keyword_word(word: &[u8]) -> bool
+    ensures { result ≡ begins_with_colon (str_to_ascii_lowercase word.now) }
+{
+    match word {
+        [] => false,
+        [first, ..] => first.to_ascii_lowercase() == b':',
+    }
+}
+
+fn is_reserved_form(word: &[u8]) -> bool
+    ensures { result ≡ has_name (map codes ("and" ∷ "or" ∷ "not" ∷ "imply" ∷ "exists" ∷ "forall" ∷ "when" ∷ "preference" ∷ "increase" ∷ "either" ∷ "define" ∷ "is-violated" ∷ "total-time" ∷ [])) (str_to_ascii_lowercase word.now) }
+{
+    is(word, b"and")
+        || is(word, b"or")
+        || is(word, b"not")
+        || is(word, b"imply")
+        || is(word, b"exists")
+        || is(word, b"forall")
+        || is(word, b"when")
+        || is(word, b"preference")
+        || is(word, b"increase")
+        || is(word, b"either")
+        || is(word, b"define")
+        || is(word, b"is-violated")
+        || is(word, b"total-time")
+}
+
+fn is_reserved_operator(word: &[u8]) -> bool
+    ensures { result ≡ has_name (map codes ("always" ∷ "sometime" ∷ "at-most-once" ∷ "sometime-after" ∷ "sometime-before" ∷ "within" ∷ "always-within" ∷ "hold-during" ∷ "hold-after" ∷ "assign" ∷ "decrease" ∷ "scale-up" ∷ "scale-down" ∷ [])) (str_to_ascii_lowercase word.now) }
+{
+    is(word, b"always")
+        || is(word, b"sometime")
+        || is(word, b"at-most-once")
+        || is(word, b"sometime-after")
+        || is(word, b"sometime-before")
+        || is(word, b"within")
+        || is(word, b"always-within")
+        || is(word, b"hold-during")
+        || is(word, b"hold-after")
+        || is(word, b"assign")
+        || is(word, b"decrease")
+        || is(word, b"scale-up")
+        || is(word, b"scale-down")
+}
+
+fn is_reserved(word: &[u8]) -> bool
+    ensures { result ≡ has_name reserved_words (str_to_ascii_lowercase word.now) }
+{
+    is_reserved_form(word) || is_reserved_operator(word)
+}
+
+pub(crate) fn is_function_word(word: &[u8]) -> bool
+    ensures { result ≡ is_function_name (str_to_ascii_lowercase word.now) }
+{
+    is_name_word(word) && !is_reserved(word)
+}
+
+#[tactic(auto, using(crate::proofs::WordLemmas::same_name_sym))]
+fn is_free(word: &[u8]) -> bool
+    ensures { result ≡ (not (has_name reserved_words (str_to_ascii_lowercase word.now)) && not (same_name (str_to_ascii_lowercase word.now) total_cost)) }
+{
+    !is_reserved(word) && !is(word, b"total-cost")
+}
+
+pub(crate) fn is_predicate_word(word: &[u8]) -> bool
+    ensures { result ≡ is_predicate_name (str_to_ascii_lowercase word.now) }
+{
+    is_name_word(word) && is_free(word)
+}
+
+/// Whether a word is of the class.
+pub(crate) fn is_word_of(class: Class, word: &[u8]) -> bool
+    ensures { result ≡ is_word_of class (str_to_ascii_lowercase word.now) }
+{
+    match class {
+        Class::Name => is_name_word(word),
+        Class::Variable => is_variable_word(word),
+        Class::Term => is_name_word(word) || is_variable_word(word),
+        Class::Number => is_decimal_word(word),
+        Class::Keyword => is_keyword_word(word),
+        Class::Direction => is(word, b"minimize") || is(word, b"maximize"),
+        Class::End => is(word, b"end"),
+        Class::Numeric => is_decimal_word(word) || is(word, b"total-cost"),
+        Class::NumberType => is(word, b"number"),
+    }
+}
