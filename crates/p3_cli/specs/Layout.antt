@@ -1,5 +1,5 @@
 -- How the written task is laid out: one `(name)` a predicate, three lines an action, and so on.
-use Rattle.std.specs.Prelude.{ℕ, List, [], ◌∷◌, ◌++◌, codes}
+use Rattle.std.specs.Prelude.{ℕ, List, [], ◌++◌, codes, map}
 use Rattle.std.specs.List.{flat_map}
 use Rattle.std.specs.Fmt.{decimal}
 use Rattle.p3_tree.specs.declared.effect.Amount.{Amount}
@@ -16,18 +16,16 @@ use Rattle.p3_tree.specs.declared.task.Header.{Header}
 use Rattle.p3_tree.specs.declared.task.Init.{Init}
 use Rattle.p3_tree.specs.declared.task.Init.TheVariants as init
 use Rattle.p3_tree.specs.declared.task.Problem.{Problem}
-
--- `(name)`
-abbrev pub atom_text : List ℕ → List ℕ
-atom_text name = codes "(" ++ name ++ codes ")"
+pub use Rattle.p3_writer.specs.Layout.{atom_text, action_head}
+use Rattle.p3_writer.specs.Layout as written
 
 -- `(not (name))`
 abbrev pub negated_text : List ℕ → List ℕ
-negated_text name = codes "(not (" ++ name ++ codes "))"
+negated_text name = written.negated_text (atom_text name)
 
--- each text with a space before it
+-- the text of each with a space before it
 abbrev pub spaced : {A : Type 0} → (A → List ℕ) → List A → List ℕ
-spaced text items = flat_map (λ item. 32 ∷ text item) items
+spaced text items = written.spaced (map text items)
 
 abbrev pub negated_in : Formula-F Formula → List ℕ
 negated_in (Formula-F.Atom pred args) = negated_text pred.name
@@ -83,9 +81,6 @@ effect_text effect = effect_in (out-Effect effect)
 
 abbrev pub header_text : Header → List ℕ
 header_text header = atom_text header.name.name
-
-abbrev pub action_head : List ℕ → List ℕ
-action_head name = codes "(:action " ++ name ++ codes " :parameters ()\n :precondition "
 
 abbrev pub action_text : Action → List ℕ
 action_text action =

@@ -59,9 +59,9 @@ fn push_atom(out: &mut Vec<u8>, name: &[u8]) -> Result<(), NoMemory>
 fn push_negated(out: &mut Vec<u8>, name: &[u8]) -> Result<(), NoMemory>
     ensures { OnOk result (out.new.items ≡ out.old.items ++ layout.negated_text name.now) }
 {
-    push(out, "(not (")?;
-    out.extend_from_slice(name)?;
-    push(out, "))")
+    push(out, "(not ")?;
+    push_atom(out, name)?;
+    push(out, ")")
 }
 
 fn push_headers(out: &mut Vec<u8>, headers: &[Header]) -> Result<(), NoMemory>

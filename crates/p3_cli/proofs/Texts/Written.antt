@@ -1,12 +1,12 @@
 -- What is written for a tiny task is, but for offsets, a text of the written task.
 use Rattle.std.proofs.Common.{◌≡◌, ◌∙◌, ℕ, ◌<◌, ◌^◌, Bool, true, false, not, ◌&&◌, List, [], ◌∷◌, ◌++◌, map, length, Option, Some, None, refl, sym, ap, subst, arith}
 use Rattle.std.specs.Prelude.{◌==◌, nat_lt, if◌then◌else◌, codes, filter_map, option_map}
-use Rattle.std.specs.List.{cons_option, enumerate_from, range_with_len}
+use Rattle.std.specs.Fmt.{digits}
+use Rattle.std.specs.List.{cons_option, enumerate_from, flat_map, range_with_len}
 use Rattle.std.specs.Option.{option_map_or, option_and_then}
 use Rattle.std.proofs.lemmas.List.{map-append}
 use Rattle.std.proofs.lemmas.Bool.Decides.{nat_tests}
 use Rattle.p3_tree.specs.Erased.{erased}
-use Rattle.p3_tree.specs.Grammar.Texts.{IsBalanced}
 use Rattle.p3_tree.specs.Grammar.Words.{is_name}
 use Rattle.p3_tree.specs.Faithful.{Faithful}
 use Rattle.p3_tree.specs.Names.{Name}
@@ -15,6 +15,8 @@ use Rattle.p3_tree.proofs.OffsetLemmas.{faithful_offset_free}
 use Rattle.p3_compile.proofs.TinyReading.{OnePreference}
 use Rattle.p3_compile.proofs.TinyParts.{the_preference}
 use Rattle.p3_tree.specs.declared.effect.Effect.TheVariants as effect
+use Rattle.p3_tree.specs.declared.formula.Formula.TheVariants as formula
+use Rattle.p3_tree.specs.declared.goal.PreGoal.TheVariants as goal
 use Rattle.p3_tree.specs.declared.metric.Metric.{Metric}
 use Rattle.p3_tree.specs.declared.metric.Num.{Num, out-Num}
 use Rattle.p3_tree.specs.declared.metric.Num.TheOpen.{Num-F}
@@ -24,37 +26,62 @@ use Rattle.p3_tree.specs.declared.task.Init.{Init}
 use Rattle.p3_tree.specs.declared.task.Task.{Task}
 use Rattle.p3_compile.specs.Written as w
 use Rattle.p3_compile.specs.Written.{wished_of, weight_of, written_of}
-use Rattle.p3_cli.specs.Layout.{domain_layout, problem_layout}
+use Rattle.p3_cli.specs.Layout.{spaced, header_text, entry_text, action_text, domain_layout, problem_layout}
 use Rattle.p3_cli.specs.WrittenText.{HasText, HasFaithfulText}
-use Rattle.p3_cli.proofs.Texts.Documents.{Document, bytes, document_balanced}
+use Rattle.p3_writer.specs.Layout.{atom_text}
+use Rattle.p3_writer.specs.Texts.{IsDomainTextOf, IsProblemTextOf}
+use Rattle.p3_writer.proofs.Texts.Forms.{atom_piece}
+use Rattle.p3_writer.proofs.Texts.Halves.{atoms_text, header_trees, entry_trees, domain_tree, domain_is_text, problem_tree, problem_is_text}
+use Rattle.p3_writer.proofs.Texts.Numbers.{Number, number}
+use Rattle.p3_writer.proofs.Texts.Symbols.{Symbol}
 use Rattle.p3_lexer.proofs.WordLemmas.{IsWord}
-use Rattle.p3_cli.proofs.Texts.Symbols.{Symbol, Number, go, first_link, last_link, source, number}
-use Rattle.p3_cli.proofs.Texts.Parts.{One, Both, Change, Signed, Costs, change_tree, Act, act_tree}
-use Rattle.p3_cli.proofs.Texts.Halves.{domain_inside, problem_inside, half_document, half_at, header_trees, entry_trees, domain_tree, problem_tree, IsDomain, is_domain, IsProblem, is_problem}
-use Rattle.p3_cli.proofs.Texts.Layouts.{domain_bytes, problem_bytes}
+use Rattle.p3_cli.proofs.Texts.Symbols.{go, first_link, last_link, source}
+use Rattle.p3_cli.proofs.Texts.Parts.{One, Both, Change, Signed, Costs, change_tree, Act, act_tree, act_pieces}
 
 -- ---- any written task
 
-text_of_half : (inside : Document) (text : List ℕ) → text ≡ bytes (half_document inside) [] → IsBalanced text (half_at inside)
-text_of_half inside text same =
-    subst (λ bytes. IsBalanced bytes (half_at inside)) (sym same) (document_balanced (half_document inside) (half_at inside) refl)
+headers_text : (symbols : List Symbol) → spaced header_text (header_trees symbols) ≡ atoms_text symbols
+headers_text [] = refl
+headers_text (s ∷ symbols) = ap (λ others. (32 ∷ atom_text s.name) ++ others) (headers_text symbols)
+
+entries_text : (symbols : List Symbol) → spaced entry_text (entry_trees symbols) ≡ atoms_text symbols
+entries_text [] = refl
+entries_text (s ∷ symbols) = ap (λ others. (32 ∷ atom_text s.name) ++ others) (entries_text symbols)
 
 module _ (symbols trues : List Symbol) (acts : List Act) where
   abbrev made_task : Task
-  made_task = record { domain = domain_tree (header_trees symbols) (map act_tree acts); problem = problem_tree (entry_trees trues) }
+  made_task = record {
+    domain = domain_tree (header_trees symbols) (map act_tree acts);
+    problem = problem_tree (entry_trees trues) (w.atom (codes "e1"));
+  }
+
+  domain_made : IsDomainTextOf (domain_layout made_task.domain) made_task.domain
+  domain_made =
+      subst (λ headers. IsDomainTextOf
+      (codes "(define (domain compiled)\n(:requirements :adl :action-costs)\n(:predicates" ++ headers
+      ++ codes ")\n(:functions (total-cost) - number)\n" ++ flat_map action_text (map act_tree acts) ++ codes ")\n") made_task.domain)
+      (sym (headers_text symbols)) (domain_is_text symbols _ _ (act_pieces acts))
+
+  problem_made : IsProblemTextOf (problem_layout made_task.problem) made_task.problem
+  unfolding digits
+  problem_made =
+      rw (goal.outs-Plain, formula.outs-Atom)
+      (subst (λ entries. IsProblemTextOf
+      (codes "(define (problem compiled)\n(:domain compiled)\n(:init (= (total-cost) 0)" ++ entries
+      ++ codes ")\n(:goal " ++ codes "(e1)" ++ codes ")\n(:metric minimize (total-cost)))\n") made_task.problem)
+      (sym (entries_text trues)) (problem_is_text trues (atom_piece last_link)))
 
   made_text : HasText (domain_layout made_task.domain) (problem_layout made_task.problem) made_task
-  unfolding IsDomain IsProblem
   made_text =
-      let d = is_domain symbols acts in
-      let p = is_problem trues in (
-        record { domain = d.made; problem = p.made },
+      let d = domain_made in
+      let p = problem_made in (
+        record { domain = d.read; problem = p.read },
         record {
-          domain = half_at (domain_inside symbols acts);
-          problem = half_at (problem_inside trues);
-          domain_balanced = text_of_half (domain_inside symbols acts) _ (domain_bytes symbols acts);
-          problem_balanced = text_of_half (problem_inside trues) _ (problem_bytes trues);
-          texts = record { domain = d.found; problem = p.found };
+          domain = d.expression;
+          problem = p.expression;
+          domain_balanced = d.balanced;
+          problem_balanced = p.balanced;
+          texts = record { domain = d.is_text; problem = p.is_text };
         },
         (λ i. record { domain = d.same i; problem = p.same i }),
       )
@@ -221,7 +248,7 @@ module _ (T : Task) (one : OnePreference T) where
   made_is_written =
       (λ i. record {
         domain = domain_tree (headers_same T.domain.predicates i) (acts_same i);
-        problem = problem_tree (entries_same T.domain.predicates T.problem.init i);
+        problem = problem_tree (entries_same T.domain.predicates T.problem.init i) (w.atom (codes "e1"));
       })
       ∙ is_written
 

@@ -1,0 +1,45 @@
+-- Equations of the layout, one for each kind of form, and one for an atom more of the initial state.
+use Rattle.std.proofs.Common.{◌≡◌, ◌∙◌, ℕ, ◌+◌, ◌<◌, Bool, false, List, [], ◌∷◌, ◌++◌, length, drop, get_or, refl, sym, ap, add-one}
+use Rattle.std.specs.Prelude.{codes, slice_index_or}
+use Rattle.std.proofs.Math.Seq.{drop-cons}
+use denote.Hole.Carrier.{hidden}
+use Rattle.p3_base.specs.Words.{Name}
+use Rattle.p3_formula.specs.declared.form.Form.{Form}
+use Rattle.p3_formula.specs.declared.form.Form.TheBlock.{hidden-the_row-Form-0}
+use Rattle.p3_formula.specs.declared.form.Form.TheVariants.{True, False, Atom, Not, And, Or}
+use Rattle.p3_formula.proofs.FormLemmas.{fold_parts}
+use Rattle.p3_writer.specs.Layout.{atom_text, negated_text, spaced, form_layer, form_text, joined_text, set_atom, set_atoms}
+
+module _ (names : List Name) where
+  pub form_text-True : form_text names True ≡ codes "(and)"
+  unfolding form_text
+  form_text-True = refl
+
+  pub form_text-False : form_text names False ≡ codes "(or)"
+  unfolding form_text
+  form_text-False = refl
+
+  pub form_text-Atom : (atom : ℕ) → form_text names (Atom atom) ≡ atom_text (slice_index_or names atom [])
+  unfolding form_text
+  form_text-Atom atom = refl
+
+  pub form_text-Not : (part : Form) → form_text names (Not part) ≡ negated_text (form_text names part)
+  unfolding form_text hidden-the_row-Form-0 hidden
+  form_text-Not part = refl
+
+  pub form_text-And : (parts : List Form) → form_text names (And parts) ≡ joined_text names (codes "(and") parts
+  unfolding form_text
+  form_text-And parts = ap (λ texts. codes "(and" ++ spaced texts ++ codes ")") (fold_parts (form_layer names) parts)
+
+  pub form_text-Or : (parts : List Form) → form_text names (Or parts) ≡ joined_text names (codes "(or") parts
+  unfolding form_text
+  form_text-Or parts = ap (λ texts. codes "(or" ++ spaced texts ++ codes ")") (fold_parts (form_layer names) parts)
+
+pub ruleset text_laws = (form_text-True, form_text-False, form_text-Atom, form_text-Not, form_text-And, form_text-Or)
+
+pub set_atoms_from : (bits : List Bool) (names : List Name) (atom : ℕ) (bit : Bool) (name : Name) → atom < length bits → atom < length names
+    → bit ≡ get_or bits atom false → name ≡ get_or names atom name
+    → set_atoms (drop atom bits) (drop atom names) ≡ set_atom bit name ++ set_atoms (drop (atom + 1) bits) (drop (atom + 1) names)
+set_atoms_from bits names atom bit name within below is named =
+    (λ i. set_atoms (drop-cons bits atom false within i) (drop-cons names atom name below i))
+    ∙ (λ i. set_atoms (sym is i ∷ drop (sym (add-one atom) i) bits) (sym named i ∷ drop (sym (add-one atom) i) names))

@@ -1,0 +1,7 @@
+pub mod FineUses
+pub mod LayoutLemmas
+pub mod Texts
+pub mod WrittenForms
+pub mod WrittenPlans
+pub mod WrittenShape
+pub mod WrittenSteps

@@ -1,0 +1,10 @@
+pub mod Actions
+pub mod Atoms
+pub mod Documents
+pub mod Erasures
+pub mod Forms
+pub mod Halves
+pub mod Numbers
+pub mod Places
+pub mod Symbols
+pub mod Written

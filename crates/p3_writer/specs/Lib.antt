@@ -1,0 +1,4 @@
+pub mod Layout
+pub mod TaskOf
+pub mod Texts
+pub mod Written

@@ -1,0 +1,8 @@
+//! Targets written as PDDL: the texts of the plain task that a target is.
+#![tactic(auto)]
+
+mod laws;
+mod layout;
+
+pub use laws::targets_are_their_tasks;
+pub use layout::{write_domain, write_problem};
