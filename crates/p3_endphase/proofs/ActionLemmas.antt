@@ -5,21 +5,21 @@ use Rattle.std.proofs.Math.Bool.{and-true}
 use Rattle.std.proofs.lemmas.List.{take_more, length-take-le}
 use Rattle.p3_base.proofs.NameLemmas.{lowered_decimal}
 use Rattle.p3_formula.specs.Forms.{State, is_set, truth, has_atoms, HasAtomsOf}
+use Rattle.p3_formula.specs.Guards.{IsGuardedForm}
 use Rattle.p3_formula.specs.declared.form.Change.{Change}
 use Rattle.p3_formula.specs.declared.form.Form.{Form}
-use Rattle.p3_formula.specs.declared.form.Form.TheVariants as form
 use Rattle.p3_formula.specs.declared.target.TargetAction.{TargetAction}
-use Rattle.p3_formula.proofs.FormLemmas.{truth-And, truth-Atom, has_atoms-And, has_atoms-Atom}
 use Rattle.p3_endphase.specs.declared.phase.SoftEnd.{SoftEnd}
 use Rattle.p3_endphase.specs.Ends.{collect_name, forgo_name, moving, IsMove, IsSettled, Settles, AreActions}
 
--- the atom and the condition, one after the other
-pub made : (atom : ℕ) (condition pre : Form) (name : List ℕ) (cost : ℕ) (effects : List Change) → pre ≡ form.And (form.Atom atom ∷ condition ∷ []) → effects ≡ moving atom
+-- the atom and the condition
+pub made : (atom : ℕ) (condition pre : Form) (name : List ℕ) (cost : ℕ) (effects : List Change) → IsGuardedForm (atom ∷ []) condition pre → effects ≡ moving atom
     → IsMove atom condition (λ state. truth state condition) name cost (record { name = name; pre = pre; effects = effects; cost = cost })
-made atom condition pre name cost effects is changes = record {
+made atom condition pre name cost effects form changes = record {
   is_named = refl;
-  fits = λ state. ap (truth state) is ∙ truth-And state (form.Atom atom ∷ condition ∷ []) ∙ (λ i. truth-Atom state atom i && (truth state condition && true)) ∙ ap (λ b. is_set state atom && b) (and-true (truth state condition));
-  reads = λ allowed here within. ap (has_atoms allowed) is ∙ has_atoms-And allowed (form.Atom atom ∷ condition ∷ []) ∙ (λ i. (has_atoms-Atom allowed atom ∙ here) i && (within i && true));
+  fits = λ state. form.fits state ∙ ap (λ b. b && truth state condition) (and-true (is_set state atom));
+  tidy = form.tidy;
+  reads = λ allowed here within. form.reads allowed (λ i. here i && true) within;
   moves = changes;
   costs = refl;
 }
@@ -29,10 +29,15 @@ pub with_condition : (atom cost : ℕ) (name other : List ℕ) (form source : Fo
 with_condition atom cost name other form source condition new action same holds own move = record {
   is_named = move.is_named ∙ same;
   fits = λ state. move.fits state ∙ ap (λ test. is_set state atom && test) (holds state);
+  tidy = move.tidy;
   reads = λ allowed here within. move.reads allowed here (own allowed within);
   moves = move.moves;
   costs = move.costs;
 }
+
+-- the same of an equal condition
+pub with_same : (atom cost : ℕ) (name other : List ℕ) (form source : Form) (action : TargetAction) → name ≡ other → form ≡ source → IsMove atom form (λ state. truth state form) name cost action → IsMove atom source (λ state. truth state source) other cost action
+with_same atom cost name other form source action same is move = with_condition atom cost name other form source (λ state. truth state form) (λ state. truth state source) action same (λ state. ap (truth state) is) (λ allowed within. ap (has_atoms allowed) is ∙ within) move
 
 -- ---- names with numbers have no upper case letters
 

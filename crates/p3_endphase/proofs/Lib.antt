@@ -1,3 +1,4 @@
 pub mod MoveLemmas
 pub mod EndLemmas
 pub mod ActionLemmas
+pub mod WholeLemmas

@@ -1,12 +1,15 @@
 -- What a move makes of the bits.
-use Rattle.std.proofs.Common.{◌≡◌, ◌∙◌, ◌≢◌, ℕ, ◌+◌, ◌<◌, ◌≤◌, Bool, true, false, not, ◌&&◌, ◌||◌, List, [], ◌∷◌, length, refl, sym, ap, subst, arith}
+use Rattle.std.proofs.Common.{◌≡◌, ◌∙◌, ◌≢◌, ℕ, ◌+◌, ◌<◌, ◌≤◌, Bool, true, false, not, ◌&&◌, ◌||◌, List, [], ◌∷◌, length, refl, sym, subst, arith}
 use Rattle.std.specs.Prelude.{◌==◌, nat_lt, if◌then◌else◌}
+use Rattle.std.proofs.Math.Bool.{and-true}
+use Rattle.std.proofs.lemmas.Bool.{and_right}
 use Rattle.std.proofs.lemmas.Bool.Decides.{nat_tests}
 use Rattle.std.proofs.lemmas.List.Sums.{sum_by-cons}
 use Rattle.p3_formula.specs.Forms.{State, is_set, truth, IsBelow}
 use Rattle.p3_formula.specs.Next.{after}
 use Rattle.p3_formula.specs.declared.form.Form.{Form}
-use Rattle.p3_formula.proofs.NextLaws.{length-after, is_set-after, truth-agree}
+use Rattle.p3_formula.proofs.NextLaws.{length-after, truth-agree}
+use Rattle.p3_formula.proofs.TurnLaws.{turned_at}
 use Rattle.p3_endphase.specs.declared.phase.SoftEnd.{SoftEnd}
 use Rattle.p3_endphase.specs.Ends.{AreBelow, moving, IsSingleAt, weight_in, violation}
 
@@ -15,33 +18,21 @@ module _ (state : State) (atom : ℕ) where
   moved = after state (moving atom)
 
   -- the next atom is set, this one is cleared, and the others stay
-  abbrev bit_by : Bool → Bool → ℕ → Bool
-  bit_by next this other = if next then true else (if this then false else is_set state other)
-
-  by_cases : (this next here : Bool) → ((this && false && true) || ((next && true && true) || false) || here && not ((this && true && true) || ((next && false && true) || false))) ≡ (if next then true else (if this then false else here))
-  by_cases true true true = refl
-  by_cases true true false = refl
-  by_cases true false true = refl
-  by_cases true false false = refl
-  by_cases false true true = refl
-  by_cases false true false = refl
-  by_cases false false true = refl
-  by_cases false false false = refl
-
-  moved_bit : (other : ℕ) → other < length state → is_set moved other ≡ bit_by (atom + 1 == other) (atom == other) other
-  unfolding truth
-  moved_bit other within = is_set-after state (moving atom) other within ∙ by_cases (atom == other) (atom + 1 == other) (is_set state other)
+  moved_bit : (other : ℕ) → other < length state → is_set moved other ≡ (((atom + 1 == other) || false) || is_set state other && not ((atom == other) || false))
+  moved_bit other within = turned_at state [] (atom ∷ []) ((atom + 1) ∷ []) other within refl
 
   pub moved_next : (other : ℕ) → other < length state → other ≡ atom + 1 → is_set moved other ≡ true
-  moved_next other within is = moved_bit other within ∙ (let next : (atom + 1 == other) ≡ true = grind (arith, nat_tests) in ap (λ test. bit_by test (atom == other) other) next)
+  moved_next other within is = moved_bit other within ∙ (let next : (atom + 1 == other) ≡ true = grind (arith, nat_tests) in λ i. (next i || false) || is_set state other && not ((atom == other) || false))
 
   pub moved_here : (other : ℕ) → other < length state → other ≡ atom → is_set moved other ≡ false
   moved_here other within is = moved_bit other within
-      ∙ (let next : (atom + 1 == other) ≡ false = grind (arith, nat_tests) in let this : (atom == other) ≡ true = grind (arith, nat_tests) in λ i. bit_by (next i) (this i) other)
+      ∙ (let next : (atom + 1 == other) ≡ false = grind (arith, nat_tests) in let this : (atom == other) ≡ true = grind (arith, nat_tests) in λ i. (next i || false) || is_set state other && not (this i || false))
+      ∙ and_right (is_set state other) false refl
 
   pub moved_other : (other : ℕ) → other < length state → other ≢ atom → other ≢ atom + 1 → is_set moved other ≡ is_set state other
   moved_other other within no_this no_next = moved_bit other within
-      ∙ (let next : (atom + 1 == other) ≡ false = grind (arith, nat_tests) in let this : (atom == other) ≡ false = grind (arith, nat_tests) in λ i. bit_by (next i) (this i) other)
+      ∙ (let next : (atom + 1 == other) ≡ false = grind (arith, nat_tests) in let this : (atom == other) ≡ false = grind (arith, nat_tests) in λ i. (next i || false) || is_set state other && not (this i || false))
+      ∙ and-true (is_set state other)
 
 -- the one atom that is set goes on by a place
 pub moved_single : (first count place : ℕ) (state : State) → IsSingleAt first count place state → place + 1 < count → IsSingleAt first count (place + 1) (moved state (first + place))

@@ -1,8 +1,11 @@
 -- The end phase (Keyder and Geffner): just one of its own atoms is set, and each of its actions moves it on by one place. The first of them is the running atom, and the others are the chain.
 use Rattle.std.specs.Prelude.{◌≡◌, ◌≢◌, ℕ, ◌+◌, ◌≤◌, ◌<◌, Bool, true, false, not, ◌&&◌, List, [], ◌∷◌, ◌++◌, length, sum_by, codes, if◌then◌else◌, Contains, IsTrue}
+use Rattle.std.specs.List.{All}
 use Rattle.std.specs.Fmt.{decimal}
 use Rattle.p3_formula.specs.Forms.{State, is_set, truth, has_atoms, IsBelow}
+use Rattle.p3_formula.specs.Guards.{turned}
 use Rattle.p3_formula.specs.Next.{after}
+use Rattle.p3_formula.specs.Tidy.{is_tidy}
 use Rattle.p3_formula.specs.declared.form.Change.{Change}
 use Rattle.p3_formula.specs.declared.form.Form.{Form}
 use Rattle.p3_formula.specs.declared.form.Form.TheVariants as form
@@ -19,16 +22,17 @@ AreBelow count (instance ∷ instances) = IsBelow count instance.accept × AreBe
 
 -- the atom that is set goes to the next place
 abbrev pub moving : ℕ → List Change
-moving atom = record { cond = form.True; atom = atom; add = false } ∷ record { cond = form.True; atom = atom + 1; add = true } ∷ []
+moving atom = turned (atom ∷ []) ((atom + 1) ∷ [])
 
 -- the second form reads the atom and those of the first form, and no others
 abbrev pub ReadsWith : ℕ → Form → Form → Type 0
 ReadsWith atom source form = (allowed : ℕ → Bool) → allowed atom ≡ true → IsTrue (has_atoms allowed source) → IsTrue (has_atoms allowed form)
 
--- an action of that name and cost that fits where the atom is set and a condition holds, and reads no atoms but that one and those of a form
+-- an action of that name and cost that fits where the atom is set and a condition holds. Its precondition is tidy, and reads no atoms but that one and those of a form
 pub record IsMove (atom : ℕ) (source : Form) (condition : State → Bool) (name : List ℕ) (cost : ℕ) (action : TargetAction) : Type 0 where
   pub is_named : action.name ≡ name
   pub fits : (state : State) → truth state action.pre ≡ (is_set state atom && condition state)
+  pub tidy : IsTrue (is_tidy action.pre)
   pub reads : ReadsWith atom source action.pre
   pub moves : action.effects ≡ moving atom
   pub costs : action.cost ≡ cost
@@ -90,3 +94,26 @@ pub record HasOneEnd (phase : EndPhase) (instances : List SoftEnd) (state : Stat
   pub steps : length plan ≡ 1 + length instances
   pub cost : sum_by (λ (action : TargetAction). action.cost) plan ≡ violation state instances
   pub only : (other : List TargetAction) → Ends phase state other → other ≡ plan
+
+-- ---- where they may fit, what they change, and what they read
+
+-- the first action fits only where the running atom is set, and the others only where an atom of the chain is
+pub record IsGuarded (first count : ℕ) (actions : List TargetAction) : Type 0 where
+  pub begin : TargetAction
+  pub others : List TargetAction
+  pub are : actions ≡ begin ∷ others
+  pub needs_running : (state : State) → truth state begin.pre ≡ true → is_set state first ≡ true
+  pub need_chain : (state : State) (action : TargetAction) → Contains others action → truth state action.pre ≡ true → (place : ℕ) × (0 < place) × (place < count) × (is_set state (first + place) ≡ true)
+
+-- the change is of the phase's own atoms, whatever holds, and does not set the running atom
+pub record MovesForward (first count : ℕ) (change : Change) : Type 0 where
+  pub low : first ≤ change.atom
+  pub high : change.atom < first + count
+  pub always : change.cond ≡ form.True
+  pub forward : change.add ≡ true → first < change.atom
+
+-- the atoms of all that is to be accepted, and the phase's own, are some of those
+pub record AreAllowed (allowed : ℕ → Bool) (finish : Form) (instances : List SoftEnd) (first count : ℕ) : Type 0 where
+  pub may_finish : has_atoms allowed finish ≡ true
+  pub may_accept : All (λ (instance : SoftEnd). has_atoms allowed instance.accept ≡ true) instances
+  pub own : (place : ℕ) → place < count → allowed (first + place) ≡ true

@@ -1,14 +1,17 @@
 //! The actions of the end phase (Keyder and Geffner).
 
-ghost use Rattle.std.specs.Prelude.{◌≡◌, ◌≤◌, ◌+◌, ◌^◌, ◌-◌, codes, length, not, true, false, [], ◌∷◌, IfOk, OnOk, ◌++◌, Contains, ℕ, List, string_bytes};
+ghost use Rattle.std.specs.Prelude.{◌≡◌, ◌≤◌, ◌+◌, ◌^◌, ◌-◌, codes, length, not, true, false, [], ◌∷◌, IfOk, OnOk, ◌++◌, Contains, ℕ, Bool, List, IsTrue, string_bytes};
+ghost use Rattle.std.specs.List.{All};
 ghost use Rattle.std.specs.Str.{str_to_ascii_lowercase};
 ghost use Rattle.p3_formula.specs.Forms.{State, IsBelow, truth};
 ghost use Rattle.p3_formula.specs.Next.{after};
+ghost use Rattle.p3_formula.specs.Targets.{has_action_atoms};
+ghost use Rattle.p3_formula.specs.Tidy.{is_tidy};
 ghost use Rattle.p3_formula.specs.declared.target.TargetAction.{TargetAction};
-ghost use Rattle.p3_endphase.specs.Ends.{AreBelow, collect_name, forgo_name, IsMove, moving, IsSingleAt, IsEndPhase, Ends, HasOneEnd};
+ghost use Rattle.p3_endphase.specs.Ends.{AreBelow, collect_name, forgo_name, IsMove, IsSingleAt, IsEndPhase, Ends, HasOneEnd, IsGuarded, MovesForward, AreAllowed};
 
-use p3_base::{Boxed, List, Name, NoMemory};
-use p3_formula::{Change, Effects, Form, TargetAction, negate, simplify};
+use p3_base::{List, Name, NoMemory};
+use p3_formula::{Form, TargetAction, copied, guarded, negate, turned};
 use std::alloc::Global;
 
 /// A preference instance at the end of a plan.
@@ -54,6 +57,11 @@ pub fn end_phase(
         → truth state one.pre ≡ true → truth state other.pre ≡ true → one ≡ other) }
     ensures moves_on { IfOk result (λ phase. (state : State) (place : ℕ) → IsSingleAt first_atom phase.atoms place state → (action : TargetAction) → Contains phase.actions action → truth state action.pre ≡ true
         → IsSingleAt first_atom phase.atoms (place + 1) (after state action.effects)) }
+    // Where they may fit, what they change, and what they read.
+    ensures guarded { IfOk result (λ phase. IsGuarded first_atom phase.atoms phase.actions) }
+    ensures changes { IfOk result (λ phase. All (λ (action : TargetAction). All (MovesForward first_atom phase.atoms) action.effects) phase.actions) }
+    ensures atoms { IfOk result (λ phase. (allowed : ℕ → Bool) → AreAllowed allowed finish.now instances.now first_atom phase.atoms → All (λ (action : TargetAction). IsTrue (has_action_atoms allowed action)) phase.actions) }
+    ensures tidy { IfOk result (λ phase. All (λ (action : TargetAction). IsTrue (is_tidy action.pre)) phase.actions) }
 {
     made(alloc, finish, instances, first_atom)
 }
@@ -101,7 +109,7 @@ fn finish_action(alloc: Global, finish: &Form, first_atom: usize) -> Result<Targ
     requires { first_atom + 1 ≤ 2 ^ 64 - 1 }
     ensures { IfOk result (IsMove first_atom finish.now (λ state. truth state finish.now) (codes "finish") 0) }
 {
-    let condition = simplify(alloc, finish)?;
+    let condition = copied(alloc, finish)?;
     let name = Name::of(alloc, b"finish".as_slice())?;
     moving(alloc, name, first_atom, condition, 0)
 }
@@ -132,7 +140,7 @@ fn collect_action(
     requires { first_atom + number + 2 ≤ 2 ^ 64 - 1 }
     ensures { IfOk result (IsMove (first_atom + (number + 1)) instance.now.accept (λ state. truth state instance.now.accept) (collect_name number) 0) }
 {
-    let condition = simplify(alloc, &instance.accept)?;
+    let condition = copied(alloc, &instance.accept)?;
     let name = Name::of(alloc, collect_name(alloc, number)?.as_bytes())?;
     moving(alloc, name, first_atom + (number + 1), condition, 0)
 }
@@ -169,44 +177,12 @@ fn moving(
     requires { atom + 1 ≤ 2 ^ 64 - 1 }
     ensures { IfOk result (IsMove atom condition (λ state. truth state condition) name cost) }
 {
-    let pre = both(alloc, Form::Atom(atom), condition)?;
-    let effects = moved(alloc, atom)?;
+    let pre = guarded(alloc, [atom].as_slice(), condition)?;
+    let effects = turned(List::new(alloc), [atom].as_slice(), [atom + 1].as_slice())?;
     Ok(TargetAction {
         name,
         pre,
         effects,
         cost,
     })
-}
-
-/// Both hold.
-fn both(alloc: Global, first: Form, second: Form) -> Result<Form, NoMemory>
-    ensures { IfOk result (λ form. form ≡ Form.And (first ∷ second ∷ [])) }
-{
-    let mut parts = List::new(alloc);
-    parts.push(first)?;
-    parts.push(second)?;
-    Ok(Form::And(parts))
-}
-
-/// An atom is cleared, and the next one set.
-fn moved(alloc: Global, atom: usize) -> Result<Effects, NoMemory>
-    requires { atom + 1 ≤ 2 ^ 64 - 1 }
-    ensures { IfOk result (λ effects. effects ≡ moving atom) }
-{
-    let mut effects = List::new(alloc);
-    effects.push(change(atom, false))?;
-    effects.push(change(atom + 1, true))?;
-    Ok(effects)
-}
-
-/// An atom is set or cleared, whatever holds.
-fn change(atom: usize, add: bool) -> Change
-    ensures { result ≡ record { cond = Form.True; atom = atom; add = add } }
-{
-    Change {
-        cond: Form::True,
-        atom,
-        add,
-    }
 }

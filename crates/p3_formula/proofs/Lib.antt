@@ -16,3 +16,4 @@ pub mod StepLaws
 pub mod GuardLaws
 pub mod TurnLaws
 pub mod WorkedLed
+pub mod WorkedCompiled

@@ -9,48 +9,48 @@ use Rattle.p3_formula.proofs.Worked.{task, target, step, finish, collect, forgo,
 
 -- ---- its actions and its states
 
-data Kind : Type 0 where
+pub data Kind : Type 0 where
   Step : Kind
   Finish : Kind
   Collect : Kind
   Forgo : Kind
 
-abbrev action_of : Kind → TargetAction
+abbrev pub action_of : Kind → TargetAction
 action_of Step = step
 action_of Finish = finish
 action_of Collect = collect
 action_of Forgo = forgo
 
-abbrev number_of : Kind → Option ℕ
+abbrev pub number_of : Kind → Option ℕ
 number_of Step = Some 0
 number_of _ = None
 
 -- a plan runs, then settles the preference, and then is at the goal
-data Stage : Type 0 where
+pub data Stage : Type 0 where
   Running : Stage
   Settling : Stage
   Settled : Stage
 
 -- the state at a stage, where the source atom is set or not
-abbrev state_at : Stage → Bool → State
+abbrev pub state_at : Stage → Bool → State
 state_at Running b = b ∷ true ∷ false ∷ false ∷ []
 state_at Settling b = b ∷ false ∷ true ∷ false ∷ []
 state_at Settled b = b ∷ false ∷ false ∷ true ∷ []
 
-abbrev fits : Kind → Stage → Bool → Bool
+abbrev pub fits : Kind → Stage → Bool → Bool
 fits Step Running b = true
 fits Finish Running b = true
 fits Collect Settling b = b && true
 fits Forgo Settling b = not b && true
 fits _ _ b = false
 
-abbrev next : Kind → Stage
+abbrev pub next : Kind → Stage
 next Step = Running
 next Finish = Settling
 next Collect = Settled
 next Forgo = Settled
 
-abbrev next_bit : Kind → Bool → Bool
+abbrev pub next_bit : Kind → Bool → Bool
 next_bit Step b = true
 next_bit _ b = b
 
@@ -63,14 +63,14 @@ kind_of action (suc (suc zero), within, is) = (Collect, is)
 kind_of action (suc (suc (suc zero)), within, is) = (Forgo, is)
 kind_of action (suc (suc (suc (suc k))), within, is) = absurd (omega (arith, within))
 
-lifts : (kind : Kind) → lifted_number task (action_of kind).name ≡ number_of kind
+pub lifts : (kind : Kind) → lifted_number task (action_of kind).name ≡ number_of kind
 unfolding computes
 lifts Step = refl
 lifts Finish = refl
 lifts Collect = refl
 lifts Forgo = refl
 
-holds : (kind : Kind) (stage : Stage) (b : Bool) → truth (state_at stage b) (action_of kind).pre ≡ fits kind stage b
+pub holds : (kind : Kind) (stage : Stage) (b : Bool) → truth (state_at stage b) (action_of kind).pre ≡ fits kind stage b
 unfolding computes
 holds Step Running b = refl
 holds Step Settling b = refl
@@ -85,7 +85,7 @@ holds Forgo Running b = refl
 holds Forgo Settling b = refl
 holds Forgo Settled b = refl
 
-moves : (kind : Kind) (stage : Stage) (b : Bool) → fits kind stage b ≡ true → after (state_at stage b) (action_of kind).effects ≡ state_at (next kind) (next_bit kind b)
+pub moves : (kind : Kind) (stage : Stage) (b : Bool) → fits kind stage b ≡ true → after (state_at stage b) (action_of kind).effects ≡ state_at (next kind) (next_bit kind b)
 unfolding computes
 moves Step Running b is = refl
 moves Step Settling b is = absurd (cc)

@@ -1,7 +1,7 @@
 -- The state after changes that are all made at once. An add wins over a delete, and every condition is read in the state before.
-use Rattle.std.specs.Prelude.{ℕ, ◌==◌, Bool, not, ◌&&◌, ◌||◌, if◌then◌else◌, List, fold, map, length, slice_set, IsTrue}
-use Rattle.std.specs.List.{list_any, list_all, range_with_len}
-use Rattle.p3_formula.specs.Forms.{State, is_set, truth, is_below}
+use Rattle.std.specs.Prelude.{ℕ, ◌==◌, Bool, not, ◌&&◌, ◌||◌, if◌then◌else◌, List, fold, map, length, slice_set}
+use Rattle.std.specs.List.{list_any, range_with_len}
+use Rattle.p3_formula.specs.Forms.{State, is_set, truth}
 use Rattle.p3_formula.specs.declared.form.Change.{Change}
 
 -- some change sets the atom, and some change clears it
@@ -16,10 +16,6 @@ is_set_after state effects atom = is_added state effects atom || is_set state at
 
 unfoldable pub after : State → List Change → State
 after state effects = map (is_set_after state effects) (range_with_len 0 (length state))
-
--- each condition's atoms are below the count
-abbrev pub HasConditionsBelow : ℕ → List Change → Type 0
-HasConditionsBelow count effects = IsTrue (list_all (λ (change : Change). is_below count change.cond) effects)
 
 -- ---- the changes made one by one, first the deletes and then the adds
 

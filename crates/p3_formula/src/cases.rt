@@ -1,7 +1,7 @@
 //! Worked forms and tables.
 
 ghost use Rattle.std.specs.Prelude.{IfOk};
-ghost use Rattle.p3_formula.specs.Next.{HasConditionsBelow};
+ghost use Rattle.p3_formula.specs.Alike.{AreConditionsBelow};
 
 use crate::{
     Bits, Change, Effects, Form, Node, Table, after, copied, effects_copied, negate, simplify,
@@ -69,7 +69,7 @@ fn bits_are_set_one_by_one(rt: HostRuntime) -> Result<(), Fail> {
 /// Atom 0 is cleared and set, and atom 1 is cleared.
 #[tactic(auto, using(crate::proofs::FormLemmas::atom_laws))]
 fn three_changes(alloc: Global) -> Result<Effects, NoMemory>
-    ensures { IfOk result (HasConditionsBelow 2) }
+    ensures { IfOk result (AreConditionsBelow 2) }
 {
     let mut effects = List::new(alloc);
     effects.push(Change::sets(0))?;

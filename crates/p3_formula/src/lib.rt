@@ -26,10 +26,10 @@ pub use copy::{change_copied, copied, effects_copied};
 pub use evaluation::eval;
 pub use form::{Change, Effects, Form};
 pub use guards::{guarded, turned};
-pub use modal::{GroundModal, GroundPref, GroundSoft};
 pub use laws::{
     alike_changes_make_the_same_state, copies_count_as_their_step, states_agree_after_changes,
 };
+pub use modal::{GroundModal, GroundPref, GroundSoft};
 pub use node::Node;
 pub use simpler::{negate, simplify};
 pub use stepping::after;

@@ -1,6 +1,7 @@
 //! The state after the changes of a step.
 
 ghost use Rattle.std.specs.Prelude.{◌≡◌, IfOk, length, slice_set};
+ghost use Rattle.p3_formula.specs.Alike.{AreConditionsBelow};
 ghost use Rattle.p3_formula.specs.Forms.{IsBelow};
 ghost use Rattle.p3_formula.specs.Next as made;
 
@@ -12,7 +13,7 @@ use std::alloc::Global;
 /// condition is read in the state before. Atoms past the state's end stay unset.
 #[tactic(auto, using(crate::proofs::StepLaws::made_one_by_one))]
 pub fn after(alloc: Global, state: &Bits, effects: &Effects) -> Result<Bits, NoMemory>
-    requires { made.HasConditionsBelow (length state.now) effects.now }
+    requires { AreConditionsBelow (length state.now) effects.now }
     ensures { IfOk result (λ next. next ≡ made.after state.now effects.now) }
 {
     let mut next = state.copied(alloc)?;
@@ -23,7 +24,7 @@ pub fn after(alloc: Global, state: &Bits, effects: &Effects) -> Result<Bits, NoM
 
 /// Makes the adds, or else the deletes, whose conditions hold in the state before.
 fn change_all(next: &mut Bits, state: &Bits, changes: &[Change], add: bool)
-    requires { made.HasConditionsBelow (length state.now) changes.now }
+    requires { AreConditionsBelow (length state.now) changes.now }
     ensures { next.new ≡ made.changed_all add state.now next.old changes.now }
 {
     for change in changes {

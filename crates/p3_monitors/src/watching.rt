@@ -8,7 +8,7 @@ ghost use Rattle.p3_formula.specs.Kept.{atom_count, accepts, is_own};
 ghost use Rattle.p3_formula.specs.Modals.{IsModalBelow, modal_nodes, touches};
 ghost use Rattle.p3_monitors.specs.KeepsOn.{HasNone, KeepsOn, AreOwn, HasConditions, HasAccept, modal_growth, condition_nodes};
 ghost use Rattle.p3_monitors.specs.Updates.{IsRegressed, IsUpdate};
-ghost use Rattle.p3_regress.specs.Answers.{Extends};
+ghost use Rattle.p3_regress.specs.Memory.{Extends};
 
 use crate::reading::reads;
 use crate::updates::{always, at_most_once, sometime, sometime_after, sometime_before};
@@ -129,7 +129,7 @@ fn before(alloc: Global, regressed: &mut Regressed, form: &Form) -> Result<Form,
 }
 
 /// The forms before the step in place of these after it.
-#[tactic(auto, using(p3_regress::proofs::AnswerLemmas::extends_trans))]
+#[tactic(auto, using(p3_regress::proofs::MemoryLemmas::extends_trans))]
 fn both_before(
     alloc: Global,
     regressed: &mut Regressed,

@@ -1,8 +1,7 @@
 -- The parts of an action, one after another.
 use Rattle.std.proofs.Common.{◌≡◌, ◌∙◌, refl, ap, ℕ, Bool, true, false, ◌&&◌, if◌then◌else◌, List, [], ◌∷◌, Option, Some, None}
 use Rattle.std.specs.Prelude.{codes}
-use Rattle.std.specs.List.{list_all}
-use Rattle.p3_tree.specs.Names.{Name, same_name, has_name}
+use Rattle.p3_tree.specs.Names.{Name, same_name}
 use Rattle.p3_tree.specs.Grammar.Words.{◌>>=◌}
 use Rattle.p3_tree.specs.Grammar.Halves.{Section, sections_named, keyword_parts, action_keywords}
 use Rattle.p3_tree.specs.declared.expression.Expression.{Expression, Group'}
@@ -10,6 +9,7 @@ use Rattle.p3_tree.specs.declared.expression.Expression.TheVariants as expressio
 use Rattle.p3_places.proofs.Runs.{run}
 use Rattle.p3_places.specs.Places.{part_word, part_once, part_forms}
 use Rattle.p3_places.proofs.Fits.{ends, run_parts, fits}
+use Rattle.p3_places.proofs.SectionFits.{are_known}
 use Rattle.p3_places.proofs.DomainFits.{body_at, parameters, preconditions, effects, all_parts_allowed, parts_fit}
 use Rattle.p3_places.specs.declared.state.Place.{Place}
 use Rattle.p3_places.specs.declared.state.Place.TheVariants as place
@@ -19,10 +19,7 @@ use Rattle.p3_places.specs.declared.state.State.{State}
 use Rattle.p3_places.specs.declared.state.State.TheVariants as state
 use Rattle.p3_places.proofs.FitLemmas.{ends_more}
 use Rattle.p3_places.proofs.Complete.{part_awaits}
-use Rattle.p3_places.proofs.SectionLemmas.{keyed, keyed_last, decide_all, unknown, free_none}
-
-abbrev are_known : List Section → Bool
-are_known sections = list_all (λ section. has_name action_keywords section.word.name) sections
+use Rattle.p3_places.proofs.SectionLemmas.{keyed, keyed_last, the_section, decide_all, unknown, once_false, free_none}
 
 -- a keyword and its body
 leads_on : Expression → List Expression → Option State → Bool
@@ -34,14 +31,11 @@ unfolding leads_on
 once_leads true seen p first later = refl
 once_leads false seen p first later = ends_more (state.Part seen p) (state.Parts seen) (slot.List p) (part_awaits seen p) first later
 
-abbrev the_section : Name → ℕ → Expression → Section
-the_section text at first = record { word = record { name = text; at = at }; behind = first ∷ [] }
-
 abbrev Later : List Expression → Option (List Section) → Type 0
 Later later sections = (seen : PartsSeen) → ends (run_parts (state.Parts seen) later) ≡ parts_fit seen sections
 
 abbrev Fitting : PartsSeen → ℕ → Expression → List Expression → List Section → Name → Option State → Type 0
-Fitting seen at first later sections text found = leads_on first later found ≡ parts_fit seen (Some (the_section text at first ∷ sections))
+Fitting seen at first later sections text found = leads_on first later found ≡ parts_fit seen (Some (the_section text at (first ∷ []) ∷ sections))
 
 on_later : (was : Bool) (seen : PartsSeen) (p : Place) (first : Expression) (later : List Expression) (sections : List Section) → Later later (Some sections)
     → leads_on first later (part_once was seen p) ≡ (if was then false else fits (slot.List p) first && parts_fit seen (Some sections))
@@ -51,30 +45,25 @@ part_fits : (seen : PartsSeen) (at : ℕ) (text : Name) (first : Expression) (la
     → Fitting seen at first later sections text (part_word seen text)
 unfolding leads_on
 part_fits seen at text first later sections same =
-    let known = are_known sections in
+    let known = are_known action_keywords sections in
     decide_all text (Fitting seen at first later sections) (part_forms seen) None (
       on_later seen.parameters (record seen { parameters = true }) place.Variables first later sections same
-          ∙ keyed seen.parameters false (body_at place.Variables) (the_section (codes ":parameters") at first) (sections_named (codes ":parameters") sections) (known ∷ []) (preconditions seen sections && effects seen sections),
+          ∙ keyed seen.parameters false (body_at place.Variables) (the_section (codes ":parameters") at (first ∷ [])) (sections_named (codes ":parameters") sections) (known ∷ []) (preconditions seen sections && effects seen sections),
       (
         on_later seen.precondition (record seen { precondition = true }) place.PreGoalOrEmpty first later sections same
-            ∙ keyed seen.precondition false (body_at place.PreGoalOrEmpty) (the_section (codes ":precondition") at first) (sections_named (codes ":precondition") sections) (known ∷ parameters seen sections ∷ []) (effects seen sections),
+            ∙ keyed seen.precondition false (body_at place.PreGoalOrEmpty) (the_section (codes ":precondition") at (first ∷ [])) (sections_named (codes ":precondition") sections) (known ∷ parameters seen sections ∷ []) (effects seen sections),
         (
           on_later seen.effect (record seen { effect = true }) place.EffectOrEmpty first later sections same
-              ∙ keyed_last seen.effect false (body_at place.EffectOrEmpty) (the_section (codes ":effect") at first) (sections_named (codes ":effect") sections) (known ∷ parameters seen sections ∷ preconditions seen sections ∷ []),
+              ∙ keyed_last seen.effect false (body_at place.EffectOrEmpty) (the_section (codes ":effect") at (first ∷ [])) (sections_named (codes ":effect") sections) (known ∷ parameters seen sections ∷ preconditions seen sections ∷ []),
           tt,
         ),
       ),
     )
-    (unknown action_keywords (all_parts_allowed seen) (the_section text at first) sections)
+    (unknown action_keywords (all_parts_allowed seen) (the_section text at (first ∷ [])) sections)
 
 -- nothing leads on where the later parts do not
-if_false : (was b : Bool) → (if was then false else b && false) ≡ false
-if_false true b = refl
-if_false false true = refl
-if_false false false = refl
-
 stops : (was : Bool) (seen : PartsSeen) (p : Place) (first : Expression) (later : List Expression) → Later later None → leads_on first later (part_once was seen p) ≡ false
-stops was seen p first later same = once_leads was seen p first later ∙ ap (λ b. if was then false else fits (slot.List p) first && b) (same seen) ∙ if_false was (fits (slot.List p) first)
+stops was seen p first later same = once_leads was seen p first later ∙ ap (λ b. if was then false else fits (slot.List p) first && b) (same seen) ∙ once_false was (fits (slot.List p) first)
 
 either_stops : (first : Expression) (later : List Expression) (b : Bool) (o u : Option State) → leads_on first later o ≡ false → leads_on first later u ≡ false → leads_on first later (if b then o else u) ≡ false
 either_stops first later true o u here there = here
@@ -88,7 +77,7 @@ part_stops seen text first later same =
     (either_stops first later (same_name (codes ":effect") text) (part_once seen.effect (record seen { effect = true }) place.EffectOrEmpty) None (stops seen.effect (record seen { effect = true }) place.EffectOrEmpty first later same) refl))
 
 one_more : (seen : PartsSeen) (at : ℕ) (text : Name) (first : Expression) (later : List Expression) (others : Option (List Section)) → Later later others
-    → leads_on first later (part_word seen text) ≡ parts_fit seen (others >>= λ rest. Some (the_section text at first ∷ rest))
+    → leads_on first later (part_word seen text) ≡ parts_fit seen (others >>= λ rest. Some (the_section text at (first ∷ []) ∷ rest))
 one_more seen at text first later None same = part_stops seen text first later same
 one_more seen at text first later (Some sections) same = part_fits seen at text first later sections same
 

@@ -9,7 +9,7 @@ use Rattle.p3_tree.specs.Grammar.Words.{◌>>=◌, choose}
 use Rattle.p3_lexer.proofs.MarkLemmas.{is_lexed}
 use Rattle.p3_places.proofs.Runs.{steps, ends_in_final, IsComplete}
 use Rattle.p3_places.specs.Places.{grammar_table, on_word, on_open, is_final, after, is_word_of, takes_word, list_of, has_all, rest_word, rest_list, type_slot, behind, may_end, in_list, in_section, head_of, head_word, section_word, once, with_list, num_slot, start, section_forms, part_forms, part_once, formula_head, goal_head, constraint_head, inner_head, num_head, init_head, rest_if, names, terms, many_of, one_of, effect_head, in_domain_section, with_domain_list, domain_once, domain_word, domain_forms, no_part}
-use Rattle.p3_places.proofs.Completion.{sample, finish, finish_head, finish_rest, shortest, is_live, missing, unless, domain_section, init_section, goal_section}
+use Rattle.p3_places.proofs.Completion.{the_seen, sample, finish, finish_head, finish_rest, shortest, is_live, missing, unless, domain_section, init_section, goal_section}
 use Rattle.p3_places.specs.declared.state.Class.{Class}
 use Rattle.p3_places.specs.declared.state.Class.TheVariants as class
 use Rattle.p3_places.specs.declared.state.Place.{Place}
@@ -164,13 +164,9 @@ rest_finishes wrap is (rest.Typed i progress.Type) outer =
 
 -- ---- sections
 
-the_seen : Bool → Bool → Bool → Bool → Bool → Bool → Bool → Seen
-the_seen domain init goal requirements objects constraints metric =
-    record { domain = domain; requirements = requirements; objects = objects; init = init; goal = goal; constraints = constraints; metric = metric }
-
 sections_by : (d i g r o c m : Bool) (outer : List State)
     → ends_in_final grammar_table outer (steps grammar_table (state.Sections (the_seen d i g r o c m) ∷ outer) (finish (state.Sections (the_seen d i g r o c m))))
-unfolding steps the_seen
+unfolding steps
 sections_by true true true r o c m outer = (refl, refl)
 sections_by true true false r o c m outer = (refl, refl)
 sections_by true false true r o c m outer = (refl, refl)
@@ -182,7 +178,7 @@ sections_by false false false r o c m outer = (refl, refl)
 
 section_by : (d i g r o c m : Bool) (outer : List State) → IsTrue (is_live (state.SectionHead (the_seen d i g r o c m)))
     → ends_in_final grammar_table outer (steps grammar_table (state.SectionHead (the_seen d i g r o c m) ∷ outer) (missing (the_seen d i g r o c m)))
-unfolding steps the_seen
+unfolding steps
 section_by false i g r o c m outer live = (refl, refl)
 section_by true false g r o c m outer live = (refl, refl)
 section_by true true false r o c m outer live = (refl, refl)
@@ -196,7 +192,7 @@ pub part_awaits : (seen : PartsSeen) (p : Place) → Awaits (state.Part seen p) 
 part_awaits seen p = record { word = λ text. refl; list = refl; then_to = λ last. refl }
 
 state_finishes : (s : State) (outer : List State) → IsTrue (is_live s) → ends_in_final grammar_table outer (steps grammar_table (s ∷ outer) (finish s))
-unfolding steps the_seen
+unfolding steps
 state_finishes (state.Parts seen) outer live = (refl, refl)
 state_finishes (state.Part seen p) outer live =
     ends_at outer (steps grammar_table (state.Part seen p ∷ outer) (shortest (slot.List p))) (state.Parts seen)
@@ -282,7 +278,6 @@ sections_words false false true = refl
 sections_words false false false = refl
 
 section_words : (d i g r o c m : Bool) → Words (missing (the_seen d i g r o c m))
-unfolding the_seen
 section_words false i g r o c m = refl
 section_words true false g r o c m = refl
 section_words true true false r o c m = refl
@@ -292,7 +287,6 @@ section_words true true true true true false m = refl
 section_words true true true true true true m = refl
 
 finish_words : (s : State) → Words (finish s)
-unfolding the_seen
 finish_words (state.Parts seen) = refl
 finish_words (state.Part seen p) = shortest_words (slot.List p)
 finish_words (state.Head p) = head_words p

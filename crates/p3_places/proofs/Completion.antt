@@ -92,6 +92,10 @@ finish_rest (rest.Named p) = shortest (slot.List p)
 finish_rest (rest.Typed i progress.Type) = shortest (type_slot i)
 finish_rest _ = []
 
+abbrev pub the_seen : Bool → Bool → Bool → Bool → Bool → Bool → Bool → Seen
+the_seen domain init goal requirements objects constraints metric =
+    record { domain = domain; requirements = requirements; objects = objects; init = init; goal = goal; constraints = constraints; metric = metric }
+
 -- the first section that is missing
 abbrev pub missing : Seen → List Mark
 missing seen =

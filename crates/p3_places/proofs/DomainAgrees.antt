@@ -10,7 +10,7 @@ use Rattle.p3_tree.specs.Grammar.Lists.{variables_in, variables_place, objects_i
 use Rattle.p3_tree.specs.Grammar.Goals.{goal_or_empty_place}
 use Rattle.p3_tree.specs.Grammar.Constraints.{constraint_or_empty_place}
 use Rattle.p3_tree.specs.Grammar.Effects.{effect_or_empty_place}
-use Rattle.p3_tree.specs.Grammar.Halves.{Section, Half, sections_named, sections_among, optional, body_at, part_at, requirements, no_constraints, keyword_parts, action_keywords, action_in, all_actions, kind_item, kinds_in, header_in, header_place, predicates_in, functions_in, domain_keywords, domain_place}
+use Rattle.p3_tree.specs.Grammar.Halves.{Section, NamedSections, sections_named, sections_among, optional, body_at, part_at, requirements, no_constraints, keyword_parts, action_keywords, action_in, all_actions, kind_item, kinds_in, header_in, header_place, predicates_in, functions_in, domain_keywords, domain_place}
 use Rattle.p3_tree.specs.declared.expression.Expression.{Expression, Group'}
 use Rattle.p3_tree.specs.declared.expression.Expression.TheVariants as expression
 use Rattle.p3_tree.specs.declared.effect.Effect.TheVariants as effect
@@ -34,11 +34,11 @@ use Rattle.p3_places.specs.declared.state.Progress.TheVariants as progress
 use Rattle.p3_places.specs.declared.state.Rest.TheVariants as rest
 use Rattle.p3_places.specs.declared.state.DomainKeyword.TheVariants as domain
 use Rattle.p3_places.specs.declared.state.State.TheVariants as state
-use Rattle.p3_places.proofs.FitLemmas.{ends_one, ends_many, some_bind, some_two, name_fits, variables_fit, each_fits, list_fits, AreItems, items_go, variables_are}
+use Rattle.p3_places.proofs.FitLemmas.{if_is_some, ends_one, ends_many, some_bind, some_two, name_fits, variables_fit, each_fits, list_fits, AreItems, items_go, variables_are}
 use Rattle.p3_places.proofs.PlaceLemmas.{bind_rest, the_word}
 use Rattle.p3_places.proofs.GoalAgrees.{goal_or_empty_fits, constraint_or_empty_fits}
 use Rattle.p3_places.proofs.EffectAgrees.{effect_or_empty_fits}
-use Rattle.p3_places.proofs.HalfLemmas.{if_is_some, one_type_fits, only_fits, entry_fits, requirements_fit, optional_fits, then_fits, IsHalf, half_fits}
+use Rattle.p3_places.proofs.HalfLemmas.{one_type_fits, only_fits, entry_fits, requirements_fit, optional_fits, then_fits, IsHalf, half_fits}
 use Rattle.p3_places.proofs.ActionLemmas.{parts_run}
 use Rattle.p3_places.proofs.DomainLemmas.{domain_sections_run}
 
@@ -172,7 +172,7 @@ all_actions_fit (section ∷ sections) =
 
 -- ---- the half
 
-contents_of : Half → Option Domain
+contents_of : NamedSections → Option Domain
 contents_of half = do
   words ← optional (codes ":requirements") [] requirements half.sections
   kinds ← optional (codes ":types") [] kinds_in half.sections
@@ -183,7 +183,7 @@ contents_of half = do
   actions ← all_actions (sections_named (codes ":action") half.sections)
   Some (record { name = half.name; kinds = kinds; constants = constants; predicates = predicates; functions = functions; constraints = constraints; actions = actions })
 
-contents_fit : (half : Half) → is_some (contents_of half) ≡ domain_allowed no_domain_section half.sections
+contents_fit : (half : NamedSections) → is_some (contents_of half) ≡ domain_allowed no_domain_section half.sections
 unfolding contents_of
 contents_fit half =
     let s = half.sections in

@@ -1,9 +1,8 @@
 -- The sections of a domain, one after another.
 use Rattle.std.proofs.Common.{◌≡◌, ◌∙◌, refl, sym, ap, ℕ, Bool, true, false, ◌&&◌, if◌then◌else◌, List, [], ◌∷◌, Option, Some, None}
 use Rattle.std.specs.Prelude.{codes}
-use Rattle.std.specs.List.{list_all}
 use Rattle.p3_base.specs.Words.{is_name}
-use Rattle.p3_tree.specs.Names.{Name, same_name, has_name}
+use Rattle.p3_tree.specs.Names.{Name, same_name}
 use Rattle.p3_tree.specs.Grammar.Words.{◌>>=◌, expressions, each_at, headed}
 use Rattle.p3_tree.specs.Grammar.Halves.{Section, section_place, section_of, sections_named, domain_keywords}
 use Rattle.p3_tree.specs.declared.expression.Expression.{Expression, Group', Row_of-Expression}
@@ -11,6 +10,7 @@ use Rattle.p3_tree.specs.declared.expression.Expression.TheVariants as expressio
 use Rattle.p3_places.proofs.Runs.{run, run_row}
 use Rattle.p3_places.specs.Places.{grammar_table, is_final, after, domain_once, domain_word, domain_forms, domain_rest, with_domain_section, part_once, part_word, no_part}
 use Rattle.p3_places.proofs.Fits.{ends, run_parts}
+use Rattle.p3_places.proofs.SectionFits.{are_known}
 use Rattle.p3_places.proofs.DomainFits.{domain_body_fits, requirements, types, constants, predicates, functions, constraints, actions, action_fits, domain_allowed, domain_sections_fit}
 use Rattle.p3_places.specs.declared.state.DomainKeyword.{DomainKeyword}
 use Rattle.p3_places.specs.declared.state.DomainKeyword.TheVariants as domain
@@ -22,7 +22,7 @@ use Rattle.p3_places.specs.declared.state.State.{State}
 use Rattle.p3_places.specs.declared.state.State.TheVariants as state
 use Rattle.p3_places.proofs.FitLemmas.{run_row_parts, and_false}
 use Rattle.p3_places.proofs.Complete.{domain_section_wraps}
-use Rattle.p3_places.proofs.SectionLemmas.{section_leads, chain, chain_false, keyed, decide_all, unknown, free_none}
+use Rattle.p3_places.proofs.SectionLemmas.{section_leads, chain, chain_false, keyed, the_section, decide_all, unknown, once_false, free_none}
 
 -- ---- the states within an action
 
@@ -125,12 +125,6 @@ action_leads : (seen : DomainSeen) (parts later : List Expression) → leads_on 
 unfolding leads_on
 action_leads seen parts later = action_ends seen later (run_parts state.Action parts) (parts_stay parts state.Action tt)
 
-abbrev are_known : List Section → Bool
-are_known sections = list_all (λ section. has_name domain_keywords section.word.name) sections
-
-abbrev the_section : Name → ℕ → List Expression → Section
-the_section text at parts = record { word = record { name = text; at = at }; behind = parts }
-
 -- the later sections fit where the table takes them
 abbrev Later : List Expression → List Section → Type 0
 Later later sections = (seen : DomainSeen) → ends (run_parts (state.DomainSections seen) later) ≡ domain_sections_fit seen (Some sections)
@@ -148,7 +142,7 @@ requirements_fit : (seen : DomainSeen) (at : ℕ) (parts later : List Expression
 requirements_fit seen at parts later sections same =
     leads_with seen seen.requirements domain.Requirements parts later sections same
     ∙ keyed seen.requirements false (domain_body_fits domain.Requirements) (the_section (codes ":requirements") at parts) (sections_named (codes ":requirements") sections)
-    (are_known sections ∷ [])
+    (are_known domain_keywords sections ∷ [])
     (types seen sections && (constants seen sections && (predicates seen sections && (functions seen sections && (constraints seen sections && actions sections)))))
 
 types_fit : (seen : DomainSeen) (at : ℕ) (parts later : List Expression) (sections : List Section) → Later later sections
@@ -156,7 +150,7 @@ types_fit : (seen : DomainSeen) (at : ℕ) (parts later : List Expression) (sect
 types_fit seen at parts later sections same =
     leads_with seen seen.types domain.Types parts later sections same
     ∙ keyed seen.types false (domain_body_fits domain.Types) (the_section (codes ":types") at parts) (sections_named (codes ":types") sections)
-    (are_known sections ∷ requirements seen sections ∷ [])
+    (are_known domain_keywords sections ∷ requirements seen sections ∷ [])
     (constants seen sections && (predicates seen sections && (functions seen sections && (constraints seen sections && actions sections))))
 
 constants_fit : (seen : DomainSeen) (at : ℕ) (parts later : List Expression) (sections : List Section) → Later later sections
@@ -164,7 +158,7 @@ constants_fit : (seen : DomainSeen) (at : ℕ) (parts later : List Expression) (
 constants_fit seen at parts later sections same =
     leads_with seen seen.constants domain.Constants parts later sections same
     ∙ keyed seen.constants false (domain_body_fits domain.Constants) (the_section (codes ":constants") at parts) (sections_named (codes ":constants") sections)
-    (are_known sections ∷ requirements seen sections ∷ types seen sections ∷ [])
+    (are_known domain_keywords sections ∷ requirements seen sections ∷ types seen sections ∷ [])
     (predicates seen sections && (functions seen sections && (constraints seen sections && actions sections)))
 
 predicates_fit : (seen : DomainSeen) (at : ℕ) (parts later : List Expression) (sections : List Section) → Later later sections
@@ -172,7 +166,7 @@ predicates_fit : (seen : DomainSeen) (at : ℕ) (parts later : List Expression) 
 predicates_fit seen at parts later sections same =
     leads_with seen seen.predicates domain.Predicates parts later sections same
     ∙ keyed seen.predicates false (domain_body_fits domain.Predicates) (the_section (codes ":predicates") at parts) (sections_named (codes ":predicates") sections)
-    (are_known sections ∷ requirements seen sections ∷ types seen sections ∷ constants seen sections ∷ [])
+    (are_known domain_keywords sections ∷ requirements seen sections ∷ types seen sections ∷ constants seen sections ∷ [])
     (functions seen sections && (constraints seen sections && actions sections))
 
 functions_fit : (seen : DomainSeen) (at : ℕ) (parts later : List Expression) (sections : List Section) → Later later sections
@@ -180,7 +174,7 @@ functions_fit : (seen : DomainSeen) (at : ℕ) (parts later : List Expression) (
 functions_fit seen at parts later sections same =
     leads_with seen seen.functions domain.Functions parts later sections same
     ∙ keyed seen.functions false (domain_body_fits domain.Functions) (the_section (codes ":functions") at parts) (sections_named (codes ":functions") sections)
-    (are_known sections ∷ requirements seen sections ∷ types seen sections ∷ constants seen sections ∷ predicates seen sections ∷ [])
+    (are_known domain_keywords sections ∷ requirements seen sections ∷ types seen sections ∷ constants seen sections ∷ predicates seen sections ∷ [])
     (constraints seen sections && actions sections)
 
 constraints_fit : (seen : DomainSeen) (at : ℕ) (parts later : List Expression) (sections : List Section) → Later later sections
@@ -188,7 +182,7 @@ constraints_fit : (seen : DomainSeen) (at : ℕ) (parts later : List Expression)
 constraints_fit seen at parts later sections same =
     leads_with seen seen.constraints domain.Constraints parts later sections same
     ∙ keyed seen.constraints false (domain_body_fits domain.Constraints) (the_section (codes ":constraints") at parts) (sections_named (codes ":constraints") sections)
-    (are_known sections ∷ requirements seen sections ∷ types seen sections ∷ constants seen sections ∷ predicates seen sections ∷ functions seen sections ∷ [])
+    (are_known domain_keywords sections ∷ requirements seen sections ∷ types seen sections ∷ constants seen sections ∷ predicates seen sections ∷ functions seen sections ∷ [])
     (actions sections)
 
 -- the last of a chain
@@ -200,7 +194,7 @@ action_fit : (seen : DomainSeen) (at : ℕ) (parts later : List Expression) (sec
     → Fitting seen at parts later sections (codes ":action") (Some state.Action)
 action_fit seen at parts later sections same =
     action_leads seen parts later ∙ ap (λ b. action_fits (the_section (codes ":action") at parts) && b) (same seen)
-    ∙ pull_last (are_known sections ∷ requirements seen sections ∷ types seen sections ∷ constants seen sections ∷ predicates seen sections ∷ functions seen sections ∷ constraints seen sections ∷ [])
+    ∙ pull_last (are_known domain_keywords sections ∷ requirements seen sections ∷ types seen sections ∷ constants seen sections ∷ predicates seen sections ∷ functions seen sections ∷ constraints seen sections ∷ [])
     (action_fits (the_section (codes ":action") at parts)) (actions sections)
 
 section_fits : (seen : DomainSeen) (at : ℕ) (text : Name) (parts later : List Expression) (sections : List Section) → Later later sections
@@ -253,10 +247,6 @@ section_row seen row later =
 -- nothing leads on where the later sections do not
 abbrev Nowhere : List Expression → Type 0
 Nowhere later = (other : DomainSeen) → ends (run_parts (state.DomainSections other) later) ≡ false
-
-once_false : (was b : Bool) → (if was then false else b && false) ≡ false
-once_false true b = refl
-once_false false b = and_false b
 
 once_stops : (seen : DomainSeen) (was : Bool) (k : DomainKeyword) (parts later : List Expression) → Nowhere later → leads_on seen parts later (domain_once was k) ≡ false
 once_stops seen was k parts later nowhere =

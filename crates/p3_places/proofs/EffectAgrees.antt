@@ -6,7 +6,7 @@ use Rattle.std.specs.Option.{option_or}
 use mathlib.Core.Former.{Count}
 use Rattle.p3_base.specs.Words.{is_predicate_name, is_function_name}
 use Rattle.p3_tree.specs.Names.{Name, same_name, total_cost, is_empty}
-use Rattle.p3_tree.specs.Grammar.Words.{◌>>=◌, Part, raws, descend, descend_parts, expressions, only, pair, parts_place, is_decimal, is_word, each_at, all_trees}
+use Rattle.p3_tree.specs.Grammar.Words.{◌>>=◌, ListPart, raws, descend, descend_parts, expressions, only, pair, parts_place, is_decimal, is_word, each_at, all_trees}
 use Rattle.p3_tree.specs.Grammar.Lists.{term_place, variables_place}
 use Rattle.p3_tree.specs.Grammar.Formulas.{formula_place, atom_in, AtomText}
 use Rattle.p3_tree.specs.Grammar.Effects.{Found, Parts, function_value_in, amount_place, total_cost_place, all_form, each_form, when_form, delete_form, increase_form, effect_forms, add_form, effect_in, effect_place, effect_or_empty_place}
@@ -26,10 +26,10 @@ use Rattle.p3_places.specs.declared.state.Slot.{Slot}
 use Rattle.p3_places.specs.declared.state.Slot.TheVariants as slot
 use Rattle.p3_places.specs.declared.state.Rest.TheVariants as rest
 use Rattle.p3_places.specs.declared.state.State.TheVariants as state
-use Rattle.p3_places.proofs.FitLemmas.{nothing_more, ends_two, ends_many, choose_alike, some_bind, some_two, some_all, Agree, raws_expressions, list_fits, variables_fit}
+use Rattle.p3_places.proofs.FitLemmas.{if_is_some, nothing_more, ends_two, ends_many, choose_alike, some_bind, some_two, some_all, Agree, raws_expressions, list_fits, variables_fit}
 use Rattle.p3_places.proofs.FormulaAgrees.{formula_fits, named, terms_fit}
 use Rattle.p3_places.proofs.PlaceLemmas.{Same, bind_rest, the_word}
-use Rattle.p3_places.proofs.HalfLemmas.{the_numeral, if_is_some, only_fits, two_fit}
+use Rattle.p3_places.proofs.HalfLemmas.{the_numeral, only_fits, two_fit}
 
 -- ---- atoms, and values of functions
 
@@ -119,14 +119,14 @@ effect_slot free = slot.List (place.Effect free)
 abbrev has : Bool → Found → Bool
 has free found = is_some (found free)
 
-trees_agree : (free : Bool) (parts : Parts) → Agree (has free) (effect_slot free) parts → list_all is_some (map (λ (part : Part Found). part.tree free) parts) ≡ list_all (fits (effect_slot free)) (raws parts)
+trees_agree : (free : Bool) (parts : Parts) → Agree (has free) (effect_slot free) parts → list_all is_some (map (λ (part : ListPart Found). part.tree free) parts) ≡ list_all (fits (effect_slot free)) (raws parts)
 trees_agree free [] agree = refl
 trees_agree free (part ∷ parts) agree =
-    ap (λ b. b && list_all is_some (map (λ (part : Part Found). part.tree free) parts)) agree.0 ∙ ap (λ b. fits (effect_slot free) part.raw && b) (trees_agree free parts agree.1)
+    ap (λ b. b && list_all is_some (map (λ (part : ListPart Found). part.tree free) parts)) agree.0 ∙ ap (λ b. fits (effect_slot free) part.raw && b) (trees_agree free parts agree.1)
 
 all_fits : (free : Bool) (behind : Parts) → Agree (has free) (effect_slot free) behind → Same (raws behind) (all_form behind free) (Some (rest.Many (effect_slot free)))
 all_fits free behind agree =
-    some_bind (all_trees (map (λ (part : Part Found). part.tree free) behind)) effect.All ∙ some_all (map (λ (part : Part Found). part.tree free) behind)
+    some_bind (all_trees (map (λ (part : ListPart Found). part.tree free) behind)) effect.All ∙ some_all (map (λ (part : ListPart Found). part.tree free) behind)
     ∙ trees_agree free behind agree ∙ sym (ends_many (effect_slot free) (raws behind))
 
 each_fits : (free : Bool) (behind : Parts) → Agree (has false) (effect_slot false) behind → Same (raws behind) (each_form behind free) (Some (rest.Two (slot.List place.Variables) (effect_slot false)))

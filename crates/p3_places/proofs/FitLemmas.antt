@@ -15,7 +15,7 @@ use Rattle.std.specs.Bool.{one_answer}
 use Rattle.std.proofs.lemmas.Slice.Eq.{bytes_eq-Decides}
 use mathlib.Core.Former.{Count}
 use Rattle.p3_tree.specs.Names.{Name, same_name, is_empty}
-use Rattle.p3_tree.specs.Grammar.Words.{◌>>=◌, Place as Reads, choose, expressions, all_trees, each_at, Part, raws, descend_parts, name_place, variable_place}
+use Rattle.p3_tree.specs.Grammar.Words.{◌>>=◌, Place as Reads, choose, expressions, all_trees, each_at, ListPart, raws, descend_parts, name_place, variable_place}
 use Rattle.p3_tree.specs.declared.expression.Expression.{Expression, Group', Row_of-Expression, end_of-Expression, more_of-Expression}
 use Rattle.p3_tree.specs.declared.expression.Expression.TheVariants as expression
 use Rattle.p3_places.proofs.Runs.{run, run_row}
@@ -65,9 +65,6 @@ run_fits from to s awaits (Group' at shape parts) =
 pub wrapped : (b : Bool) (r : Rest) → ((if b then Some r else None) >>= λ next. Some (state.Rest next)) ≡ (if b then Some (state.Rest r) else None)
 wrapped true r = refl
 wrapped false r = refl
-
-opened : (o : Option Place) → (o >>= λ p. Some (state.Head p)) ≡ o >>= λ p. Some (state.Head p)
-opened o = refl
 
 pub one_awaits : (s : Slot) → Awaits (state.Rest (rest.One s)) s (state.Rest rest.Nothing)
 one_awaits s = record { word = λ text. wrapped (takes_word s text) rest.Nothing; list = refl; then_to = λ last. refl }
@@ -160,15 +157,15 @@ some_all [] = refl
 some_all (tree ∷ trees) = some_two tree (all_trees trees) (λ a b. a ∷ b) ∙ ap (λ b. is_some tree && b) (some_all trees)
 
 -- each part has a tree exactly where it fits
-abbrev pub Agree : {A : Type 0} (has : A → Bool) (s : Slot) → List (Part A) → Type 0
+abbrev pub Agree : {A : Type 0} (has : A → Bool) (s : Slot) → List (ListPart A) → Type 0
 Agree has s [] = Unit {0}
 Agree has s (part ∷ parts) = (has part.tree ≡ fits s part.raw) × Agree has s parts
 
-pub agree_all : {A : Type 0} (has : A → Bool) (s : Slot) (parts : List (Part A)) → Agree has s parts → list_all has (map (λ part. part.tree) parts) ≡ list_all (fits s) (raws parts)
+pub agree_all : {A : Type 0} (has : A → Bool) (s : Slot) (parts : List (ListPart A)) → Agree has s parts → list_all has (map (λ part. part.tree) parts) ≡ list_all (fits s) (raws parts)
 agree_all has s [] agree = refl
 agree_all has s (part ∷ parts) agree = ap (λ b. b && list_all has (map (λ part. part.tree) parts)) agree.0 ∙ ap (λ b. fits s part.raw && b) (agree_all has s parts agree.1)
 
-pub raws_expressions : {A : Type 0} {n : Count} (word : Expression → A) (list : Expression → List (Part A) → A) (row : Row_of-Expression n) → raws (descend_parts word list row) ≡ expressions row
+pub raws_expressions : {A : Type 0} {n : Count} (word : Expression → A) (list : Expression → List (ListPart A) → A) (row : Row_of-Expression n) → raws (descend_parts word list row) ≡ expressions row
 raws_expressions word list end_of-Expression = refl
 raws_expressions word list (more_of-Expression part rest) = ap (λ l. part ∷ l) (raws_expressions word list rest)
 
@@ -181,11 +178,7 @@ some_awaits_ends s part parts = ends_more (state.Rest (rest.Some s)) (state.Rest
 
 -- words
 
-if_some : {A B : Type 0} (b : Bool) (a : A) (f : A → B) → is_some ((if b then Some a else None) >>= λ x. Some (f x)) ≡ b
-if_some true a f = refl
-if_some false a f = refl
-
-if_is_some : {A : Type 0} (b : Bool) (a : A) → is_some (if b then Some a else None) ≡ b
+pub if_is_some : {A : Type 0} (b : Bool) (a : A) → is_some (if b then Some a else None) ≡ b
 if_is_some true a = refl
 if_is_some false a = refl
 
@@ -216,10 +209,6 @@ each_fits place s same (part ∷ parts) =
 if_alone : {A B : Type 0} (b : Bool) (a : A) (f : A → B) → is_some (option_or ((if b then Some a else None) >>= λ x. Some (f x)) None) ≡ b
 if_alone true a f = refl
 if_alone false a f = refl
-
-or_some : {A : Type 0} (o u : Option A) → is_some (option_or o u) ≡ (is_some o || is_some u)
-or_some None u = refl
-or_some (Some a) u = refl
 
 if_not_empty : (b : Bool) (parts : List Expression)
     → is_some (if b && not (is_empty parts) then each_at name_place parts else None)

@@ -4,7 +4,7 @@ use Rattle.std.specs.Prelude.{is_some}
 use mathlib.Core.Former.{Count}
 use Rattle.p3_tree.specs.Names.{Name}
 use Rattle.p3_base.specs.Words.{is_predicate_name}
-use Rattle.p3_tree.specs.Grammar.Words.{◌>>=◌, Part, raws, descend_parts, only, pair, each_at, all_trees, choose}
+use Rattle.p3_tree.specs.Grammar.Words.{◌>>=◌, ListPart, raws, descend_parts, only, pair, each_at, all_trees, choose}
 use Rattle.p3_tree.specs.Grammar.Lists.{term_place, variables_place}
 use Rattle.p3_tree.specs.Grammar.Formulas.{Parts, formula_place, formula_in, formula_forms, equal_form, atom_form, atom_in, AtomText, quantified, trees_of}
 use Rattle.p3_tree.specs.declared.expression.Expression.{Expression, Group', Row_of-Expression, end_of-Expression, more_of-Expression}
@@ -34,16 +34,16 @@ has o = is_some o
 abbrev Same : {A : Type 0} → List Expression → Option A → Option Rest → Type 0
 Same parts tree r = is_some tree ≡ ends (r >>= λ rest. run_parts (state.Rest rest) parts)
 
-all_parts : {A : Type 0} (parts : List (Part (Option Formula))) → Agree has formula_slot parts → (f : List Formula → A) → is_some (all_trees (trees_of parts) >>= λ trees. Some (f trees)) ≡ ends (run_parts (state.Rest (many_of place.Formula)) (raws parts))
+all_parts : {A : Type 0} (parts : List (ListPart (Option Formula))) → Agree has formula_slot parts → (f : List Formula → A) → is_some (all_trees (trees_of parts) >>= λ trees. Some (f trees)) ≡ ends (run_parts (state.Rest (many_of place.Formula)) (raws parts))
 all_parts parts agree f =
     some_bind (all_trees (trees_of parts)) f ∙ some_all (trees_of parts) ∙ agree_all has formula_slot parts agree ∙ sym (ends_many formula_slot (raws parts))
 
-one_part : {A : Type 0} (parts : List (Part (Option Formula))) → Agree has formula_slot parts → (f : Formula → A) → is_some (only (trees_of parts) >>= λ part. part >>= λ tree. Some (f tree)) ≡ fits_one (fits formula_slot) (raws parts)
+one_part : {A : Type 0} (parts : List (ListPart (Option Formula))) → Agree has formula_slot parts → (f : Formula → A) → is_some (only (trees_of parts) >>= λ part. part >>= λ tree. Some (f tree)) ≡ fits_one (fits formula_slot) (raws parts)
 one_part [] agree f = refl
 one_part (part ∷ []) agree f = some_bind part.tree f ∙ agree.0
 one_part (part ∷ other ∷ parts) agree f = refl
 
-two_parts : {A : Type 0} (parts : List (Part (Option Formula))) → Agree has formula_slot parts → (f : Formula → Formula → A)
+two_parts : {A : Type 0} (parts : List (ListPart (Option Formula))) → Agree has formula_slot parts → (f : Formula → Formula → A)
     → is_some (pair (trees_of parts) >>= λ both. both.0 >>= λ first. both.1 >>= λ second. Some (f first second)) ≡ fits_two (fits formula_slot) (fits formula_slot) (raws parts)
 two_parts [] agree f = refl
 two_parts (part ∷ []) agree f = refl
@@ -51,14 +51,14 @@ two_parts (part ∷ other ∷ []) agree f =
     some_two part.tree other.tree f ∙ ap (λ b. b && is_some other.tree) agree.0 ∙ ap (λ b. fits formula_slot part.raw && b) agree.1.0
 two_parts (part ∷ other ∷ third ∷ parts) agree f = refl
 
-quantified_parts : (parts : List (Part (Option Formula))) → Agree has formula_slot parts → is_some (quantified parts) ≡ fits_two (fits (slot.List place.Variables)) (fits formula_slot) (raws parts)
+quantified_parts : (parts : List (ListPart (Option Formula))) → Agree has formula_slot parts → is_some (quantified parts) ≡ fits_two (fits (slot.List place.Variables)) (fits formula_slot) (raws parts)
 quantified_parts [] agree = refl
 quantified_parts (part ∷ []) agree = refl
 quantified_parts (part ∷ other ∷ []) agree =
     some_two (variables_place part.raw) other.tree (λ v b. (v, b)) ∙ ap (λ b. b && is_some other.tree) (variables_fit part.raw) ∙ ap (λ b. fits (slot.List place.Variables) part.raw && b) agree.1.0
 quantified_parts (part ∷ other ∷ third ∷ parts) agree = refl
 
-equal_parts : (parts : List (Part (Option Formula))) → is_some (equal_form parts) ≡ fits_two (fits (slot.Word class.Term)) (fits (slot.Word class.Term)) (raws parts)
+equal_parts : (parts : List (ListPart (Option Formula))) → is_some (equal_form parts) ≡ fits_two (fits (slot.Word class.Term)) (fits (slot.Word class.Term)) (raws parts)
 equal_parts [] = refl
 equal_parts (part ∷ []) = refl
 equal_parts (part ∷ other ∷ []) =
@@ -74,7 +74,7 @@ named false a args f parts same = refl
 pub terms_fit : (parts : List Expression) → is_some (each_at term_place parts) ≡ ends (run_parts (state.Rest terms) parts)
 terms_fit parts = each_fits term_place (slot.Word class.Term) term_fits parts ∙ sym (ends_many (slot.Word class.Term) parts)
 
-formula_choice : (text : Name) (behind : List (Part (Option Formula))) → Agree has formula_slot behind
+formula_choice : (text : Name) (behind : List (ListPart (Option Formula))) → Agree has formula_slot behind
     → (other : Parts → Option Formula) → Same (raws behind) (other behind) (rest_if (is_predicate_name text) terms)
     → Same (raws behind) (choose text formula_forms other behind) (formula_head text)
 formula_choice text behind agree other last =
@@ -121,13 +121,13 @@ abbrev the_atom : Ref → List Term → AtomText
 the_atom pred args = record { pred = pred; args = args }
 
 -- any other word is a predicate
-atom_fits : (at : _) (text : Name) (tree : Option Formula) (behind : List (Part (Option Formula)))
+atom_fits : (at : _) (text : Name) (tree : Option Formula) (behind : List (ListPart (Option Formula)))
     → Same (raws behind) (atom_form (record { raw = expression.Word at text; tree = tree } ∷ behind)) (rest_if (is_predicate_name text) terms)
 atom_fits at text tree behind =
     some_bind (atom_in (expression.Word at text ∷ raws behind)) (λ atom. formula.Atom atom.pred atom.args)
     ∙ named (is_predicate_name text) (the_word text at) (each_at term_place (raws behind)) (λ pred args. the_atom pred args) (raws behind) (terms_fit (raws behind))
 
-formula_first : (e : Expression) (tree : Option Formula) (behind : List (Part (Option Formula))) → Agree has formula_slot behind
+formula_first : (e : Expression) (tree : Option Formula) (behind : List (ListPart (Option Formula))) → Agree has formula_slot behind
     → is_some (formula_in (record { raw = e; tree = tree } ∷ behind)) ≡ ends (run_parts (state.Head place.Formula) (e ∷ raws behind))
 unfolding run
 formula_first (expression.Word at text) tree behind agree =
@@ -135,7 +135,7 @@ formula_first (expression.Word at text) tree behind agree =
     ∙ bind_rest (formula_head text) (raws behind)
 formula_first (Group' at shape row) tree behind agree = refl
 
-formula_in_fits : (parts : List (Part (Option Formula))) → Agree has formula_slot parts → is_some (formula_in parts) ≡ ends (run_parts (state.Head place.Formula) (raws parts))
+formula_in_fits : (parts : List (ListPart (Option Formula))) → Agree has formula_slot parts → is_some (formula_in parts) ≡ ends (run_parts (state.Head place.Formula) (raws parts))
 formula_in_fits [] agree = refl
 formula_in_fits (part ∷ behind) agree = formula_first part.raw part.tree behind agree.1
 

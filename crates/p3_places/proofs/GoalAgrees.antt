@@ -2,7 +2,7 @@
 use Rattle.std.proofs.Common.{◌≡◌, ◌∙◌, refl, sym, ap, Bool, true, false, ◌&&◌, if◌then◌else◌, List, [], ◌∷◌, Option, Some, None}
 use Rattle.std.specs.Prelude.{is_some, codes}
 use Rattle.p3_tree.specs.Names.{Name, is_empty, same_name}
-use Rattle.p3_tree.specs.Grammar.Words.{◌>>=◌, Part, raws, parts_place, choose, expressions}
+use Rattle.p3_tree.specs.Grammar.Words.{◌>>=◌, ListPart, raws, parts_place, choose, expressions}
 use Rattle.p3_tree.specs.Grammar.Formulas.{formula_place}
 use Rattle.p3_tree.specs.Grammar.Goals.{goal_place, goal_in, goal_forms, plain_form, preferred, goal_or_empty_place}
 use Rattle.p3_tree.specs.Grammar.Constraints.{modal_place, modal_in, modal_forms, with_one, with_two, at_end_form, inner_place, inner_forms, constraint_in, constraint_place, constraint_or_empty_place, single_form, preference_form}
@@ -35,7 +35,7 @@ unfolding run
 plain_fits e text at behind row =
     some_bind (formula_place e) (λ tree. goal.Plain tree) ∙ formula_fits e ∙ row.fit place.Formula ∙ sym (bind_rest (formula_head text) behind)
 
-goal_first : (e first : Expression) (tree : Option PreGoal) (behind : List (Part (Option PreGoal))) → Agree has (slot.List place.PreGoal) behind → IsRow e (first ∷ raws behind)
+goal_first : (e first : Expression) (tree : Option PreGoal) (behind : List (ListPart (Option PreGoal))) → Agree has (slot.List place.PreGoal) behind → IsRow e (first ∷ raws behind)
     → is_some (goal_in e (record { raw = first; tree = tree } ∷ behind)) ≡ ends (run_parts (state.Head place.PreGoal) (first ∷ raws behind))
 unfolding run
 goal_first e (Group' at shape inner) tree behind agree row = refl
@@ -139,7 +139,7 @@ single_fits : (e : Expression) (text : Name) (at : _) (behind : List Expression)
 single_fits e text at behind is =
     some_bind (modal_place e) (λ operator. constraint.Single operator) ∙ ap (λ o. is_some (o >>= modal_in)) is ∙ modal_choice text behind
 
-inner_first : (e first : Expression) (tree : Option Constraint) (behind : List (Part (Option Constraint))) → Agree has (slot.List place.Inner) behind → IsRow e (first ∷ raws behind)
+inner_first : (e first : Expression) (tree : Option Constraint) (behind : List (ListPart (Option Constraint))) → Agree has (slot.List place.Inner) behind → IsRow e (first ∷ raws behind)
     → is_some (constraint_in inner_forms e (record { raw = first; tree = tree } ∷ behind)) ≡ ends (run_parts (state.Head place.Inner) (first ∷ raws behind))
 unfolding run
 inner_first e (Group' at shape inner) tree behind agree row = refl
@@ -157,7 +157,7 @@ pub inner_fits : (e : Expression) → is_some (inner_place e) ≡ fits (slot.Lis
 unfolding inner_place
 inner_fits = descend_fits (slot.List place.Inner) place.Inner (λ word. None) (constraint_in inner_forms) refl (λ at text. refl) inner_lists
 
-constraint_first : (e first : Expression) (tree : Option Constraint) (behind : List (Part (Option Constraint))) → Agree has (slot.List place.Constraint) behind → IsRow e (first ∷ raws behind)
+constraint_first : (e first : Expression) (tree : Option Constraint) (behind : List (ListPart (Option Constraint))) → Agree has (slot.List place.Constraint) behind → IsRow e (first ∷ raws behind)
     → is_some (constraint_in ((codes "preference", preference_form) ∷ inner_forms) e (record { raw = first; tree = tree } ∷ behind)) ≡ ends (run_parts (state.Head place.Constraint) (first ∷ raws behind))
 unfolding run
 constraint_first e (Group' at shape inner) tree behind agree row = refl

@@ -7,7 +7,7 @@ use Rattle.p3_tree.specs.Names.{Name, same_name, has_name}
 use Rattle.p3_tree.specs.Grammar.Words.{◌>>=◌, only, pair, name_place, numeral_place, digits_value, digits_of, places_of, word_if, is_word, expressions, each_at}
 use Rattle.p3_tree.specs.Grammar.Words.{Place as Reads}
 use Rattle.p3_tree.specs.Grammar.Lists.{object_place, one_type_place}
-use Rattle.p3_tree.specs.Grammar.Halves.{Section, Half, section_place, sections_among, begins_with_colon, at_most_one, or_absent, requirements, titled, half_in, half_at}
+use Rattle.p3_tree.specs.Grammar.Halves.{Section, NamedSections, section_place, sections_among, begins_with_colon, at_most_one, or_absent, requirements, titled, half_in, half_at}
 use Rattle.p3_tree.specs.declared.expression.Expression.{Expression, Group'}
 use Rattle.p3_tree.specs.declared.expression.Expression.TheVariants as expression
 use Rattle.p3_tree.specs.declared.effect.Numeral.{Numeral}
@@ -25,14 +25,10 @@ use Rattle.p3_places.specs.declared.state.Rest.{Rest}
 use Rattle.p3_places.specs.declared.state.Rest.TheVariants as rest
 use Rattle.p3_places.specs.declared.state.State.{State}
 use Rattle.p3_places.specs.declared.state.State.TheVariants as state
-use Rattle.p3_places.proofs.FitLemmas.{Awaits, run_fits, one_awaits, ends_more, ends_one, ends_two, ends_many, some_bind, some_two, name_fits, each_fits, list_fits, and_false}
+use Rattle.p3_places.proofs.FitLemmas.{if_is_some, Awaits, run_fits, one_awaits, ends_more, ends_one, ends_two, ends_many, some_bind, some_two, name_fits, each_fits, list_fits, and_false}
 use Rattle.p3_places.proofs.PlaceLemmas.{the_word}
 
 -- ---- small places
-
-pub if_is_some : {A : Type 0} (b : Bool) (a : A) → is_some (if b then Some a else None) ≡ b
-if_is_some true a = refl
-if_is_some false a = refl
 
 abbrev pub the_numeral : Ref → Numeral
 the_numeral word = record { at = word.at; len = length word.name; digits = digits_value (digits_of word.name); places = places_of word.name }
@@ -140,11 +136,11 @@ title_fits : (kind : Name) (p : Place) → IsTitle kind p → may_be_empty p ≡
 title_fits kind p head not_empty (expression.Word at text) = refl
 title_fits kind p head not_empty (Group' at shape row) = titled_parts kind p head not_empty (expressions row) ∙ sym (list_fits p row)
 
-abbrev the_half : Ref → List Section → Half
+abbrev the_half : Ref → List Section → NamedSections
 the_half name sections = record { name = name; sections = sections }
 
 -- behind the word `define`
-half_behind : {A : Type 0} (keywords : List Name) (fit : List Section → Bool) (contents : Half → Option A) → ((half : Half) → is_some (contents half) ≡ fit half.sections)
+half_behind : {A : Type 0} (keywords : List Name) (fit : List Section → Bool) (contents : NamedSections → Option A) → ((half : NamedSections) → is_some (contents half) ≡ fit half.sections)
     → (b : Bool) (word : Ref) (title : Option Ref) (list : Option (List Section))
     → is_some (((if b then Some word else None) >>= λ define. title >>= λ name. list >>= λ found. sections_among keywords found >>= λ sections. Some (the_half name sections)) >>= contents)
     ≡ (b && (is_some title && fit_among keywords fit list))
@@ -167,7 +163,7 @@ only_defined true begun no_end = no_end
 only_defined false begun no_end = refl
 
 half_parts : {A : Type 0} (kind : Name) (keywords : List Name) (fit : List Section → Bool) (p t : Place) (begun sections : State) → IsHalf kind keywords fit p t begun sections
-    → (contents : Half → Option A) → ((half : Half) → is_some (contents half) ≡ fit half.sections)
+    → (contents : NamedSections → Option A) → ((half : NamedSections) → is_some (contents half) ≡ fit half.sections)
     → (parts : List Expression) → is_some (half_in kind keywords parts >>= contents) ≡ ends (run_parts (state.Head p) parts)
 unfolding run
 half_parts kind keywords fit p t begun sections is contents same [] = sym is.not_empty
@@ -183,7 +179,7 @@ half_parts kind keywords fit p t begun sections is contents same (expression.Wor
 
 -- A HALF has a tree exactly where the table takes it.
 pub half_fits : {A : Type 0} (kind : Name) (keywords : List Name) (fit : List Section → Bool) (p t : Place) (begun sections : State) → IsHalf kind keywords fit p t begun sections
-    → (contents : Half → Option A) → ((half : Half) → is_some (contents half) ≡ fit half.sections)
+    → (contents : NamedSections → Option A) → ((half : NamedSections) → is_some (contents half) ≡ fit half.sections)
     → (e : Expression) → is_some (half_at kind keywords e >>= contents) ≡ fits (slot.List p) e
 half_fits kind keywords fit p t begun sections is contents same (expression.Word at text) = refl
 half_fits kind keywords fit p t begun sections is contents same (Group' at shape row) =

@@ -4,7 +4,7 @@ use Rattle.std.specs.Prelude.{is_some}
 use Rattle.std.specs.Option.{option_or}
 use Rattle.p3_tree.specs.Decimals.{is_decimal}
 use Rattle.p3_tree.specs.Names.{Name, is_empty, same_name, total_cost}
-use Rattle.p3_tree.specs.Grammar.Words.{◌>>=◌, Part, raws, only, name_place, all_trees}
+use Rattle.p3_tree.specs.Grammar.Words.{◌>>=◌, ListPart, raws, only, name_place, all_trees}
 use Rattle.p3_tree.specs.Grammar.Metrics.{num_place, num_in, num_word, num_forms, total_cost_form, violated_form, minus_form, minus_of}
 use Rattle.p3_tree.specs.declared.expression.Expression.{Expression, Group'}
 use Rattle.p3_tree.specs.declared.expression.Expression.TheVariants as expression
@@ -27,7 +27,7 @@ use Rattle.p3_places.proofs.PlaceLemmas.{has, Same, Lists, descend_fits, bind_re
 
 -- ---- expressions of the metric
 
-trees : List (Part (Option Num)) → List (Option Num)
+trees : List (ListPart (Option Num)) → List (Option Num)
 trees parts = map (λ part. part.tree) parts
 
 numeral_or : {A : Type 0} (b c : Bool) (word : Ref) (f : Ref → Numeral) (g : Numeral → A) (h : Ref → A)
@@ -40,11 +40,11 @@ num_words : (at : _) (text : Name) → is_some (num_word (expression.Word at tex
 num_words at text = numeral_or (is_decimal text) (same_name total_cost text) (the_word text at)
     the_numeral num.Number (λ word. num.TotalCost word.at)
 
-total_fits : (at : _) (text : Name) (behind : List (Part (Option Num))) → is_some (total_cost_form (the_word text at) behind) ≡ ends (run_parts (state.Rest rest.Nothing) (raws behind))
+total_fits : (at : _) (text : Name) (behind : List (ListPart (Option Num))) → is_some (total_cost_form (the_word text at) behind) ≡ ends (run_parts (state.Rest rest.Nothing) (raws behind))
 total_fits at text [] = refl
 total_fits at text (part ∷ behind) = sym (nothing_more part.raw (raws behind))
 
-violated_fits : (at : _) (text : Name) (behind : List (Part (Option Num))) → is_some (violated_form (the_word text at) behind) ≡ ends (run_parts (state.Rest (rest.One (slot.Word class.Name))) (raws behind))
+violated_fits : (at : _) (text : Name) (behind : List (ListPart (Option Num))) → is_some (violated_form (the_word text at) behind) ≡ ends (run_parts (state.Rest (rest.One (slot.Word class.Name))) (raws behind))
 violated_fits at text behind = by (raws behind) ∙ sym (ends_one (slot.Word class.Name) (raws behind))
   where
     by : (parts : List Expression) → is_some (only parts >>= λ e. name_place e >>= λ name. Some (num.Violated name)) ≡ fits_one (fits (slot.Word class.Name)) parts
@@ -90,14 +90,14 @@ minus_two head None b = refl
 minus_two head (Some x) None = refl
 minus_two head (Some x) (Some y) = refl
 
-minus_fits : (head : Ref) (behind : List (Part (Option Num))) → Agree has num_slot behind → is_some (minus_form head behind) ≡ ends (run_parts (state.Rest (rest.OneOrTwo num_slot)) (raws behind))
+minus_fits : (head : Ref) (behind : List (ListPart (Option Num))) → Agree has num_slot behind → is_some (minus_form head behind) ≡ ends (run_parts (state.Rest (rest.OneOrTwo num_slot)) (raws behind))
 minus_fits head behind agree = by behind agree ∙ sym (ends_one_or_two num_slot (raws behind))
   where
-    by : (behind : List (Part (Option Num))) → Agree has num_slot behind → is_some (minus_form head behind) ≡ one_or_two num_slot (raws behind)
+    by : (behind : List (ListPart (Option Num))) → Agree has num_slot behind → is_some (minus_form head behind) ≡ one_or_two num_slot (raws behind)
     by [] agree = refl
     by (a ∷ []) agree = minus_one head a.tree ∙ agree.0
     by (a ∷ b ∷ []) agree = minus_two head a.tree b.tree ∙ ap (λ x. x && is_some b.tree) agree.0 ∙ ap (λ x. fits num_slot a.raw && x) agree.1.0
-    by (a ∷ b ∷ c ∷ behind) agree = minus_many head a.tree b.tree c.tree (all_trees (map (λ (part : Part (Option Num)). part.tree) behind))
+    by (a ∷ b ∷ c ∷ behind) agree = minus_many head a.tree b.tree c.tree (all_trees (map (λ (part : ListPart (Option Num)). part.tree) behind))
 
 if_some_list : {A : Type 0} (a : Option Num) (more : Option (List Num)) (f : List Num → A)
     → is_some ((a >>= λ x. more >>= λ xs. Some (x ∷ xs)) >>= λ parts. if is_empty parts then None else Some (f parts)) ≡ (is_some a && is_some more)
@@ -105,16 +105,16 @@ if_some_list None more f = refl
 if_some_list (Some x) None f = refl
 if_some_list (Some x) (Some xs) f = refl
 
-many_fits : (f : List Num → Num) (behind : List (Part (Option Num))) → Agree has num_slot behind
-    → is_some (all_trees (map (λ (part : Part (Option Num)). part.tree) behind) >>= λ parts. if is_empty parts then None else Some (f parts)) ≡ ends (run_parts (state.Rest (rest.Some num_slot)) (raws behind))
+many_fits : (f : List Num → Num) (behind : List (ListPart (Option Num))) → Agree has num_slot behind
+    → is_some (all_trees (map (λ (part : ListPart (Option Num)). part.tree) behind) >>= λ parts. if is_empty parts then None else Some (f parts)) ≡ ends (run_parts (state.Rest (rest.Some num_slot)) (raws behind))
 many_fits f [] agree = refl
 many_fits f (part ∷ behind) agree =
     if_some_list part.tree (all_trees (map (λ part. part.tree) behind)) f
-    ∙ ap (λ b. b && is_some (all_trees (map (λ (part : Part (Option Num)). part.tree) behind))) agree.0
+    ∙ ap (λ b. b && is_some (all_trees (map (λ (part : ListPart (Option Num)). part.tree) behind))) agree.0
     ∙ ap (λ b. fits num_slot part.raw && b) (some_all (map (λ part. part.tree) behind) ∙ agree_all has num_slot behind agree.1)
     ∙ sym (some_awaits_ends num_slot part.raw (raws behind))
 
-num_first : (e first : Expression) (tree : Option Num) (behind : List (Part (Option Num))) → Agree has num_slot behind
+num_first : (e first : Expression) (tree : Option Num) (behind : List (ListPart (Option Num))) → Agree has num_slot behind
     → is_some (num_in (record { raw = first; tree = tree } ∷ behind)) ≡ ends (run_parts (state.Head place.Num) (first ∷ raws behind))
 unfolding run
 num_first e (Group' at shape inner) tree behind agree = refl

@@ -4,7 +4,7 @@ use Rattle.std.specs.Prelude.{is_some}
 use mathlib.Core.Former.{Count}
 use Rattle.p3_base.specs.Words.{is_name}
 use Rattle.p3_tree.specs.Names.{Name}
-use Rattle.p3_tree.specs.Grammar.Words.{◌>>=◌, Part, raws, descend, descend_parts, pair, parts_place, all_trees}
+use Rattle.p3_tree.specs.Grammar.Words.{◌>>=◌, ListPart, raws, descend, descend_parts, pair, parts_place, all_trees}
 use Rattle.p3_tree.specs.Grammar.Words.{Place as Reads}
 use Rattle.p3_tree.specs.Grammar.Lists.{variables_place}
 use Rattle.p3_tree.specs.Grammar.Goals.{preferred}
@@ -36,11 +36,11 @@ pub record IsRow (e : Expression) (parts : List Expression) : Type 0 where
   pub fit : (q : Place) → fits (slot.List q) e ≡ ends (run_parts (state.Head q) parts)
   pub whole : parts_place e ≡ Some parts
 
-abbrev pub Lists : {T : Type 0} → Slot → Place → (Expression → List (Part (Option T)) → Option T) → Type 0
-Lists {T = T} s p list_in = (e : Expression) (parts : List (Part (Option T))) → Agree has s parts → IsRow e (raws parts) → is_some (list_in e parts) ≡ ends (run_parts (state.Head p) (raws parts))
+abbrev pub Lists : {T : Type 0} → Slot → Place → (Expression → List (ListPart (Option T)) → Option T) → Type 0
+Lists {T = T} s p list_in = (e : Expression) (parts : List (ListPart (Option T))) → Agree has s parts → IsRow e (raws parts) → is_some (list_in e parts) ≡ ends (run_parts (state.Head p) (raws parts))
 
 mutual
-  pub descend_fits : {T : Type 0} (s : Slot) (p : Place) (word : Expression → Option T) (list_in : Expression → List (Part (Option T)) → Option T) → list_of s ≡ Some p
+  pub descend_fits : {T : Type 0} (s : Slot) (p : Place) (word : Expression → Option T) (list_in : Expression → List (ListPart (Option T)) → Option T) → list_of s ≡ Some p
       → ((at : _) (text : Name) → is_some (word (expression.Word at text)) ≡ takes_word s text) → Lists s p list_in → (e : Expression) → is_some (descend word list_in e) ≡ fits s e
   descend_fits s p word list_in is words lists (expression.Word at text) = words at text
   descend_fits s p word list_in is words lists (Group' at shape row) =
@@ -49,7 +49,7 @@ mutual
       ∙ ap (λ parts. ends (run_parts (state.Head p) parts)) (raws_expressions word list_in row)
       ∙ sym (list_fits p row) ∙ ap (λ found. row_fits found row) (sym is)
 
-  pub descend_agree : {T : Type 0} {n : Count} (s : Slot) (p : Place) (word : Expression → Option T) (list_in : Expression → List (Part (Option T)) → Option T) → list_of s ≡ Some p
+  pub descend_agree : {T : Type 0} {n : Count} (s : Slot) (p : Place) (word : Expression → Option T) (list_in : Expression → List (ListPart (Option T)) → Option T) → list_of s ≡ Some p
       → ((at : _) (text : Name) → is_some (word (expression.Word at text)) ≡ takes_word s text) → Lists s p list_in → (row : Row_of-Expression n) → Agree has s (descend_parts word list_in row)
   descend_agree s p word list_in is words lists end_of-Expression = tt
   descend_agree s p word list_in is words lists (more_of-Expression part rest) = (descend_fits s p word list_in is words lists part, descend_agree s p word list_in is words lists rest)
@@ -60,16 +60,16 @@ bind_rest (Some r) parts = refl
 
 -- ---- parts behind a word
 
-pub all_parts : {T A : Type 0} (s : Slot) (parts : List (Part (Option T))) → Agree has s parts → (f : List T → A)
-    → is_some (all_trees (map (λ (part : Part (Option T)). part.tree) parts) >>= λ trees. Some (f trees)) ≡ ends (run_parts (state.Rest (rest.Many s)) (raws parts))
+pub all_parts : {T A : Type 0} (s : Slot) (parts : List (ListPart (Option T))) → Agree has s parts → (f : List T → A)
+    → is_some (all_trees (map (λ (part : ListPart (Option T)). part.tree) parts) >>= λ trees. Some (f trees)) ≡ ends (run_parts (state.Rest (rest.Many s)) (raws parts))
 all_parts s parts agree f =
     some_bind (all_trees (map (λ part. part.tree) parts)) f ∙ some_all (map (λ part. part.tree) parts) ∙ agree_all has s parts agree ∙ sym (ends_many s (raws parts))
 
-pub each_parts : {T A : Type 0} (p : Place) (parts : List (Part (Option T))) → Agree has (slot.List p) parts → (f : List Typed → T → A)
+pub each_parts : {T A : Type 0} (p : Place) (parts : List (ListPart (Option T))) → Agree has (slot.List p) parts → (f : List Typed → T → A)
     → is_some (pair parts >>= λ both. variables_place both.0.raw >>= λ variables. both.1.tree >>= λ body. Some (f variables body)) ≡ ends (run_parts (state.Rest (quantified_rest p)) (raws parts))
 each_parts {T = T} p parts agree f = by parts agree ∙ sym (ends_two (slot.List place.Variables) (slot.List p) (raws parts))
   where
-    by : (parts : List (Part (Option T))) → Agree has (slot.List p) parts
+    by : (parts : List (ListPart (Option T))) → Agree has (slot.List p) parts
         → is_some (pair parts >>= λ both. variables_place both.0.raw >>= λ variables. both.1.tree >>= λ body. Some (f variables body)) ≡ fits_two (fits (slot.List place.Variables)) (fits (slot.List p)) (raws parts)
     by [] agree = refl
     by (part ∷ []) agree = refl

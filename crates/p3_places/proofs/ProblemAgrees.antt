@@ -10,7 +10,7 @@ use Rattle.p3_tree.specs.Grammar.Lists.{object_place, one_type_place, objects_in
 use Rattle.p3_tree.specs.Grammar.Metrics.{num_place, direction_place, metric_in}
 use Rattle.p3_tree.specs.Grammar.Goals.{goal_or_empty_place}
 use Rattle.p3_tree.specs.Grammar.Constraints.{constraint_or_empty_place}
-use Rattle.p3_tree.specs.Grammar.Halves.{Half, sections_named, problem_keywords, optional, once, body_at, part_at, requirements, no_constraints, initial_in, true_entry, false_entry, value_form, init_forms, init_in, init_place, problem_place}
+use Rattle.p3_tree.specs.Grammar.Halves.{NamedSections, sections_named, problem_keywords, optional, once, body_at, part_at, requirements, no_constraints, initial_in, true_entry, false_entry, value_form, init_forms, init_in, init_place, problem_place}
 use Rattle.p3_tree.specs.declared.expression.Expression.{Expression, Group'}
 use Rattle.p3_tree.specs.declared.expression.Expression.TheVariants as expression
 use Rattle.p3_tree.specs.declared.effect.Numeral.{Numeral}
@@ -131,7 +131,7 @@ objects_fit parts =
 metric_fits : (parts : List Expression) → is_some (metric_in parts) ≡ body_fits keyword.Metric parts
 metric_fits = two_fit (slot.Word class.Direction) num_slot direction_place num_place (λ direction body. record { direction = direction; body = body }) direction_fits num_fits
 
-contents_of : Half → Option Problem
+contents_of : NamedSections → Option Problem
 contents_of half = do
   domain ← once (codes ":domain") (body_at name_place) half.sections
   words ← optional (codes ":requirements") [] requirements half.sections
@@ -142,7 +142,7 @@ contents_of half = do
   metric ← optional (codes ":metric") None (λ section. metric_in section.behind >>= λ found. Some (Some found)) half.sections
   Some (record { name = half.name; domain = domain; objects = objects; init = entries; goal = goal; constraints = constraints; metric = metric })
 
-contents_fit : (half : Half) → is_some (contents_of half) ≡ all_allowed no_section half.sections
+contents_fit : (half : NamedSections) → is_some (contents_of half) ≡ all_allowed no_section half.sections
 unfolding contents_of
 contents_fit half =
     let s = half.sections in

@@ -50,9 +50,12 @@ all_allowed seen sections =
     && allowed false seen.metric (body_fits keyword.Metric) (sections_named (codes ":metric") sections))))))
 
 -- sections of these keywords alone
+abbrev pub are_known : List Name → List Section → Bool
+are_known keywords sections = list_all (λ section. has_name keywords section.word.name) sections
+
 abbrev pub fit_among : List Name → (List Section → Bool) → Option (List Section) → Bool
 fit_among keywords fit None = false
-fit_among keywords fit (Some sections) = list_all (λ section. has_name keywords section.word.name) sections && fit sections
+fit_among keywords fit (Some sections) = are_known keywords sections && fit sections
 
 abbrev pub sections_fit : Seen → Option (List Section) → Bool
 sections_fit seen sections = fit_among problem_keywords (all_allowed seen) sections

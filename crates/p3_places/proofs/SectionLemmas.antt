@@ -11,7 +11,8 @@ use Rattle.p3_tree.specs.declared.expression.Expression.TheVariants as expressio
 use Rattle.p3_places.proofs.Runs.{run, run_row}
 use Rattle.p3_places.specs.Places.{grammar_table, on_open, is_final, after, rest_word, rest_list, behind, may_end, once, section_word, section_forms, has_all, with_section}
 use Rattle.p3_places.proofs.Fits.{ends, run_parts}
-use Rattle.p3_places.proofs.SectionFits.{rest_of, body_fits, allowed, all_allowed, fit_among, sections_fit}
+use Rattle.p3_places.proofs.Completion.{the_seen}
+use Rattle.p3_places.proofs.SectionFits.{rest_of, body_fits, allowed, all_allowed, are_known, fit_among, sections_fit}
 use Rattle.p3_places.specs.declared.state.Keyword.{Keyword}
 use Rattle.p3_places.specs.declared.state.Keyword.TheVariants as keyword
 use Rattle.p3_places.specs.declared.state.Place.{Place}
@@ -145,17 +146,14 @@ keyed_last was needed fits section sections bs =
     ap (λ b. if was then false else fits section.behind && chain bs b) (sym (and_true (allowed needed true fits sections)))
     ∙ keyed was needed fits section sections bs true ∙ ap (chain bs) (and_true (allowed needed was fits (section ∷ sections)))
 
-abbrev are_known : List Section → Bool
-are_known sections = list_all (λ section. has_name problem_keywords section.word.name) sections
-
 abbrev domains : Seen → List Section → Bool
 domains seen sections = allowed true seen.domain (body_fits keyword.Domain) (sections_named (codes ":domain") sections)
 
-abbrev requireds : Seen → List Section → Bool
-requireds seen sections = allowed false seen.requirements (body_fits keyword.Requirements) (sections_named (codes ":requirements") sections)
+abbrev requirements : Seen → List Section → Bool
+requirements seen sections = allowed false seen.requirements (body_fits keyword.Requirements) (sections_named (codes ":requirements") sections)
 
-abbrev objectss : Seen → List Section → Bool
-objectss seen sections = allowed false seen.objects (body_fits keyword.Objects) (sections_named (codes ":objects") sections)
+abbrev objects : Seen → List Section → Bool
+objects seen sections = allowed false seen.objects (body_fits keyword.Objects) (sections_named (codes ":objects") sections)
 
 abbrev inits : Seen → List Section → Bool
 inits seen sections = allowed true seen.init (body_fits keyword.Init) (sections_named (codes ":init") sections)
@@ -163,13 +161,13 @@ inits seen sections = allowed true seen.init (body_fits keyword.Init) (sections_
 abbrev goals : Seen → List Section → Bool
 goals seen sections = allowed true seen.goal (body_fits keyword.Goal) (sections_named (codes ":goal") sections)
 
-abbrev constraintss : Seen → List Section → Bool
-constraintss seen sections = allowed false seen.constraints (body_fits keyword.Constraints) (sections_named (codes ":constraints") sections)
+abbrev constraints : Seen → List Section → Bool
+constraints seen sections = allowed false seen.constraints (body_fits keyword.Constraints) (sections_named (codes ":constraints") sections)
 
 abbrev metrics : Seen → List Section → Bool
 metrics seen sections = allowed false seen.metric (body_fits keyword.Metric) (sections_named (codes ":metric") sections)
 
-abbrev the_section : Name → ℕ → List Expression → Section
+abbrev pub the_section : Name → ℕ → List Expression → Section
 the_section text at parts = record { word = record { name = text; at = at }; behind = parts }
 
 -- the later sections fit where the table takes them
@@ -189,47 +187,47 @@ domain_fits : (seen : Seen) (at : ℕ) (parts later : List Expression) (sections
 domain_fits seen at parts later sections same =
     once_leads seen seen.domain keyword.Domain parts later ∙ on_later seen keyword.Domain parts later sections same seen.domain
     ∙ keyed seen.domain true (body_fits keyword.Domain) (the_section (codes ":domain") at parts) (sections_named (codes ":domain") sections)
-    (are_known sections ∷ [])
-    (requireds seen sections && (objectss seen sections && (inits seen sections && (goals seen sections && (constraintss seen sections && metrics seen sections)))))
+    (are_known problem_keywords sections ∷ [])
+    (requirements seen sections && (objects seen sections && (inits seen sections && (goals seen sections && (constraints seen sections && metrics seen sections)))))
 
 requirements_fits : (seen : Seen) (at : ℕ) (parts later : List Expression) (sections : List Section) → Later later sections
     → Fitting seen at parts later sections (codes ":requirements") (once seen.requirements keyword.Requirements (rest_of keyword.Requirements))
 requirements_fits seen at parts later sections same =
     once_leads seen seen.requirements keyword.Requirements parts later ∙ on_later seen keyword.Requirements parts later sections same seen.requirements
     ∙ keyed seen.requirements false (body_fits keyword.Requirements) (the_section (codes ":requirements") at parts) (sections_named (codes ":requirements") sections)
-    (are_known sections ∷ domains seen sections ∷ [])
-    (objectss seen sections && (inits seen sections && (goals seen sections && (constraintss seen sections && metrics seen sections))))
+    (are_known problem_keywords sections ∷ domains seen sections ∷ [])
+    (objects seen sections && (inits seen sections && (goals seen sections && (constraints seen sections && metrics seen sections))))
 
 objects_fits : (seen : Seen) (at : ℕ) (parts later : List Expression) (sections : List Section) → Later later sections
     → Fitting seen at parts later sections (codes ":objects") (once seen.objects keyword.Objects (rest_of keyword.Objects))
 objects_fits seen at parts later sections same =
     once_leads seen seen.objects keyword.Objects parts later ∙ on_later seen keyword.Objects parts later sections same seen.objects
     ∙ keyed seen.objects false (body_fits keyword.Objects) (the_section (codes ":objects") at parts) (sections_named (codes ":objects") sections)
-    (are_known sections ∷ domains seen sections ∷ requireds seen sections ∷ [])
-    (inits seen sections && (goals seen sections && (constraintss seen sections && metrics seen sections)))
+    (are_known problem_keywords sections ∷ domains seen sections ∷ requirements seen sections ∷ [])
+    (inits seen sections && (goals seen sections && (constraints seen sections && metrics seen sections)))
 
 init_fits : (seen : Seen) (at : ℕ) (parts later : List Expression) (sections : List Section) → Later later sections
     → Fitting seen at parts later sections (codes ":init") (once seen.init keyword.Init (rest_of keyword.Init))
 init_fits seen at parts later sections same =
     once_leads seen seen.init keyword.Init parts later ∙ on_later seen keyword.Init parts later sections same seen.init
     ∙ keyed seen.init true (body_fits keyword.Init) (the_section (codes ":init") at parts) (sections_named (codes ":init") sections)
-    (are_known sections ∷ domains seen sections ∷ requireds seen sections ∷ objectss seen sections ∷ [])
-    (goals seen sections && (constraintss seen sections && metrics seen sections))
+    (are_known problem_keywords sections ∷ domains seen sections ∷ requirements seen sections ∷ objects seen sections ∷ [])
+    (goals seen sections && (constraints seen sections && metrics seen sections))
 
 goal_fits : (seen : Seen) (at : ℕ) (parts later : List Expression) (sections : List Section) → Later later sections
     → Fitting seen at parts later sections (codes ":goal") (once seen.goal keyword.Goal (rest_of keyword.Goal))
 goal_fits seen at parts later sections same =
     once_leads seen seen.goal keyword.Goal parts later ∙ on_later seen keyword.Goal parts later sections same seen.goal
     ∙ keyed seen.goal true (body_fits keyword.Goal) (the_section (codes ":goal") at parts) (sections_named (codes ":goal") sections)
-    (are_known sections ∷ domains seen sections ∷ requireds seen sections ∷ objectss seen sections ∷ inits seen sections ∷ [])
-    (constraintss seen sections && metrics seen sections)
+    (are_known problem_keywords sections ∷ domains seen sections ∷ requirements seen sections ∷ objects seen sections ∷ inits seen sections ∷ [])
+    (constraints seen sections && metrics seen sections)
 
 constraints_fits : (seen : Seen) (at : ℕ) (parts later : List Expression) (sections : List Section) → Later later sections
     → Fitting seen at parts later sections (codes ":constraints") (once seen.constraints keyword.Constraints (rest_of keyword.Constraints))
 constraints_fits seen at parts later sections same =
     once_leads seen seen.constraints keyword.Constraints parts later ∙ on_later seen keyword.Constraints parts later sections same seen.constraints
     ∙ keyed seen.constraints false (body_fits keyword.Constraints) (the_section (codes ":constraints") at parts) (sections_named (codes ":constraints") sections)
-    (are_known sections ∷ domains seen sections ∷ requireds seen sections ∷ objectss seen sections ∷ inits seen sections ∷ goals seen sections ∷ [])
+    (are_known problem_keywords sections ∷ domains seen sections ∷ requirements seen sections ∷ objects seen sections ∷ inits seen sections ∷ goals seen sections ∷ [])
     (metrics seen sections)
 
 metric_fits : (seen : Seen) (at : ℕ) (parts later : List Expression) (sections : List Section) → Later later sections
@@ -237,7 +235,7 @@ metric_fits : (seen : Seen) (at : ℕ) (parts later : List Expression) (sections
 metric_fits seen at parts later sections same =
     once_leads seen seen.metric keyword.Metric parts later ∙ on_later seen keyword.Metric parts later sections same seen.metric
     ∙ keyed_last seen.metric false (body_fits keyword.Metric) (the_section (codes ":metric") at parts) (sections_named (codes ":metric") sections)
-    (are_known sections ∷ domains seen sections ∷ requireds seen sections ∷ objectss seen sections ∷ inits seen sections ∷ goals seen sections ∷ constraintss seen sections ∷ [])
+    (are_known problem_keywords sections ∷ domains seen sections ∷ requirements seen sections ∷ objects seen sections ∷ inits seen sections ∷ goals seen sections ∷ constraints seen sections ∷ [])
 
 -- ---- the choice of a section
 
@@ -301,13 +299,8 @@ if_none : (b : Bool) (o u : Option State) → o ≡ None → u ≡ None → (if 
 if_none true o u first second = first
 if_none false o u first second = second
 
-the_seen : Bool → Bool → Bool → Bool → Bool → Bool → Bool → Seen
-the_seen domain init goal requirements objects constraints metric =
-    record { domain = domain; requirements = requirements; objects = objects; init = init; goal = goal; constraints = constraints; metric = metric }
-
 -- where all sections stand, no keyword may come
 none_by : (d i g r o c m : Bool) (text : Name) → has_all (the_seen d i g r o c m) ≡ true → section_word (the_seen d i g r o c m) text ≡ None
-unfolding the_seen
 none_by false i g r o c m text is = absurd cc
 none_by true false g r o c m text is = absurd cc
 none_by true true false r o c m text is = absurd cc
@@ -321,7 +314,6 @@ none_by true true true true true true true text is =
     (if_none (same_name (codes ":metric") text) None None refl refl))))))
 
 no_keyword : (seen : Seen) (text : Name) → has_all seen ≡ true → section_word seen text ≡ None
-unfolding the_seen
 no_keyword seen text is = none_by seen.domain seen.init seen.goal seen.requirements seen.objects seen.constraints seen.metric text is
 
 -- what the elements of a section make of the later sections
@@ -367,7 +359,7 @@ unfolding leads_on
 choose_stops seen parts later text [] stops = refl
 choose_stops seen parts later text (form ∷ forms) stops = if_stops seen parts later (same_name form.0 text) form.1 (choose text forms None) stops.0 (choose_stops seen parts later text forms stops.1)
 
-once_false : (was b : Bool) → (if was then false else b && false) ≡ false
+pub once_false : (was b : Bool) → (if was then false else b && false) ≡ false
 once_false true b = refl
 once_false false b = and_false b
 
@@ -418,11 +410,11 @@ join d true true i g true true is_r is_o is_c is_m = and_assoc d i g ∙ ap (λ 
 
 no_section_left : (seen : Seen) → ends (run_parts (state.Sections seen) []) ≡ sections_fit seen (Some [])
 no_section_left seen =
-    join seen.domain (requireds seen []) (objectss seen []) seen.init seen.goal (constraintss seen []) (metrics seen [])
+    join seen.domain (requirements seen []) (objects seen []) seen.init seen.goal (constraints seen []) (metrics seen [])
     (free_none seen.requirements (body_fits keyword.Requirements)) (free_none seen.objects (body_fits keyword.Objects)) (free_none seen.constraints (body_fits keyword.Constraints)) (free_none seen.metric (body_fits keyword.Metric))
-    ∙ ap (λ b. b && (requireds seen [] && (objectss seen [] && (seen.init && (seen.goal && (constraintss seen [] && metrics seen [])))))) (sym (needed_none seen.domain (body_fits keyword.Domain)))
-    ∙ ap (λ b. domains seen [] && (requireds seen [] && (objectss seen [] && (b && (seen.goal && (constraintss seen [] && metrics seen [])))))) (sym (needed_none seen.init (body_fits keyword.Init)))
-    ∙ ap (λ b. domains seen [] && (requireds seen [] && (objectss seen [] && (inits seen [] && (b && (constraintss seen [] && metrics seen [])))))) (sym (needed_none seen.goal (body_fits keyword.Goal)))
+    ∙ ap (λ b. b && (requirements seen [] && (objects seen [] && (seen.init && (seen.goal && (constraints seen [] && metrics seen [])))))) (sym (needed_none seen.domain (body_fits keyword.Domain)))
+    ∙ ap (λ b. domains seen [] && (requirements seen [] && (objects seen [] && (b && (seen.goal && (constraints seen [] && metrics seen [])))))) (sym (needed_none seen.init (body_fits keyword.Init)))
+    ∙ ap (λ b. domains seen [] && (requirements seen [] && (objects seen [] && (inits seen [] && (b && (constraints seen [] && metrics seen [])))))) (sym (needed_none seen.goal (body_fits keyword.Goal)))
 
 first_section : (seen : Seen) (parts later : List Expression) (others : Option (List Section)) → ((other : Seen) → ends (run_parts (state.Sections other) later) ≡ sections_fit other others)
     → head_leads seen parts later ≡ sections_fit seen ((headed (λ (part : Expression). part) parts >>= λ list. Some (section_of list)) >>= λ s. others >>= λ rest. Some (s ∷ rest))

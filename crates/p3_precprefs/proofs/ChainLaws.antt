@@ -1,12 +1,12 @@
 -- A chain leads from open bits back to open bits in one way.
-use Rattle.std.proofs.Common.{◌≡◌, ◌∙◌, ◌⊎◌, inl, inr, ⊎_elim, ℕ, zero, suc, ◌+◌, ◌-◌, ◌<◌, ◌≤◌, nat_lt, nat_le, Bool, true, false, not, ◌&&◌, ◌||◌, List, [], ◌∷◌, ◌++◌, length, sum_by, refl, sym, ap, subst, arith, get_or}
-use Rattle.std.specs.Prelude.{◌==◌, Contains, IsTrue, All, if◌then◌else◌}
+use Rattle.std.proofs.Common.{◌≡◌, ◌∙◌, ◌⊎◌, inl, inr, ⊎_elim, ℕ, zero, suc, ◌+◌, ◌-◌, ◌<◌, ◌≤◌, nat_lt, nat_le, Bool, true, false, not, ◌&&◌, List, [], ◌∷◌, ◌++◌, length, sum_by, refl, sym, ap, subst, arith, get_or}
+use Rattle.std.specs.Prelude.{◌==◌, Contains, All, if◌then◌else◌}
 use Rattle.std.specs.List.{list_all}
-use Rattle.std.proofs.lemmas.Bool.{and_parts, and_from, or_cases, eqb-true, leb-true, ltb-true, eq-eqb, cases_lt, true≢false, false_from_ne_true, not-true}
+use Rattle.std.proofs.lemmas.Bool.{and_parts, or_cases, eqb-true, leb-true, ltb-true, eq-eqb, cases_lt, true≢false, false_from_ne_true, not-true}
 use Rattle.std.proofs.lemmas.List.{same_lists, get_or_default}
-use Rattle.std.proofs.lemmas.List.Elements.{All-nil, All-cons, All-append, All-head, All-tail, All-contains, All-filter, Contains-get_or}
+use Rattle.std.proofs.lemmas.List.Elements.{All-head, All-tail, All-filter, Contains-get_or}
 use Rattle.std.proofs.lemmas.List.Sums.{sum_by-cons, AllPass-from_list_all}
-use Rattle.p3_formula.specs.Forms.{State, is_set, truth, has_atoms, is_below, IsBelow}
+use Rattle.p3_formula.specs.Forms.{State, is_set, truth, is_below, IsBelow}
 use Rattle.p3_formula.specs.Guards.{turned}
 use Rattle.p3_formula.specs.Next.{after}
 use Rattle.p3_formula.specs.Targets.{is_sized_change}
@@ -238,7 +238,7 @@ module _ (go first current number : ℕ) (by_name : List ℕ) (effects : List Ch
         (λ atom d within. get_or_default _ atom d false within ∙ by atom (is_own go first current atom) refl ∙ sym (get_or_default _ atom d false (let l = length-after bits (effects ++ turned ((first + question) ∷ current ∷ []) (go ∷ [])) in let m = length-after start effects in let e = elsewhere.long in omega (arith, within, l, m, e))))
       where
         low_same : (atom : ℕ) → atom < go → is_set (after bits effects) atom ≡ is_set (after start effects) atom
-        low_same = after-agree go bits start (λ a low. elsewhere.same a (low_is_other a low)) effects (let r = asking.room in omega (arith, r, behind, far)) (let r = opened.room in omega (arith, r, behind, far)) (conditions_below go effects below)
+        low_same = after-agree go bits start (λ a low. elsewhere.same a (low_is_other a low)) effects (conditions_below go effects below) (let r = asking.room in omega (arith, r, behind, far)) (let r = opened.room in omega (arith, r, behind, far))
 
         by : (atom : ℕ) (own : Bool) → is_own go first current atom ≡ own → is_set (after bits (effects ++ turned ((first + question) ∷ current ∷ []) (go ∷ []))) atom ≡ is_set (after start effects) atom
         by atom true own = own_alike _ _ (ended_open go first current behind far bits question asking effects below) effects_open atom own

@@ -1,21 +1,16 @@
 -- The actions of a chain as they are made.
-use Rattle.std.proofs.Common.{◌≡◌, ◌∙◌, ℕ, ◌+◌, ◌<◌, ◌≤◌, nat_lt, Bool, true, false, not, ◌&&◌, cond, List, [], ◌∷◌, ◌++◌, map, length, take, drop, get_or, refl, sym, ap, subst, append_assoc, length-append, take-append-drop, arith}
-use Rattle.std.specs.Prelude.{IsTrue, Result, Ok, Err, IfOk}
-use Rattle.std.specs.List.{list_all, filter}
-use Rattle.std.proofs.Math.Bool.{and-true}
-use Rattle.std.proofs.lemmas.Bool.{and_from}
-use Rattle.std.proofs.lemmas.List.{append-nil, take_more}
+use Rattle.std.proofs.Common.{◌≡◌, ◌∙◌, ℕ, ◌+◌, ◌<◌, ◌≤◌, nat_lt, Bool, true, false, ◌&&◌, cond, List, [], ◌∷◌, ◌++◌, length, take, drop, get_or, refl, sym, ap, subst, append_assoc, length-append, take-append-drop, arith}
+use Rattle.std.specs.List.{list_all}
+use Rattle.std.proofs.lemmas.List.{append-nil}
 use Rattle.std.proofs.lemmas.List.Elements.{filter_more, filter-append}
-use Rattle.std.proofs.lemmas.List.Folds.{list_all-append, list_all-map}
-use Rattle.p3_formula.specs.Forms.{State, is_set, truth, has_atoms, HasSameTruth, HasAtomsOf}
+use Rattle.p3_formula.specs.Forms.{State, is_set, truth, has_atoms}
 use Rattle.p3_formula.specs.Guards.{IsGuardedForm}
 use Rattle.p3_formula.specs.Weighted.{weight_of, weighted}
 use Rattle.p3_formula.specs.declared.form.Change.{Change}
 use Rattle.p3_formula.specs.declared.form.Form.{Form}
-use Rattle.p3_formula.specs.declared.form.Form.TheVariants.{Atom, Not, And}
 use Rattle.p3_formula.specs.declared.modal.GroundPref.{GroundPref}
 use Rattle.p3_formula.specs.declared.target.TargetAction.{TargetAction}
-use Rattle.p3_formula.proofs.FormLemmas.{truth-And, truth-Atom, truth-Not, has_atoms-And, has_atoms-Atom, has_atoms-Not}
+use Rattle.p3_formula.proofs.FormLemmas.{truth-Not, has_atoms-Not}
 use Rattle.p3_precprefs.specs.Questions.{signed, signed_form, IsLink, IsAnswer, AreAnswers, IsAsked, HasBothAnswers}
 
 -- ---- actions

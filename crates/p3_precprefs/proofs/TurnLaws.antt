@@ -1,21 +1,16 @@
 -- What the actions of a chain make of the bits.
-use Rattle.std.proofs.Common.{◌≡◌, ◌∙◌, ◌≢◌, ◌⊎◌, inl, inr, ⊎_elim, ℕ, zero, suc, ◌+◌, ◌<◌, ◌≤◌, nat_lt, nat_le, Bool, true, false, not, ◌&&◌, ◌||◌, List, [], ◌∷◌, ◌++◌, map, length, refl, sym, ap, subst, arith, leb}
+use Rattle.std.proofs.Common.{◌≡◌, ◌∙◌, inl, inr, ℕ, ◌+◌, ◌<◌, ◌≤◌, nat_le, Bool, true, false, not, ◌&&◌, ◌||◌, List, [], ◌∷◌, ◌++◌, refl, sym, ap, arith}
 use Rattle.std.specs.Prelude.{◌==◌}
-use Rattle.std.specs.List.{list_any, list_all}
-use Rattle.std.proofs.Math.Bool.{or-false, and-true}
-use Rattle.std.proofs.lemmas.Bool.{and_parts, or_parts, and_from, both_ways, cases_eq, eq-eqb, ne_eqb, eqb-true, ltb-true, leb-true, lt-leb, le-leb, cases_lt}
-use Rattle.std.proofs.lemmas.Bool.Decides.{nat_tests}
-use Rattle.std.proofs.lemmas.List.{ext_get_or}
-use Rattle.std.proofs.lemmas.List.Folds.{list_any-append}
+use Rattle.std.specs.List.{list_all}
+use Rattle.std.proofs.Math.Bool.{or-false}
+use Rattle.std.proofs.lemmas.Bool.{or_parts, and_from, both_ways, cases_eq, eq-eqb, ne_eqb, le-leb}
 use Rattle.p3_formula.specs.Guards.{turned, is_changed}
-use Rattle.p3_formula.specs.Forms.{State, is_set, truth, has_atoms}
-use Rattle.p3_formula.specs.Next.{after, is_set_after, is_added, is_deleted}
+use Rattle.p3_formula.specs.Forms.{State, is_set}
+use Rattle.p3_formula.specs.Next.{after}
 use Rattle.p3_formula.specs.Targets.{is_sized_change}
 use Rattle.p3_formula.specs.declared.form.Change.{Change}
-use Rattle.p3_formula.specs.declared.form.Form.TheVariants.{True}
-use Rattle.p3_formula.proofs.FormLemmas.{truth-True}
 use Rattle.p3_formula.proofs.TurnLaws.{is_among, turned_at, turned_other, unnamed_above}
-use Rattle.p3_formula.proofs.NextLaws.{length-after, is_set-after, is_set-beyond, is_set-unchanged, is_set_after-front, is_set_after-back, after-agree}
+use Rattle.p3_formula.proofs.NextLaws.{length-after, is_set-unchanged}
 use Rattle.p3_formula.specs.Conditions.{greatest_width}
 use Rattle.p3_precprefs.specs.Questions.{IsOpen, IsAsking, is_own}
 

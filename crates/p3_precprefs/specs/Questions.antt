@@ -1,6 +1,6 @@
 -- The chain of a wide step: an action that begins, two answers to a question for each of its weighted preferences, and an action that ends. Its own atoms are the running atom, the question atoms from the first one on, and the current atom.
-use Rattle.std.specs.Prelude.{◌≡◌, ◌⊎◌, ℕ, ◌+◌, ◌<◌, ◌≤◌, ◌==◌, nat_le, Bool, true, false, not, ◌&&◌, ◌||◌, List, [], ◌∷◌, ◌++◌, length, map, sum_by, codes, decimal, Contains, IsTrue}
-use Rattle.std.specs.List.{list_all, list_any}
+use Rattle.std.specs.Prelude.{◌≡◌, ◌⊎◌, ℕ, ◌+◌, ◌<◌, ◌≤◌, ◌==◌, nat_le, Bool, true, false, not, ◌&&◌, ◌||◌, List, [], ◌∷◌, ◌++◌, length, sum_by, codes, decimal, Contains, IsTrue}
+use Rattle.std.specs.List.{list_all}
 use Rattle.p3_base.specs.Copies.{copy_prefix}
 use Rattle.p3_base.specs.Words.{Name}
 use Rattle.p3_formula.specs.Conditions.{greatest_width}

@@ -6,7 +6,7 @@ ghost use Rattle.p3_formula.specs.Forms.{State, truth};
 ghost use Rattle.p3_formula.specs.Weighted.{AreNamedBelow, HasNameBelow, weight_of, weighted, weighted_cost};
 ghost use Rattle.p3_precprefs.specs.Copies as made;
 
-use p3_base::{Boxed, List, NoMemory};
+use p3_base::{List, NoMemory};
 use p3_formula::{Form, GroundPref, GroundStep, Weights, copied};
 use std::alloc::Global;
 
@@ -143,7 +143,7 @@ fn satisfied(alloc: Global, copy: &StepCopy, body: &Form) -> Result<StepCopy, No
     ensures { IfOk result (λ new. new ≡ made.satisfied body.now copy.now) }
 {
     let violated = entry_added(alloc, &copy.violated, false)?;
-    let pre = both(alloc, &copy.pre, copied(alloc, body)?)?;
+    let pre = Form::both(alloc, copied(alloc, &copy.pre)?, copied(alloc, body)?)?;
     let cost = copy.cost;
     Ok(StepCopy {
         violated,
@@ -158,8 +158,8 @@ fn violating(alloc: Global, copy: &StepCopy, body: &Form, weight: u64) -> Result
     ensures { IfOk result (λ new. new ≡ made.violating body.now weight copy.now) }
 {
     let violated = entry_added(alloc, &copy.violated, true)?;
-    let opposite = Form::Not(Boxed::new(alloc, copied(alloc, body)?)?);
-    let pre = both(alloc, &copy.pre, opposite)?;
+    let opposite = Form::negation(alloc, copied(alloc, body)?)?;
+    let pre = Form::both(alloc, copied(alloc, &copy.pre)?, opposite)?;
     let cost = copy.cost + weight;
     Ok(StepCopy {
         violated,
@@ -178,14 +178,4 @@ fn entry_added(alloc: Global, entries: &List<bool>, entry: bool) -> Result<List<
     }
     new.push(entry)?;
     Ok(new)
-}
-
-/// Both hold.
-fn both(alloc: Global, first: &Form, second: Form) -> Result<Form, NoMemory>
-    ensures { IfOk result (λ form. form ≡ Form.And (first.now ∷ second ∷ [])) }
-{
-    let mut parts = List::new(alloc);
-    parts.push(copied(alloc, first)?)?;
-    parts.push(second)?;
-    Ok(Form::And(parts))
 }

@@ -5,7 +5,7 @@ use Rattle.std.specs.List.{list_any, list_all}
 use Rattle.std.proofs.Math.Bool.{and-true, or-true, and_assoc, and_self}
 use Rattle.std.proofs.lemmas.Result.{on_ok_weaker}
 use Rattle.std.proofs.lemmas.List.Sums.{AllPass-from_list_all}
-use Rattle.std.proofs.lemmas.Bool.{and_parts, and_from, ltb-true}
+use Rattle.std.proofs.lemmas.Bool.{and_parts, ltb-true}
 use Rattle.std.proofs.lemmas.List.{get_or_append_left, take_all}
 use Rattle.std.proofs.lemmas.List.Folds.{list_all_more, list_any_more}
 use Rattle.p3_formula.specs.Forms.{State, is_set, IsBelow, has_atoms}
@@ -18,10 +18,9 @@ use Rattle.p3_reach.specs.Closed.{change_keeps, step_keeps}
 use Rattle.p3_reach.specs.May.{may_be, may_hold}
 use Rattle.p3_reach.specs.Models.{Says, Names, leads, IsReadBelow}
 use Rattle.p3_reach.specs.Rules.{keeps_rule}
-use Rattle.p3_reach.specs.declared.rules.Rule.{Rule}
 use Rattle.p3_reach.specs.declared.rules.Theory.{Theory}
 use Rattle.p3_reach.proofs.MayLemmas.{same_may_be}
-use Rattle.p3_reach.proofs.ModelLaws.{says_nothing, says_alike, says_both, says_of_named, names_itself, names_alike, names_next}
+use Rattle.p3_reach.proofs.ModelLaws.{says_alike, says_both, says_of_named, names_itself, names_alike, names_next}
 
 -- ---- links
 

@@ -1,8 +1,7 @@
 -- The least model gives the least closed set; and what is not in a closed set is false in every reachable state.
 use Rattle.std.proofs.Common.{◌≡◌, ◌∙◌, ℕ, zero, suc, ◌+◌, ◌<◌, ◌≤◌, nat_lt, ◌==◌, Bool, true, false, not, ◌&&◌, ◌||◌, List, [], ◌∷◌, ◌++◌, map, length, take, drop, get_or, refl, sym, ap, subst, arith}
-use Rattle.std.specs.Prelude.{Contains}
 use Rattle.std.specs.List.{list_any, list_all}
-use Rattle.std.proofs.lemmas.Bool.{and_parts, or_right, not-true, not-false, false_from_ne_true, true≢false, cases_lt}
+use Rattle.std.proofs.lemmas.Bool.{and_parts, or_right, not-true, not-false, false_from_ne_true, true≢false}
 use Rattle.std.proofs.lemmas.Bool.Decides.{nat_tests}
 use Rattle.std.proofs.lemmas.List.{get_or_append_left, get_or_at, get_or-take, get_or-map, length-take-le, length_push, take-append-drop}
 use Rattle.std.proofs.lemmas.List.Elements.{All-contains}

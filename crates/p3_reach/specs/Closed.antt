@@ -1,5 +1,5 @@
 -- Sets of atoms that are closed for a task, and the states that its steps lead to.
-use Rattle.std.specs.Prelude.{◌≡◌, ℕ, Bool, true, false, not, ◌&&◌, ◌||◌, List, length, slice_get, slice_index_or, Some, Contains, IsTrue}
+use Rattle.std.specs.Prelude.{◌≡◌, ℕ, Bool, true, false, not, ◌&&◌, ◌||◌, length, slice_get, slice_index_or, Some, Contains, IsTrue}
 use Rattle.std.specs.List.{list_all}
 use Rattle.p3_formula.specs.Forms.{State, is_set, truth}
 use Rattle.p3_formula.specs.Next.{after}

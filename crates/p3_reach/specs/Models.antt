@@ -1,5 +1,5 @@
 -- Models of theories, and what theories that grow say.
-use Rattle.std.specs.Prelude.{◌≡◌, ℕ, ◌<◌, ◌≤◌, Bool, true, false, not, ◌&&◌, ◌||◌, ◌++◌, List, length}
+use Rattle.std.specs.Prelude.{◌≡◌, ℕ, ◌<◌, ◌≤◌, Bool, true, not, ◌&&◌, ◌||◌, ◌++◌, length}
 use Rattle.std.specs.List.{list_all}
 use Rattle.p3_formula.specs.Forms.{State, is_set}
 use Rattle.p3_reach.specs.Closed.{IsWithin}

@@ -1,5 +1,5 @@
 -- Rules between propositions, and the sets of propositions that keep them.
-use Rattle.std.specs.Prelude.{◌≡◌, ℕ, nat_lt, Bool, true, false, not, ◌&&◌, ◌||◌}
+use Rattle.std.specs.Prelude.{ℕ, nat_lt, Bool, not, ◌&&◌, ◌||◌}
 use Rattle.p3_formula.specs.Forms.{State, is_set}
 use Rattle.p3_reach.specs.declared.rules.Rule.{Rule}
 

@@ -3,4 +3,4 @@ pub mod ConditionLemmas
 pub mod AtomAfter
 pub mod RegressedLaws
 pub mod SortedLemmas
-pub mod AnswerLemmas
+pub mod MemoryLemmas

@@ -1,3 +1,3 @@
 pub mod Regressed
 pub mod Sorted
-pub mod Answers
+pub mod Memory

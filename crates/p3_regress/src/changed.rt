@@ -6,7 +6,7 @@ ghost use Rattle.p3_formula.specs.Simplified.{joined, is_value};
 ghost use Rattle.p3_regress.specs.Regressed as made;
 ghost use Rattle.p3_regress.specs.Sorted.{lent};
 
-use p3_base::{Boxed, List, NoMemory};
+use p3_base::{List, NoMemory};
 use p3_formula::{Change, Form, copied};
 use std::alloc::Global;
 
@@ -71,10 +71,8 @@ fn either(mut parts: Vec<Form>) -> Form
 fn stays(alloc: Global, atom: usize, deletes: Vec<Form>) -> Result<Form, NoMemory>
     ensures { IfOk result (λ form. form ≡ made.stays atom deletes.items) }
 {
-    let mut parts = List::new(alloc);
-    parts.push(Form::Atom(atom))?;
-    parts.push(Form::Not(Boxed::new(alloc, either(deletes))?))?;
-    Ok(Form::And(parts))
+    let kept = Form::negation(alloc, either(deletes))?;
+    Form::both(alloc, Form::Atom(atom), kept)
 }
 
 /// The ways to be set after the step: by a change, or by staying so.

@@ -3,7 +3,7 @@
 ghost use Rattle.std.specs.Prelude.{◌≡◌, ◌≢◌, ◌<◌, ℕ, length, vec_len, Some, IfOk, OnOk, OnErr};
 ghost use Rattle.p3_formula.specs.Forms.{IsBelow};
 ghost use Rattle.p3_formula.specs.Nodes.{IsNodeBelow, Grows, form_of, node_form};
-ghost use Rattle.p3_regress.specs.Answers.{answer_of};
+ghost use Rattle.p3_regress.specs.Memory.{answer_of};
 
 use p3_base::{List, NoMemory};
 use p3_formula::{Form, Node, Table};
@@ -85,7 +85,7 @@ fn put(answers: &mut Vec<Option<usize>>, number: usize, before: usize) -> Result
 }
 
 /// Makes room for an answer.
-#[tactic(auto, using(crate::proofs::AnswerLemmas::wider))]
+#[tactic(auto, using(crate::proofs::MemoryLemmas::wider))]
 fn widen(answers: &mut Vec<Option<usize>>, number: usize) -> Result<(), NoMemory>
     ensures room { OnOk result (number < vec_len answers.new) }
     ensures same { (other : ℕ) → answer_of answers.new.items other ≡ answer_of answers.old.items other }

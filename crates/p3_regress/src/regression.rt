@@ -3,7 +3,7 @@
 ghost use Rattle.std.specs.Prelude.{◌≡◌, ◌≤◌, ◌<◌, ◌+◌, ℕ, length, map, [], Some, None, Ok, All, IfOk};
 ghost use Rattle.p3_formula.specs.Forms.{nodes};
 ghost use Rattle.p3_formula.specs.Nodes.{IsNodeBelow, form_of, node_form};
-ghost use Rattle.p3_regress.specs.Answers.{answer_of, AreRight, GoesOn, Extends, AnswersAgain};
+ghost use Rattle.p3_regress.specs.Memory.{answer_of, AreRight, GoesOn, Extends, AnswersAgain};
 ghost use Rattle.p3_regress.specs.Regressed.{IsTrueBefore, IsUntouched, HasAtomsOfBoth, growth};
 ghost use Rattle.p3_regress.specs.Regressed as made;
 ghost use Rattle.p3_regress.specs.Sorted.{lent, IsRising};
@@ -28,7 +28,7 @@ pub struct Regressed<'e> {
 
 impl<'e> Model for Regressed<'e> {
     ghost use Rattle.std.specs.List.Sorted.{IsPermutation};
-    ghost use Rattle.p3_regress.specs.Answers.{Regression, AreRight};
+    ghost use Rattle.p3_regress.specs.Memory.{Regression, AreRight};
     ghost use Rattle.p3_regress.specs.Sorted.{lent, IsRising};
 
     ghost Value = { Regression };

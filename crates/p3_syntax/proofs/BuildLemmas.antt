@@ -215,9 +215,6 @@ none_more limit source token later built stands goes is =
     sym goes.leads ∙ if_none (is_none later.foreign) (whole_of (fold (read_token limit) (read_token limit goes.read token) later.tokens))
     (ap (λ r. whole_of (fold (read_token limit) r later.tokens)) stops ∙ stopped limit later.tokens)
 
-pub bad_more : (limit : ℕ) (source : List ℕ) (built : Built) (at : ℕ) → Goes limit source (record { tokens = []; foreign = Some at }) built → expression_of_text limit source ≡ None
-bad_more limit source built at goes = sym goes.leads
-
 done_read : (source : List ℕ) (read : Reading) (built : Built) (done : Bool) → is_done built ≡ done → Follows source read built
     → (if done then Some (expressions_in source built.nodes) else None) ≡ option_map (λ e. e ∷ []) (whole_of read)
 done_read source Stopped built done is follows = elim follows [ ]

@@ -15,7 +15,6 @@ use Rattle.p3_tree.specs.Tokens.{Token, Open, Close, Word, tokens_of}
 use Rattle.p3_tree.specs.Expressions.{Group, Reading, Within, Whole, Stopped, read_token, whole_of, expression_of, expression_of_text}
 use Rattle.p3_tree.specs.declared.expression.Expression.{Expression}
 use Rattle.p3_tree.specs.declared.expression.Expression.TheVariants as expression
-use Rattle.p3_syntax.specs.Nodes.{first_of}
 use Rattle.p3_syntax.specs.Balances.{or_foreign, refusal_of_tokens, balance_refusal, outline_refusal}
 
 abbrev Ends : ℕ → Reading → List Token → Type 0
@@ -39,11 +38,6 @@ record BothNone {A : Type 0} (first later : Option A) : Type 0 where
 both_none : {A : Type 0} (first later : Option A) → option_or first later ≡ None → BothNone first later
 both_none None later is = record { is_first = refl; is_later = is }
 both_none (Some a) later is = absurd cc
-
--- nodes that stand for the expression stand for one
-pub one_expression : (es : List Expression) (o : Option Expression) → Some es ≡ option_map (λ e. e ∷ []) o → o ≡ Some (first_of es)
-one_expression es None is = absurd cc
-one_expression es (Some e) is = let same : es ≡ e ∷ [] = cc in ap (λ l. Some (first_of l)) (sym same)
 
 module _ (role : Role) where
   -- nothing may follow the whole

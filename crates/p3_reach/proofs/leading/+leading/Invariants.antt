@@ -1,4 +1,4 @@
-use Rattle.std.proofs.Common.{◌≡◌, ◌<◌, ◌&&◌, length, take}
+use Rattle.std.proofs.Common.{◌&&◌, take}
 use Rattle.std.specs.List.{list_any, list_all}
 use Rattle.p3_formula.specs.Forms.{is_set}
 use Rattle.p3_reach.specs.May.{may_be}

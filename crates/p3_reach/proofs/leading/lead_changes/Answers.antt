@@ -1,4 +1,4 @@
-use Rattle.std.proofs.Common.{◌+◌, ◌<◌, ◌||◌, not, length, take, sym, subst, arith}
+use Rattle.std.proofs.Common.{◌+◌, ◌||◌, not, take, sym, subst}
 use Rattle.std.specs.List.{list_all}
 use Rattle.std.proofs.lemmas.List.{take_all}
 use Rattle.p3_formula.specs.Forms.{is_set}

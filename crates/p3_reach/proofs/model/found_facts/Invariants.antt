@@ -1,4 +1,3 @@
-use Rattle.std.proofs.Common.{◌≡◌, length}
 use Rattle.p3_reach.specs.Found.{IsFactsUpTo}
 use Rattle.p3_reach.proofs.model.found_facts.Given as goal
 

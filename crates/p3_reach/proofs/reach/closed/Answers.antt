@@ -1,7 +1,7 @@
 use Rattle.std.proofs.Common.{◌||◌, not, sym, subst}
 use Rattle.std.specs.List.{list_all}
 use Rattle.std.proofs.lemmas.Result.{IfOk-weaker}
-use Rattle.p3_formula.specs.Forms.{State, is_set}
+use Rattle.p3_formula.specs.Forms.{is_set}
 use Rattle.p3_reach.specs.Closed.{IsClosed, IsWithin, step_keeps}
 use Rattle.p3_reach.specs.Models.{Says}
 use Rattle.p3_reach.proofs.ReachLaws.{closed_front, least_front}

@@ -1,5 +1,5 @@
 use Rattle.std.proofs.Common.{◌≡◌, ℕ, ◌+◌, ◌-◌, vec_len}
-use Rattle.p3_regress.specs.Answers.{answer_of}
+use Rattle.p3_regress.specs.Memory.{answer_of}
 use Rattle.p3_regress.proofs.memory.widen.Given as goal
 
 -- the answers stay

@@ -5,7 +5,7 @@ use Rattle.p3_formula.specs.declared.form.Form.TheVariants as form
 use Rattle.p3_formula.proofs.NodeLemmas.{more-below, more-stand}
 use Rattle.p3_regress.specs.Regressed as made
 use Rattle.p3_regress.specs.Sorted.{lent}
-use Rattle.p3_regress.proofs.AnswerLemmas.{goes_on_trans, goes_on_add, goes_on_then, goes_on_unnoted, goes_on_noted, answered_stands, answered_within, node_answer, next_regressed}
+use Rattle.p3_regress.proofs.MemoryLemmas.{goes_on_trans, goes_on_add, goes_on_then, goes_on_unnoted, goes_on_noted, answered_stands, answered_within, node_answer, next_regressed}
 use Rattle.p3_regress.proofs.RegressedLemmas.{regressed-True, regressed-False, regressed-Atom, regressed-Not, regressed-And, regressed-Or}
 use Rattle.p3_regress.proofs.regression.+before.Goals as goal
 

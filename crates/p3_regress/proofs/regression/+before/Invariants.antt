@@ -1,6 +1,6 @@
 use Rattle.std.proofs.Common.{◌≡◌, ◌+◌, ◌*◌, ◌<◌, All, length, map, take}
 use Rattle.p3_formula.specs.Nodes.{form_of}
-use Rattle.p3_regress.specs.Answers.{GoesOn}
+use Rattle.p3_regress.specs.Memory.{GoesOn}
 use Rattle.p3_regress.specs.Regressed as made
 use Rattle.p3_regress.specs.Sorted.{lent}
 use Rattle.p3_regress.proofs.regression.+before.Given as goal

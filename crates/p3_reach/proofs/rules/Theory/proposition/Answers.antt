@@ -1,4 +1,4 @@
-use Rattle.std.proofs.Common.{false, ◌≤◌, ◌⊎◌, ⊎_elim, length, ap, arith}
+use Rattle.std.proofs.Common.{false, ◌≤◌, ⊎_elim, length, ap, arith}
 use Rattle.std.proofs.lemmas.List.{length_push}
 use Rattle.p3_reach.proofs.RuleLaws.{either, rules_below_more}
 use Rattle.p3_reach.proofs.rules.Theory.proposition.Goals as goal

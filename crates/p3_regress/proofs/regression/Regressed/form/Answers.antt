@@ -1,10 +1,10 @@
 use Rattle.std.proofs.Common.{◌≡◌, ◌∙◌, ◌+◌, ◌≤◌, IfOk, subst, sym}
 use Rattle.std.proofs.lemmas.Result.{IfOk-weaker}
 use Rattle.p3_formula.specs.Forms.{nodes}
-use Rattle.p3_regress.specs.Answers.{Regression, AreRight}
+use Rattle.p3_regress.specs.Memory.{Regression, AreRight}
 use Rattle.p3_regress.specs.Regressed.{IsTrueBefore, IsUntouched, HasAtomsOfBoth, growth, regressed}
 use Rattle.p3_regress.specs.Sorted.{lent}
-use Rattle.p3_regress.proofs.AnswerLemmas.{answered_stands, answered_within, right_grows}
+use Rattle.p3_regress.proofs.MemoryLemmas.{answered_stands, answered_within, right_grows}
 use Rattle.p3_regress.proofs.RegressedLaws.{sorted_truth, sorted_same, sorted_atoms, sorted_nodes}
 use Rattle.p3_regress.proofs.regression.Regressed.form.Goals as goal
 

@@ -2,10 +2,10 @@ use Rattle.std.proofs.Common.{IfOk, length, ◌<◌, subst, sym}
 use Rattle.std.specs.List.Sorted.{IsPermutation}
 use Rattle.std.proofs.lemmas.Result.{IfOk-weaker}
 use Rattle.p3_formula.specs.Nodes.{form_of}
-use Rattle.p3_regress.specs.Answers.{Regression}
+use Rattle.p3_regress.specs.Memory.{Regression}
 use Rattle.p3_regress.specs.Regressed.{IsTrueBefore}
 use Rattle.p3_regress.specs.Sorted.{lent}
-use Rattle.p3_regress.proofs.AnswerLemmas.{answered_truth, answered_within}
+use Rattle.p3_regress.proofs.MemoryLemmas.{answered_truth, answered_within}
 use Rattle.p3_regress.proofs.regression.Regressed.of.Goals as goal
 
 pub returns-clause-truth : goal.returns-clause-truth

@@ -8,7 +8,7 @@ use Rattle.p3_formula.specs.declared.form.Change.{Change}
 use Rattle.p3_formula.specs.declared.form.Form.{Form}
 use Rattle.p3_formula.specs.declared.node.Node.{Node}
 use Rattle.p3_formula.proofs.NodeLemmas.{grows-refl, grows-trans, form-grows, take-next}
-use Rattle.p3_regress.specs.Answers.{answer_of, IsAnswer, AreRight, GoesOn, Regression, Extends}
+use Rattle.p3_regress.specs.Memory.{answer_of, IsAnswer, AreRight, GoesOn, Regression, Extends}
 use Rattle.p3_regress.specs.Regressed.{IsTrueBefore, regressed}
 use Rattle.p3_regress.proofs.RegressedLaws.{sorted_truth}
 
