@@ -76,7 +76,10 @@ fn bytes_and_parentheses_are_refused_first(rt: HostRuntime) -> Result<(), NoMemo
         (b"", Code::Unbalanced, 0, 0),
     ];
     for (text, code, offset, len) in cases {
-        assert_eq!(rt; refused(alloc, Role::Problem, text)?, Some((code, offset, len)));
+        assert_eq!(rt;
+            refused(alloc, Role::Problem, text)?,
+            Some((code, offset, len))
+        );
     }
     Ok(())
 }
