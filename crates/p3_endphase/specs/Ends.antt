@@ -5,6 +5,7 @@ use Rattle.std.specs.Fmt.{decimal}
 use Rattle.p3_formula.specs.Forms.{State, is_set, truth, has_atoms, IsBelow}
 use Rattle.p3_formula.specs.Guards.{turned}
 use Rattle.p3_formula.specs.Next.{after}
+use Rattle.p3_formula.specs.Targets.{has_action_atoms}
 use Rattle.p3_formula.specs.Tidy.{is_tidy}
 use Rattle.p3_formula.specs.declared.form.Change.{Change}
 use Rattle.p3_formula.specs.declared.form.Form.{Form}
@@ -117,3 +118,31 @@ pub record AreAllowed (allowed : ℕ → Bool) (finish : Form) (instances : List
   pub may_finish : has_atoms allowed finish ≡ true
   pub may_accept : All (λ (instance : SoftEnd). has_atoms allowed instance.accept ≡ true) instances
   pub own : (place : ℕ) → place < count → allowed (first + place) ≡ true
+
+-- ---- what the clauses say
+
+-- from a running state where the plan may end, exactly one list of the actions ends
+abbrev pub EndsOneWay : ℕ → Form → List SoftEnd → EndPhase → Type 0
+EndsOneWay first finish instances phase = (state : State) → IsSingleAt first phase.atoms 0 state → truth state finish ≡ true → HasOneEnd phase instances state
+
+-- from another running state none does
+abbrev pub EndsNoWay : ℕ → Form → EndPhase → Type 0
+EndsNoWay first finish phase = (state : State) → IsSingleAt first phase.atoms 0 state → truth state finish ≡ false → (plan : List TargetAction) → Ends phase state plan → ⊥
+
+-- where just one of the phase's own atoms is set, one action at most fits
+abbrev pub OneFits : ℕ → EndPhase → Type 0
+OneFits first phase = (state : State) (place : ℕ) → IsSingleAt first phase.atoms place state → (one other : TargetAction) → Contains phase.actions one → Contains phase.actions other
+    → truth state one.pre ≡ true → truth state other.pre ≡ true → one ≡ other
+
+-- and after it just the next one is set
+abbrev pub MovesOn : ℕ → EndPhase → Type 0
+MovesOn first phase = (state : State) (place : ℕ) → IsSingleAt first phase.atoms place state → (action : TargetAction) → Contains phase.actions action → truth state action.pre ≡ true
+    → IsSingleAt first phase.atoms (place + 1) (after state action.effects)
+
+-- each change moves forward
+abbrev pub AllMoveForward : ℕ → EndPhase → Type 0
+AllMoveForward first phase = All (λ (action : TargetAction). All (MovesForward first phase.atoms) action.effects) phase.actions
+
+-- the actions have no atoms but those that are given
+abbrev pub AllAreAllowed : Form → List SoftEnd → ℕ → EndPhase → Type 0
+AllAreAllowed finish instances first phase = (allowed : ℕ → Bool) → AreAllowed allowed finish instances first phase.atoms → All (λ (action : TargetAction). IsTrue (has_action_atoms allowed action)) phase.actions

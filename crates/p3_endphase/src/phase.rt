@@ -1,14 +1,10 @@
 //! The actions of the end phase (Keyder and Geffner).
 
 ghost use Rattle.std.specs.Prelude.{◌≡◌, ◌≤◌, ◌+◌, ◌^◌, ◌-◌, codes, length, not, true, false, [], ◌∷◌, IfOk, OnOk, ◌++◌, Contains, ℕ, Bool, List, IsTrue, string_bytes};
-ghost use Rattle.std.specs.List.{All};
 ghost use Rattle.std.specs.Str.{str_to_ascii_lowercase};
-ghost use Rattle.p3_formula.specs.Forms.{State, IsBelow, truth};
-ghost use Rattle.p3_formula.specs.Next.{after};
-ghost use Rattle.p3_formula.specs.Targets.{has_action_atoms};
-ghost use Rattle.p3_formula.specs.Tidy.{is_tidy};
-ghost use Rattle.p3_formula.specs.declared.target.TargetAction.{TargetAction};
-ghost use Rattle.p3_endphase.specs.Ends.{AreBelow, collect_name, forgo_name, IsMove, IsSingleAt, IsEndPhase, Ends, HasOneEnd, IsGuarded, MovesForward, AreAllowed};
+ghost use Rattle.p3_formula.specs.Forms.{IsBelow, truth};
+ghost use Rattle.p3_formula.specs.Guards.{AllAreTidy};
+ghost use Rattle.p3_endphase.specs.Ends.{AreBelow, collect_name, forgo_name, IsMove, IsEndPhase, EndsOneWay, EndsNoWay, OneFits, MovesOn, IsGuarded, AllMoveForward, AllAreAllowed};
 
 use p3_base::{List, Name, NoMemory};
 use p3_formula::{Form, TargetAction, copied, guarded, negate, turned};
@@ -48,20 +44,18 @@ pub fn end_phase(
     requires few { length instances.now ≤ 100000 }
     // What its actions are.
     ensures actions { IfOk result (IsEndPhase finish.now instances.now first_atom) }
-    // From a running state where the plan may end, one list of actions leads to the goal, at the weights of what is violated.
-    ensures one_end { IfOk result (λ phase. (state : State) → IsSingleAt first_atom phase.atoms 0 state → truth state finish.now ≡ true → HasOneEnd phase instances.now state) }
-    // From another none does.
-    ensures no_end { IfOk result (λ phase. (state : State) → IsSingleAt first_atom phase.atoms 0 state → truth state finish.now ≡ false → (plan : List TargetAction) → Ends phase state plan → ⊥) }
+    // From a running state where the plan may end, one list of actions leads to the goal, at the
+    // weights of what is violated. From another none does.
+    ensures one_end { IfOk result (EndsOneWay first_atom finish.now instances.now) }
+    ensures no_end { IfOk result (EndsNoWay first_atom finish.now) }
     // The atom that is set moves on, and one action at most fits.
-    ensures one_fits { IfOk result (λ phase. (state : State) (place : ℕ) → IsSingleAt first_atom phase.atoms place state → (one other : TargetAction) → Contains phase.actions one → Contains phase.actions other
-        → truth state one.pre ≡ true → truth state other.pre ≡ true → one ≡ other) }
-    ensures moves_on { IfOk result (λ phase. (state : State) (place : ℕ) → IsSingleAt first_atom phase.atoms place state → (action : TargetAction) → Contains phase.actions action → truth state action.pre ≡ true
-        → IsSingleAt first_atom phase.atoms (place + 1) (after state action.effects)) }
+    ensures one_fits { IfOk result (OneFits first_atom) }
+    ensures moves_on { IfOk result (MovesOn first_atom) }
     // Where they may fit, what they change, and what they read.
     ensures guarded { IfOk result (λ phase. IsGuarded first_atom phase.atoms phase.actions) }
-    ensures changes { IfOk result (λ phase. All (λ (action : TargetAction). All (MovesForward first_atom phase.atoms) action.effects) phase.actions) }
-    ensures atoms { IfOk result (λ phase. (allowed : ℕ → Bool) → AreAllowed allowed finish.now instances.now first_atom phase.atoms → All (λ (action : TargetAction). IsTrue (has_action_atoms allowed action)) phase.actions) }
-    ensures tidy { IfOk result (λ phase. All (λ (action : TargetAction). IsTrue (is_tidy action.pre)) phase.actions) }
+    ensures changes { IfOk result (AllMoveForward first_atom) }
+    ensures atoms { IfOk result (AllAreAllowed finish.now instances.now first_atom) }
+    ensures tidy { IfOk result (λ phase. AllAreTidy phase.actions) }
 {
     made(alloc, finish, instances, first_atom)
 }

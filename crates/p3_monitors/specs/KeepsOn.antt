@@ -1,9 +1,9 @@
 -- Changes of a monitor's atoms that keep it on over one state more, and the atoms and the size of what is made.
-use Rattle.std.specs.Prelude.{◌≡◌, ℕ, Bool, true, not, List, [], ◌∷◌, ◌++◌, sum_by, IsTrue}
+use Rattle.std.specs.Prelude.{◌≡◌, ℕ, ◌+◌, ◌*◌, Bool, true, false, not, List, [], ◌∷◌, ◌++◌, sum_by, IsTrue}
 use Rattle.std.specs.List.{list_all}
-use Rattle.p3_formula.specs.Forms.{State, has_atoms, nodes}
+use Rattle.p3_formula.specs.Forms.{State, is_set, has_atoms, nodes}
 use Rattle.p3_formula.specs.Kept.{Kept, is_own}
-use Rattle.p3_formula.specs.Modals.{Agree, forms_of, is_read, modal_has}
+use Rattle.p3_formula.specs.Modals.{Agree, forms_of, is_read, modal_has, modal_nodes}
 use Rattle.p3_formula.specs.Next.{after}
 use Rattle.p3_formula.specs.declared.form.Change.{Change}
 use Rattle.p3_formula.specs.declared.form.Form.{Form}
@@ -35,6 +35,10 @@ pub data Rides (base : ℕ) (modal : GroundModal) : List State → State → Typ
   GoesOn : (W : List State) (state next : State) (step effects others : List Change) → Rides base modal W state → KeepsOn base modal step effects → AreOthers base modal others
       → Agree modal (after state (step ++ (effects ++ others))) next → Rides base modal (W ++ next ∷ []) (after state (step ++ (effects ++ others)))
 
+-- atoms that are not the monitor's are as without its changes
+abbrev pub LeavesOthers : ℕ → GroundModal → List Change → List Change → Type 0
+LeavesOthers base modal step effects = (state : State) (atom : ℕ) → is_own base modal atom ≡ false → is_set (after state (step ++ effects)) atom ≡ is_set (after state step) atom
+
 -- ---- the atoms and the size of what is made
 
 -- an accept form has no atoms but the monitor's own and those of the constraint
@@ -50,6 +54,10 @@ HasConditions base modal step effects =
 -- what the changes of a step may add to the nodes of a constraint's forms
 abbrev pub modal_growth : List Change → GroundModal → ℕ
 modal_growth step modal = sum_by (growth step) (forms_of modal)
+
+-- the conditions of a monitor's changes have no more nodes
+abbrev pub most_nodes : List Change → GroundModal → ℕ
+most_nodes step modal = 4 + 3 * (modal_nodes modal + modal_growth step modal)
 
 -- how many nodes the conditions have
 abbrev pub condition_nodes : List Change → ℕ

@@ -1,5 +1,5 @@
 -- The changes that a monitor makes, from the forms as they will be after the step.
-use Rattle.std.specs.Prelude.{ℕ, ◌+◌, ◌*◌, ◌≤◌, Bool, true, false, List, [], ◌∷◌, length}
+use Rattle.std.specs.Prelude.{ℕ, ◌+◌, ◌≤◌, Bool, true, false, List, [], ◌∷◌, length}
 use Rattle.p3_formula.specs.Constructors.{both}
 use Rattle.p3_formula.specs.Forms.{nodes}
 use Rattle.p3_formula.specs.declared.form.Change.{Change}
@@ -9,8 +9,7 @@ use Rattle.p3_formula.specs.declared.modal.GroundModal.{GroundModal}
 use Rattle.p3_formula.specs.declared.modal.GroundModal.TheVariants as modal
 use Rattle.p3_regress.specs.Regressed.{IsTrueBefore, HasAtomsOfBoth, growth}
 use Rattle.p3_formula.specs.Kept.{is_own}
-use Rattle.p3_formula.specs.Modals.{modal_nodes}
-use Rattle.p3_monitors.specs.KeepsOn.{HasNone, AreOwn, KeepsOn, HasConditions, modal_growth, condition_nodes}
+use Rattle.p3_monitors.specs.KeepsOn.{HasNone, AreOwn, KeepsOn, HasConditions, condition_nodes, most_nodes}
 
 -- the atom is set, or else cleared, where the condition holds
 abbrev pub change : Bool → ℕ → Form → Change
@@ -52,4 +51,4 @@ pub record IsUpdate (base : ℕ) (modal : GroundModal) (step effects : List Chan
   pub own : AreOwn base modal effects
   pub atoms : HasConditions base modal step effects
   pub few : length effects ≤ 2
-  pub size : condition_nodes effects ≤ 4 + 3 * (modal_nodes modal + modal_growth step modal)
+  pub size : condition_nodes effects ≤ most_nodes step modal

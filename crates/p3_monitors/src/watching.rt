@@ -6,7 +6,7 @@ ghost use Rattle.p3_formula.specs.Next.{after};
 ghost use Rattle.p3_formula.specs.declared.form.Change.{Change};
 ghost use Rattle.p3_formula.specs.Kept.{atom_count, accepts, is_own};
 ghost use Rattle.p3_formula.specs.Modals.{IsModalBelow, modal_nodes, touches};
-ghost use Rattle.p3_monitors.specs.KeepsOn.{HasNone, KeepsOn, AreOwn, HasConditions, HasAccept, modal_growth, condition_nodes};
+ghost use Rattle.p3_monitors.specs.KeepsOn.{HasNone, KeepsOn, AreOwn, HasConditions, HasAccept, condition_nodes, LeavesOthers, most_nodes};
 ghost use Rattle.p3_monitors.specs.Updates.{IsRegressed, IsUpdate};
 ghost use Rattle.p3_regress.specs.Memory.{Extends};
 
@@ -46,12 +46,12 @@ impl Monitor {
         // They are of its own atoms.
         ensures own { IfOk result (AreOwn self.now.base self.now.modal) }
         // The other atoms are as without them.
-        ensures others { IfOk result (λ effects. (state : State) (atom : ℕ) → is_own self.now.base self.now.modal atom ≡ false → is_set (after state (step.now ++ effects)) atom ≡ is_set (after state step.now) atom) }
+        ensures others { IfOk result (LeavesOthers self.now.base self.now.modal step.now) }
         // They read no atoms but its own and those of the constraint and of the step's conditions.
         ensures atoms { IfOk result (HasConditions self.now.base self.now.modal step.now) }
         // They are few and small.
         ensures few { IfOk result (λ effects. length effects ≤ 2) }
-        ensures size { IfOk result (λ effects. condition_nodes effects ≤ 4 + 3 * (modal_nodes self.now.modal + modal_growth step.now self.now.modal)) }
+        ensures size { IfOk result (λ effects. condition_nodes effects ≤ most_nodes step.now self.now.modal) }
     {
         let mut regressed = Regressed::open(alloc, Table::new(alloc), step)?;
         self.effects_in(alloc, &mut regressed)
@@ -67,12 +67,12 @@ impl Monitor {
         // They are of its own atoms.
         ensures own { IfOk result (AreOwn self.now.base self.now.modal) }
         // The other atoms are as without them.
-        ensures others { IfOk result (λ effects. (state : State) (atom : ℕ) → is_own self.now.base self.now.modal atom ≡ false → is_set (after state (regressed.old.effects ++ effects)) atom ≡ is_set (after state regressed.old.effects) atom) }
+        ensures others { IfOk result (LeavesOthers self.now.base self.now.modal regressed.old.effects) }
         // They read no atoms but its own and those of the constraint and of the step's conditions.
         ensures atoms { IfOk result (HasConditions self.now.base self.now.modal regressed.old.effects) }
         // They are few and small.
         ensures few { IfOk result (λ effects. length effects ≤ 2) }
-        ensures size { IfOk result (λ effects. condition_nodes effects ≤ 4 + 3 * (modal_nodes self.now.modal + modal_growth regressed.old.effects self.now.modal)) }
+        ensures size { IfOk result (λ effects. condition_nodes effects ≤ most_nodes regressed.old.effects self.now.modal) }
         // The regression keeps its step, its nodes and its answers.
         ensures extends { Extends regressed.old regressed.new }
     {

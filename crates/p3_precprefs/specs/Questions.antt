@@ -1,13 +1,13 @@
 -- The chain of a wide step: an action that begins, two answers to a question for each of its weighted preferences, and an action that ends. Its own atoms are the running atom, the question atoms from the first one on, and the current atom.
 use Rattle.std.specs.Prelude.{◌≡◌, ◌⊎◌, ℕ, ◌+◌, ◌<◌, ◌≤◌, ◌==◌, nat_le, Bool, true, false, not, ◌&&◌, ◌||◌, List, [], ◌∷◌, ◌++◌, length, sum_by, codes, decimal, Contains, IsTrue}
-use Rattle.std.specs.List.{list_all}
+use Rattle.std.specs.List.{All, list_all}
 use Rattle.p3_base.specs.Copies.{copy_prefix}
 use Rattle.p3_base.specs.Words.{Name}
 use Rattle.p3_formula.specs.Conditions.{greatest_width}
 use Rattle.p3_formula.specs.Forms.{State, is_set, truth, has_atoms}
 use Rattle.p3_formula.specs.Guards.{turned, is_changed}
 use Rattle.p3_formula.specs.Next.{after}
-use Rattle.p3_formula.specs.Targets.{has_change_atoms}
+use Rattle.p3_formula.specs.Targets.{has_change_atoms, has_action_atoms}
 use Rattle.p3_formula.specs.Tidy.{is_tidy}
 use Rattle.p3_formula.specs.Weighted.{weight_of, weighted, weighted_cost, width_of}
 use Rattle.p3_formula.specs.declared.form.Change.{Change}
@@ -161,3 +161,30 @@ pub record AreAllowed (allowed : ℕ → Bool) (go first current : ℕ) (step : 
   pub parts : HasPartsIn allowed step
   pub changes : list_all (has_change_atoms allowed) effects ≡ true
   pub own : (atom : ℕ) → is_own go first current atom ≡ true → allowed atom ≡ true
+
+-- ---- what the clauses say
+
+-- from open bits where the step fits, exactly one list of the actions sets the running atom again
+abbrev pub LeadsOneWay : ℕ → ℕ → ℕ → Weights → GroundStep → List Change → List TargetAction → Type 0
+LeadsOneWay go first current weights step effects actions = (bits : State) → IsOpen go first current bits → truth bits step.pre ≡ true → HasOneWay go first current weights step effects actions bits
+
+-- from open bits where the step does not fit, no action does
+abbrev pub LeadsNoWay : ℕ → ℕ → ℕ → GroundStep → List TargetAction → Type 0
+LeadsNoWay go first current step actions = (bits : State) → IsOpen go first current bits → truth bits step.pre ≡ false → All (λ (action : TargetAction). truth bits action.pre ≡ false) actions
+
+-- in proper bits one action at most fits
+abbrev pub OneFits : ℕ → ℕ → ℕ → List TargetAction → Type 0
+OneFits go first current actions = (bits : State) → IsProper go first current bits → (one other : TargetAction) → Contains actions one → Contains actions other
+    → truth bits one.pre ≡ true → truth bits other.pre ≡ true → one ≡ other
+
+-- and after it they are proper again
+abbrev pub StaysProper : ℕ → ℕ → ℕ → List TargetAction → Type 0
+StaysProper go first current actions = (bits : State) → IsProper go first current bits → (action : TargetAction) → Contains actions action → truth bits action.pre ≡ true → IsProper go first current (after bits action.effects)
+
+-- the actions change no atoms but the chain's own and those that the effects change
+abbrev pub AllChangeOwn : ℕ → ℕ → ℕ → List Change → List TargetAction → Type 0
+AllChangeOwn go first current effects actions = All (λ (action : TargetAction). IsTrue (changes_own go first current effects action)) actions
+
+-- the actions have no atoms but those that are given
+abbrev pub AllAreAllowed : ℕ → ℕ → ℕ → GroundStep → List Change → List TargetAction → Type 0
+AllAreAllowed go first current step effects actions = (allowed : ℕ → Bool) → AreAllowed allowed go first current step effects → All (λ (action : TargetAction). IsTrue (has_action_atoms allowed action)) actions

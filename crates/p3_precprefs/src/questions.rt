@@ -1,16 +1,13 @@
 //! The chain of a wide step: one question after another takes the place of copies.
 
 ghost use Rattle.std.specs.Prelude.{◌≡◌, ◌≤◌, ◌<◌, ◌+◌, ◌^◌, ◌++◌, ℕ, Bool, List, [], ◌∷◌, true, false, length, sum_by, codes, decimal, string_bytes, Contains, IfOk, OnOk, IsSome, IsTrue};
-ghost use Rattle.std.specs.List.{All, list_all};
+ghost use Rattle.std.specs.List.{list_all};
 ghost use Rattle.std.specs.Str.{str_to_ascii_lowercase};
 ghost use Rattle.p3_base.specs.Copies.{copy_prefix};
 ghost use Rattle.p3_formula.specs.Conditions.{is_step_below, greatest_width, cost_limit};
-ghost use Rattle.p3_formula.specs.Forms.{State, truth};
-ghost use Rattle.p3_formula.specs.Next.{after};
-ghost use Rattle.p3_formula.specs.Targets.{is_sized_change, has_action_atoms};
-ghost use Rattle.p3_formula.specs.Tidy.{is_tidy};
+ghost use Rattle.p3_formula.specs.Guards.{AllAreTidy};
+ghost use Rattle.p3_formula.specs.Targets.{is_sized_change};
 ghost use Rattle.p3_formula.specs.Weighted as weigh;
-ghost use Rattle.p3_formula.specs.declared.target.TargetAction.{TargetAction};
 ghost use Rattle.p3_precprefs.specs.Questions as made;
 
 use crate::copies::{weight_of, weighted_cost};
@@ -43,19 +40,17 @@ pub fn ask(
     requires current { first + greatest_width < current }
     // What its actions are.
     ensures actions { IfOk result (made.IsChain go first current weights.now step.now effects.now) }
-    // From open bits where the step fits, one list of actions leads back to open bits; else no action fits.
-    ensures one_way { IfOk result (λ actions. (bits : State) → made.IsOpen go first current bits → truth bits step.now.pre ≡ true → made.HasOneWay go first current weights.now step.now effects.now actions bits) }
-    ensures no_way { IfOk result (λ actions. (bits : State) → made.IsOpen go first current bits → truth bits step.now.pre ≡ false → All (λ (action : TargetAction). truth bits action.pre ≡ false) actions) }
+    // From open bits where the step fits, one list of them leads back to open bits; else none fits.
+    ensures one_way { IfOk result (made.LeadsOneWay go first current weights.now step.now effects.now) }
+    ensures no_way { IfOk result (made.LeadsNoWay go first current step.now) }
     // Where they may fit, and that one at most does.
     ensures guarded { IfOk result (made.IsGuarded go current) }
-    ensures one_fits { IfOk result (λ actions. (bits : State) → made.IsProper go first current bits → (one other : TargetAction) → Contains actions one → Contains actions other
-        → truth bits one.pre ≡ true → truth bits other.pre ≡ true → one ≡ other) }
-    ensures stays_proper { IfOk result (λ actions. (bits : State) → made.IsProper go first current bits → (action : TargetAction) → Contains actions action → truth bits action.pre ≡ true
-        → made.IsProper go first current (after bits action.effects)) }
+    ensures one_fits { IfOk result (made.OneFits go first current) }
+    ensures stays_proper { IfOk result (made.StaysProper go first current) }
     // What they change and read.
-    ensures changes { IfOk result (All (λ (action : TargetAction). IsTrue (made.changes_own go first current effects.now action))) }
-    ensures atoms { IfOk result (λ actions. (allowed : ℕ → Bool) → made.AreAllowed allowed go first current step.now effects.now → All (λ (action : TargetAction). IsTrue (has_action_atoms allowed action)) actions) }
-    ensures tidy { IfOk result (All (λ (action : TargetAction). IsTrue (is_tidy action.pre))) }
+    ensures changes { IfOk result (made.AllChangeOwn go first current effects.now) }
+    ensures atoms { IfOk result (made.AllAreAllowed go first current step.now effects.now) }
+    ensures tidy { IfOk result AllAreTidy }
 {
     chain(alloc, step, effects, weights, go, first, current)
 }

@@ -1,5 +1,5 @@
 -- Sets of atoms that are closed for a task, and the states that its steps lead to.
-use Rattle.std.specs.Prelude.{◌≡◌, ℕ, Bool, true, false, not, ◌&&◌, ◌||◌, length, slice_get, slice_index_or, Some, Contains, IsTrue}
+use Rattle.std.specs.Prelude.{◌≡◌, ℕ, Bool, true, false, not, ◌&&◌, ◌||◌, List, map, length, slice_get, slice_index_or, Some, Contains, IsTrue}
 use Rattle.std.specs.List.{list_all}
 use Rattle.p3_formula.specs.Forms.{State, is_set, truth}
 use Rattle.p3_formula.specs.Next.{after}
@@ -27,6 +27,14 @@ pub record IsClosed (G : GroundTask) (set : State) : Type 0 where
   pub initial : IsWithin G.initial set
   pub steps : IsTrue (list_all (step_keeps set) G.steps)
 
+-- every closed set has all atoms of this one
+abbrev pub IsInEachClosed : GroundTask → State → Type 0
+IsInEachClosed G set = (other : State) → IsClosed G other → IsWithin set other
+
+-- which steps may fit over the set
+abbrev pub steps_that_may : State → List GroundStep → List Bool
+steps_that_may set steps = map (λ step. may_hold set step.pre) steps
+
 -- the states that steps of the task lead to, each from a state where its precondition holds
 pub data IsReachable (G : GroundTask) : State → Type 0 where
   Initial : (state : State) → state ≡ G.initial → IsReachable G state
@@ -37,3 +45,11 @@ pub record IsUnmarked (G : GroundTask) (marks : Marks) (step : GroundStep) : Typ
   pub place : ℕ
   pub here : slice_get G.steps place ≡ Some step
   pub unmarked : slice_index_or marks.steps place true ≡ false
+
+-- the set has all atoms of every reachable state
+abbrev pub HasEachReachable : GroundTask → State → Type 0
+HasEachReachable G set = (state : State) → IsReachable G state → IsWithin state set
+
+-- a step without a mark fits in no reachable state
+abbrev pub FitsOnlyMarked : GroundTask → Marks → Type 0
+FitsOnlyMarked G marks = (state : State) (step : GroundStep) → IsReachable G state → IsUnmarked G marks step → truth state step.pre ≡ false

@@ -11,6 +11,10 @@ pub record IsModel (theory : Theory) (set : State) : Type 0 where
   pub has_facts : IsWithin theory.facts set
   pub keeps : list_all (keeps_rule set) theory.rules ≡ true
 
+-- every model has all propositions of this set
+abbrev pub IsInEachModel : Theory → State → Type 0
+IsInEachModel theory set = (other : State) → IsModel theory other → IsWithin set other
+
 -- a set of the old propositions, with some of the new ones, is a model
 pub record Grows (theory : Theory) (set : State) : Type 0 where
   pub more : State

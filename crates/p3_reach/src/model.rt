@@ -2,9 +2,7 @@
 
 ghost use Rattle.std.specs.Prelude.{◌≡◌, ◌<◌, ◌+◌, [], ◌∷◌, ◌++◌, true, false, length, All, Contains, List, slice_index_or, slice_set, replicate, IfOk, OnOk, IsTrue};
 ghost use Rattle.std.specs.List.{list_all};
-ghost use Rattle.p3_formula.specs.Forms.{State, is_set};
-ghost use Rattle.p3_reach.specs.Closed.{IsWithin};
-ghost use Rattle.p3_reach.specs.Models.{IsModel};
+ghost use Rattle.p3_reach.specs.Models.{IsModel, IsInEachModel};
 ghost use Rattle.p3_reach.specs.Rules.{is_rule_below};
 ghost use Rattle.p3_reach.specs.Found.{Follows, AreFiled, Adds, IsListed};
 
@@ -106,7 +104,7 @@ fn follow(found: &mut Found, rules: &[Rule]) -> Result<(), NoMemory>
 pub fn least_model(alloc: Global, theory: &Theory) -> Result<Bits, NoMemory>
     ensures size { IfOk result (λ held. length held ≡ length theory.now.facts) }
     ensures model { IfOk result (IsModel theory.now) }
-    ensures least { IfOk result (λ held. (other : State) → IsModel theory.now other → IsWithin held other) }
+    ensures least { IfOk result (IsInEachModel theory.now) }
 {
     let files = filed(alloc, theory)?;
     let mut found = found_facts(alloc, theory.facts.items())?;

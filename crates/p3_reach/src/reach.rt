@@ -1,12 +1,10 @@
 //! The least set of atoms that has the initial ones and what steps that may fit add.
 
-ghost use Rattle.std.specs.Prelude.{◌≡◌, ◌<◌, ◌≤◌, ◌∷◌, ◌++◌, [], true, false, not, ◌||◌, take, length, map, IfOk, OnOk, IsTrue};
+ghost use Rattle.std.specs.Prelude.{◌≡◌, ◌<◌, ◌≤◌, ◌∷◌, ◌++◌, [], true, not, ◌||◌, take, length, IfOk, OnOk, IsTrue};
 ghost use Rattle.std.specs.List.{list_all};
 ghost use Rattle.p3_formula.specs.Conditions.{HasAtomsBelow, is_step_below};
-ghost use Rattle.p3_formula.specs.Forms.{State, truth, is_set};
-ghost use Rattle.p3_formula.specs.declared.task.GroundStep.{GroundStep};
-ghost use Rattle.p3_reach.specs.Closed.{IsClosed, IsWithin, IsReachable, IsUnmarked, step_keeps};
-ghost use Rattle.p3_reach.specs.May as may;
+ghost use Rattle.p3_formula.specs.Forms.{is_set};
+ghost use Rattle.p3_reach.specs.Closed.{IsClosed, IsInEachClosed, HasEachReachable, FitsOnlyMarked, step_keeps, steps_that_may};
 ghost use Rattle.p3_reach.specs.Models.{Says};
 
 use crate::leading::lead_step;
@@ -74,7 +72,7 @@ fn closed(alloc: Global, task: &GroundTask) -> Result<Bits, NoMemory>
     requires atoms { HasAtomsBelow task.now }
     requires bits { length task.now.initial ≡ task.now.atoms }
     ensures closed { IfOk result (IsClosed task.now) }
-    ensures least { IfOk result (λ atoms. (other : State) → IsClosed task.now other → IsWithin atoms other) }
+    ensures least { IfOk result (IsInEachClosed task.now) }
 {
     let mut theory = theory_of_atoms(alloc, &task.initial)?;
     lead_steps(&mut theory, task.steps.items(), task.atoms)?;
@@ -84,7 +82,7 @@ fn closed(alloc: Global, task: &GroundTask) -> Result<Bits, NoMemory>
 /// Whether each step may fit.
 fn fitting(alloc: Global, steps: &[GroundStep], atoms: &Bits) -> Result<List<bool>, NoMemory>
     requires { list_all (is_step_below (length atoms.now)) steps.now ≡ true }
-    ensures { IfOk result (λ fits. fits ≡ map (λ step. may.may_hold atoms.now step.pre) steps.now) }
+    ensures { IfOk result (λ fits. fits ≡ steps_that_may atoms.now steps.now) }
 {
     let mut fits = List::new(alloc);
     for step in steps {
@@ -102,11 +100,11 @@ pub fn reachable(alloc: Global, task: &GroundTask) -> Result<Marks, NoMemory>
     requires bits { length task.now.initial ≡ task.now.atoms }
     // The marked atoms are the least closed set.
     ensures closed { IfOk result (λ marks. IsClosed task.now marks.atoms) }
-    ensures least { IfOk result (λ marks. (other : State) → IsClosed task.now other → IsWithin marks.atoms other) }
-    ensures steps { IfOk result (λ marks. marks.steps ≡ map (λ step. may.may_hold marks.atoms step.pre) task.now.steps) }
+    ensures least { IfOk result (λ marks. IsInEachClosed task.now marks.atoms) }
+    ensures steps { IfOk result (λ marks. marks.steps ≡ steps_that_may marks.atoms task.now.steps) }
     // What is not marked is false in every reachable state.
-    ensures reached { IfOk result (λ marks. (state : State) → IsReachable task.now state → IsWithin state marks.atoms) }
-    ensures unfit { IfOk result (λ marks. (state : State) (step : GroundStep) → IsReachable task.now state → IsUnmarked task.now marks step → truth state step.pre ≡ false) }
+    ensures reached { IfOk result (λ marks. HasEachReachable task.now marks.atoms) }
+    ensures unfit { IfOk result (FitsOnlyMarked task.now) }
 {
     let atoms = closed(alloc, task)?;
     let steps = fitting(alloc, task.steps.items(), &atoms)?;

@@ -3,7 +3,7 @@
 ghost use Rattle.std.specs.Prelude.{◌≡◌, ◌≢◌, ◌<◌, ℕ, length, vec_len, Some, IfOk, OnOk, OnErr};
 ghost use Rattle.p3_formula.specs.Forms.{IsBelow};
 ghost use Rattle.p3_formula.specs.Nodes.{IsNodeBelow, Grows, form_of, node_form};
-ghost use Rattle.p3_regress.specs.Memory.{answer_of};
+ghost use Rattle.p3_regress.specs.Memory.{answer_of, answer_in};
 
 use p3_base::{List, NoMemory};
 use p3_formula::{Form, Node, Table};
@@ -20,7 +20,7 @@ pub(crate) struct Memory {
 impl Memory {
     /// The answer that the number got.
     pub(crate) fn answer(&self, number: usize) -> Option<usize>
-        ensures { result ≡ answer_of self.now.answers.items number }
+        ensures { result ≡ answer_in self.now number }
     {
         if number < self.answers.len() {
             self.answers[number]
@@ -32,9 +32,9 @@ impl Memory {
     /// Notes the answer to a number. Other answers stay.
     pub(crate) fn note(&mut self, number: usize, before: usize) -> Result<(), NoMemory>
         ensures table { self.new.table ≡ self.old.table }
-        ensures others { (other : ℕ) → other ≢ number → answer_of self.new.answers.items other ≡ answer_of self.old.answers.items other }
-        ensures noted { OnOk result (answer_of self.new.answers.items number ≡ Some before) }
-        ensures err { OnErr result (answer_of self.new.answers.items number ≡ answer_of self.old.answers.items number) }
+        ensures others { (other : ℕ) → other ≢ number → answer_in self.new other ≡ answer_in self.old other }
+        ensures noted { OnOk result (answer_in self.new number ≡ Some before) }
+        ensures err { OnErr result (answer_in self.new number ≡ answer_in self.old number) }
     {
         put(&mut self.answers, number, before)
     }

@@ -3,7 +3,7 @@
 ghost use Rattle.std.specs.Prelude.{◌≡◌, ◌≤◌, ◌<◌, ◌+◌, ℕ, length, map, [], Some, None, Ok, All, IfOk};
 ghost use Rattle.p3_formula.specs.Forms.{nodes};
 ghost use Rattle.p3_formula.specs.Nodes.{IsNodeBelow, form_of, node_form};
-ghost use Rattle.p3_regress.specs.Memory.{answer_of, AreRight, GoesOn, Extends, AnswersAgain};
+ghost use Rattle.p3_regress.specs.Memory.{answer_of, answer_in, IsRight, Continues, IsNumberBefore, Extends, AnswersAgain};
 ghost use Rattle.p3_regress.specs.Regressed.{IsTrueBefore, IsUntouched, HasAtomsOfBoth, growth};
 ghost use Rattle.p3_regress.specs.Regressed as made;
 ghost use Rattle.p3_regress.specs.Sorted.{lent, IsRising};
@@ -27,9 +27,7 @@ pub struct Regressed<'e> {
 }
 
 impl<'e> Model for Regressed<'e> {
-    ghost use Rattle.std.specs.List.Sorted.{IsPermutation};
-    ghost use Rattle.p3_regress.specs.Memory.{Regression, AreRight};
-    ghost use Rattle.p3_regress.specs.Sorted.{lent, IsRising};
+    ghost use Rattle.p3_regress.specs.Memory.{Regression, IsUnder};
 
     ghost Value = { Regression };
 
@@ -38,9 +36,13 @@ impl<'e> Model for Regressed<'e> {
 
     ghost coded = { Prim.hlevel (codes, form.the_row.coded) };
 
-    ghost view = { λ all. record { table = all.memory.table; effects = all.effects.now; answers = all.memory.answers.items } };
+    ghost view = { λ all. record {
+      table = all.memory.table;
+      effects = all.effects.now;
+      answers = all.memory.answers.items;
+    } };
 
-    ghost invariant = { λ all. IsPermutation all.effects.now (lent all.changes.items) × IsRising all.changes.items × AreRight (lent all.changes.items) all.memory.table all.memory.answers.items };
+    ghost invariant = { λ all. IsUnder all.effects.now all.changes.items all.memory };
 }
 
 impl<'e> Regressed<'e> {
@@ -70,7 +72,7 @@ impl<'e> Regressed<'e> {
     /// number that was answered is answered alike, and the table is then unchanged.
     pub fn of(&mut self, number: usize) -> Result<usize, NoMemory>
         requires { number < length self.old.table }
-        ensures truth { IfOk result (λ before. IsTrueBefore self.old.effects (form_of self.old.table number) (form_of self.new.table before)) }
+        ensures truth { IfOk result (IsNumberBefore self.old self.new number) }
         ensures within { IfOk result (λ before. before < length self.new.table) }
         ensures again { AnswersAgain self.old self.new number result }
         ensures answered { IfOk result (λ before. answer_of self.new.answers number ≡ Some before) }
@@ -126,10 +128,11 @@ pub fn regress(alloc: Global, form: &Form, effects: &Effects) -> Result<Form, No
 fn before(memory: &mut Memory, changes: &[&Change], number: usize) -> Result<usize, NoMemory>
     requires within { number < length memory.old.table }
     requires rising { IsRising changes.now }
-    requires right { AreRight (lent changes.now) memory.old.table memory.old.answers.items }
-    ensures goes_on { GoesOn (lent changes.now) memory.old.table memory.new.table memory.old.answers.items memory.new.answers.items }
-    ensures answered { IfOk result (λ before. answer_of memory.new.answers.items number ≡ Some before) }
-    ensures again { (before : ℕ) → answer_of memory.old.answers.items number ≡ Some before → (result ≡ Ok before) × (memory.new ≡ memory.old) }
+    requires right { IsRight (lent changes.now) memory.old }
+    ensures goes_on { Continues (lent changes.now) memory.old memory.new }
+    ensures answered { IfOk result (λ before. answer_in memory.new number ≡ Some before) }
+    ensures again { (before : ℕ) → answer_in memory.old number ≡ Some before
+        → (result ≡ Ok before) × (memory.new ≡ memory.old) }
 {
     match memory.answer(number) {
         Some(before) => Ok(before),
@@ -141,11 +144,11 @@ fn before(memory: &mut Memory, changes: &[&Change], number: usize) -> Result<usi
 #[cycle(before)]
 fn answered(memory: &mut Memory, changes: &[&Change], number: usize) -> Result<usize, NoMemory>
     requires within { number < length memory.old.table }
-    requires new { answer_of memory.old.answers.items number ≡ None }
+    requires new { answer_in memory.old number ≡ None }
     requires rising { IsRising changes.now }
-    requires right { AreRight (lent changes.now) memory.old.table memory.old.answers.items }
-    ensures goes_on { GoesOn (lent changes.now) memory.old.table memory.new.table memory.old.answers.items memory.new.answers.items }
-    ensures answered { IfOk result (λ before. answer_of memory.new.answers.items number ≡ Some before) }
+    requires right { IsRight (lent changes.now) memory.old }
+    ensures goes_on { Continues (lent changes.now) memory.old memory.new }
+    ensures answered { IfOk result (λ before. answer_in memory.new number ≡ Some before) }
 {
     let node = memory.node(number)?;
     let before = node_before(memory, changes, number, node)?;
@@ -164,10 +167,11 @@ fn node_before(
     requires within { count ≤ length memory.old.table }
     requires parts { IsNodeBelow count node }
     requires rising { IsRising changes.now }
-    requires right { AreRight (lent changes.now) memory.old.table memory.old.answers.items }
-    ensures goes_on { GoesOn (lent changes.now) memory.old.table memory.new.table memory.old.answers.items memory.new.answers.items }
+    requires right { IsRight (lent changes.now) memory.old }
+    ensures goes_on { Continues (lent changes.now) memory.old memory.new }
     ensures within { IfOk result (λ before. before < length memory.new.table) }
-    ensures stands { IfOk result (λ before. form_of memory.new.table before ≡ made.regressed (lent changes.now) (node_form (form_of memory.old.table) node)) }
+    ensures stands { IfOk result (λ before. form_of memory.new.table before
+        ≡ made.regressed (lent changes.now) (node_form (form_of memory.old.table) node)) }
 {
     match node {
         Node::True => memory.add(Node::True),
@@ -202,10 +206,11 @@ fn all_before(
     requires within { count ≤ length memory.old.table }
     requires parts { All (λ number. number < count) numbers.now }
     requires rising { IsRising changes.now }
-    requires right { AreRight (lent changes.now) memory.old.table memory.old.answers.items }
-    ensures goes_on { GoesOn (lent changes.now) memory.old.table memory.new.table memory.old.answers.items memory.new.answers.items }
+    requires right { IsRight (lent changes.now) memory.old }
+    ensures goes_on { Continues (lent changes.now) memory.old memory.new }
     ensures below { IfOk result (λ befores. All (λ before. before < length memory.new.table) befores) }
-    ensures stand { IfOk result (λ befores. map (form_of memory.new.table) befores ≡ map (made.regressed (lent changes.now)) (map (form_of memory.old.table) numbers.now)) }
+    ensures stand { IfOk result (λ befores. map (form_of memory.new.table) befores
+        ≡ map (made.regressed (lent changes.now)) (map (form_of memory.old.table) numbers.now)) }
 {
     let mut befores = List::new(memory.alloc);
     for number in numbers {
