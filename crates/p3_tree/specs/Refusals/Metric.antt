@@ -89,17 +89,17 @@ pub record Factors : Type 0 where
   pub mention : Bool
   pub products : List ℕ
 
-abbrev pub joined : List Factors → List ℕ → Factors
-joined parts own = record { mention = list_any (λ part. part.mention) parts; products = own ++ flat_map (λ part. part.products) parts }
+abbrev pub factors_of_parts : List Factors → List ℕ → Factors
+factors_of_parts parts own = record { mention = list_any (λ part. part.mention) parts; products = own ++ flat_map (λ part. part.products) parts }
 
 abbrev pub factors_layer : layer.Num-F Factors → Factors
 factors_layer (layer.Number numeral) = record { mention = false; products = [] }
 factors_layer (layer.TotalCost at) = record { mention = true; products = [] }
 factors_layer (layer.Violated name) = record { mention = true; products = [] }
 factors_layer (layer.Neg at part) = part
-factors_layer (layer.Sub at first second) = joined (first ∷ second ∷ []) []
-factors_layer (layer.Sum at parts) = joined parts []
-factors_layer (layer.Product at parts) = joined parts (if nat_lt 1 (count_by (λ (part : Factors). part.mention) parts) then at ∷ [] else [])
+factors_layer (layer.Sub at first second) = factors_of_parts (first ∷ second ∷ []) []
+factors_layer (layer.Sum at parts) = factors_of_parts parts []
+factors_layer (layer.Product at parts) = factors_of_parts parts (if nat_lt 1 (count_by (λ (part : Factors). part.mention) parts) then at ∷ [] else [])
 
 -- the products with two factors that each mention a count or the total cost; an outer one stands before an inner one
 unfoldable pub nonlinear : Num → List ℕ
