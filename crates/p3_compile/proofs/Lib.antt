@@ -1,5 +1,4 @@
 pub mod AtomLemmas
-pub mod FineUses
 pub mod Formed
 pub mod ListLemmas
 pub mod NextStates

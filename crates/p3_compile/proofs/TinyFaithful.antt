@@ -29,7 +29,7 @@ use Rattle.p3_compile.specs.Written.{ref, action, atom, changing, atom_name, pla
 use Rattle.p3_compile.proofs.Targets.{target, fact, bare, whole_by}
 use Rattle.p3_compile.proofs.NextStates.{V, fitting, costing, lifting_with_step, lifting_without_step}
 use Rattle.p3_compile.proofs.Formed.{plain, variable_free}
-use Rattle.p3_compile.proofs.FineUses.{declares}
+use Rattle.p3_tree.proofs.FineUses.{declares}
 use Rattle.p3_compile.proofs.WellFormed.{source_declared, written_well_formed}
 use Rattle.p3_compile.proofs.Sources.{source_apart, same_sources, place_within, name_at, source_facts, no_other, source_at_start, true_at_start, no_values}
 

@@ -34,7 +34,7 @@ use Rattle.p3_tree.specs.declared.task.Header.{Header}
 use Rattle.p3_tree.specs.declared.task.Init.{Init}
 use Rattle.p3_tree.specs.declared.task.Init.TheVariants as init
 use Rattle.p3_tree.specs.declared.task.Task.{Task}
-use Rattle.p3_compile.proofs.FineUses.{declares, right_count, no_clash}
+use Rattle.p3_tree.proofs.FineUses.{declares, right_count, no_clash}
 
 none_in : {A : Type 0} (items : List A) → is_empty items ≡ true → items ≡ []
 none_in [] e = refl

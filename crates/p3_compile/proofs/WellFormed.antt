@@ -23,8 +23,8 @@ use Rattle.p3_compile.specs.Written.{ref, functions, accepting, changing, settli
 use Rattle.p3_compile.proofs.Targets.{target, step_act, collect_act, forgo_act}
 use Rattle.p3_compile.proofs.Sources.{other_source}
 use Rattle.p3_compile.proofs.Formed.{headers_free}
-use Rattle.p3_compile.proofs.FineUses.{declares, IsFine, AllFine, fine_append, no_offence, right_count, no_clash}
-use Rattle.p3_compile.proofs.FineUses.{NoObjects, NoVariables, IsAtom, IsCost}
+use Rattle.p3_tree.proofs.FineUses.{declares, IsFine, AllFine, fine_append, no_offence, right_count, no_clash}
+use Rattle.p3_tree.proofs.FineUses.{NoObjects, NoVariables, IsAtom, IsCost}
 
 module _ (has_step : Bool) (changed preferred : Name) (change_negated preference_negated : Bool) (weight : ℕ) (headers : List Header) (entries : List Init) where
   abbrev U : Task

@@ -4,6 +4,7 @@ pub mod ConjunctLaws
 pub mod CountLemmas
 pub mod DecimalLemmas
 pub mod Erased
+pub mod FineUses
 pub mod FoldLemmas
 pub mod KnownLaws
 pub mod LiteralLaws

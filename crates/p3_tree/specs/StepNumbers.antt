@@ -1,5 +1,5 @@
 -- The steps of a task by their numbers.
-use Rattle.std.specs.Prelude.{◌≡◌, ℕ, true, List, slice_get, Some}
+use Rattle.std.specs.Prelude.{◌≡◌, ℕ, true, slice_get, Some}
 use Rattle.p3_tree.specs.Bindings.{are_arguments}
 use Rattle.p3_tree.specs.Plans.{action_named}
 use Rattle.p3_tree.specs.Lifting.{steps}

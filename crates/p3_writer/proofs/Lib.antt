@@ -1,4 +1,3 @@
-pub mod FineUses
 pub mod LayoutLemmas
 pub mod Texts
 pub mod WrittenForms

@@ -37,8 +37,8 @@ use Rattle.p3_writer.specs.TaskOf as written
 use Rattle.p3_writer.specs.TaskOf.{Trees, task_of, trees_of, trees_layer, word, header, literal, under, change_of, increase_of, true_entry}
 use Rattle.p3_writer.specs.Written.{IsWritten}
 use Rattle.p3_tree.proofs.OnceLemmas.{map_at}
-use Rattle.p3_writer.proofs.FineUses.{declares, IsFine, AllFine, fine_append, no_offence, right_count, no_clash}
-use Rattle.p3_writer.proofs.FineUses.{NoObjects, NoVariables, IsAtom, IsCost}
+use Rattle.p3_tree.proofs.FineUses.{declares, IsFine, AllFine, fine_append, no_offence, right_count, no_clash}
+use Rattle.p3_tree.proofs.FineUses.{NoObjects, NoVariables, IsAtom, IsCost}
 use Rattle.p3_writer.proofs.WrittenForms.{are_below}
 use Rattle.p3_writer.proofs.WrittenSteps.{is_change_below}
 use Rattle.p3_writer.proofs.WrittenPlans.{has_where, no_initial, whole, valid_is, value_is, bare_steps}
