@@ -1,6 +1,6 @@
 //! The actions of the end phase (Keyder and Geffner).
 
-ghost use Rattle.std.specs.Prelude.{◌≡◌, ◌≤◌, ◌+◌, ◌^◌, ◌-◌, codes, length, not, true, false, [], ◌∷◌, IfOk, OnOk, ◌++◌, Contains, ℕ, Bool, List, IsTrue, string_bytes};
+ghost use Rattle.std.specs.Prelude.{◌≡◌, ◌≤◌, ◌+◌, ◌^◌, ◌-◌, codes, length, not, [], ◌∷◌, IfOk, OnOk, ◌++◌, string_bytes};
 ghost use Rattle.std.specs.Str.{str_to_ascii_lowercase};
 ghost use Rattle.p3_formula.specs.Forms.{IsBelow, truth};
 ghost use Rattle.p3_formula.specs.Guards.{AllAreTidy};

@@ -1,13 +1,13 @@
 //! Rules that say what a form, a change and a step lead to.
 
-ghost use Rattle.std.specs.Prelude.{◌≡◌, ◌<◌, ◌≤◌, [], ◌∷◌, ◌++◌, Bool, true, false, not, ◌&&◌, ◌||◌, length, IfOk, OnOk, IsTrue};
+ghost use Rattle.std.specs.Prelude.{◌≡◌, ◌<◌, true, not, ◌||◌, length, OnOk};
 ghost use Rattle.std.specs.List.{list_all, list_any};
-ghost use Rattle.p3_formula.specs.Forms.{State, is_set, IsBelow, AreBelow};
+ghost use Rattle.p3_formula.specs.Forms.{is_set, IsBelow, AreBelow};
 ghost use Rattle.p3_formula.specs.Targets.{is_sized_change};
 ghost use Rattle.p3_formula.specs.Conditions.{is_step_below};
 ghost use Rattle.p3_reach.specs.Closed.{change_keeps, step_keeps};
 ghost use Rattle.p3_reach.specs.May as may;
-ghost use Rattle.p3_reach.specs.Models.{Says, Names, leads};
+ghost use Rattle.p3_reach.specs.Models.{Says, leads};
 
 use crate::rules::{Rule, Theory};
 use p3_base::NoMemory;

@@ -1,6 +1,6 @@
 //! The least model of a theory, by following each rule from its premises (Dowling and Gallier).
 
-ghost use Rattle.std.specs.Prelude.{◌≡◌, ◌<◌, ◌+◌, [], ◌∷◌, ◌++◌, true, false, length, All, Contains, List, slice_index_or, slice_set, replicate, IfOk, OnOk, IsTrue};
+ghost use Rattle.std.specs.Prelude.{◌≡◌, ◌<◌, ◌+◌, [], ◌∷◌, ◌++◌, true, length, slice_index_or, slice_set, replicate, IfOk, OnOk};
 ghost use Rattle.std.specs.List.{list_all};
 ghost use Rattle.p3_reach.specs.Models.{IsModel, IsInEachModel};
 ghost use Rattle.p3_reach.specs.Rules.{is_rule_below};

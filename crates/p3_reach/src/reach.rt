@@ -1,6 +1,6 @@
 //! The least set of atoms that has the initial ones and what steps that may fit add.
 
-ghost use Rattle.std.specs.Prelude.{◌≡◌, ◌<◌, ◌≤◌, ◌∷◌, ◌++◌, [], true, not, ◌||◌, take, length, IfOk, OnOk, IsTrue};
+ghost use Rattle.std.specs.Prelude.{◌≡◌, ◌<◌, ◌≤◌, ◌∷◌, ◌++◌, [], true, not, ◌||◌, take, length, IfOk, OnOk};
 ghost use Rattle.std.specs.List.{list_all};
 ghost use Rattle.p3_formula.specs.Conditions.{HasAtomsBelow, is_step_below};
 ghost use Rattle.p3_formula.specs.Forms.{is_set};
