@@ -8,20 +8,20 @@ use Rattle.std.proofs.lemmas.List.Folds.{list_all-map, list_all-append}
 use mathlib.Core.Former.{Count}
 use denote.Hole.Carrier.{hidden}
 use Rattle.p3_formula.specs.Folds.{fold_forms}
-use Rattle.p3_formula.specs.Tidy.{look, look_layer, joined as joined_look, is_tidy, is_tidy_part, is_constant}
+use Rattle.p3_formula.specs.Tidy.{look, look_layer, look_of_parts, is_tidy, is_tidy_part, is_constant}
 use Rattle.p3_formula.specs.Simplified.{negated, joined, junction, simplified, simplified_layer}
 use Rattle.p3_formula.specs.declared.form.Form.{Form, Row_of-Form, end_of-Form, more_of-Form}
 use Rattle.p3_formula.specs.declared.form.Form.TheBlock.{hidden-the_row-Form-0}
 use Rattle.p3_formula.specs.declared.form.Form.TheVariants.{True, False, Atom, Not, And, Or, Not', And', Or'}
 use Rattle.p3_formula.proofs.FormLemmas.{fold_parts}
 
-look-And : (parts : List Form) → look (And parts) ≡ joined_look (map look parts)
+look-And : (parts : List Form) → look (And parts) ≡ look_of_parts (map look parts)
 unfolding look
-look-And parts = ap joined_look (fold_parts look_layer parts)
+look-And parts = ap look_of_parts (fold_parts look_layer parts)
 
-look-Or : (parts : List Form) → look (Or parts) ≡ joined_look (map look parts)
+look-Or : (parts : List Form) → look (Or parts) ≡ look_of_parts (map look parts)
 unfolding look
-look-Or parts = ap joined_look (fold_parts look_layer parts)
+look-Or parts = ap look_of_parts (fold_parts look_layer parts)
 
 two_or_more : (n : ℕ) → nat_le 2 (suc (suc n)) ≡ true
 two_or_more n = grind (arith, nat_tests)
@@ -44,7 +44,7 @@ negated_tidy (Not' shape (more_of-Form part rest)) h = as_part part (and_parts (
 negated_tidy (And' shape parts) h = negation (And' shape parts) h refl
 negated_tidy (Or' shape parts) h = negation (Or' shape parts) h refl
 
-together_tidy : (parts : List Form) → nat_le 2 (length (map look parts)) ≡ true → list_all is_tidy_part parts ≡ true → (joined_look (map look parts)).fits ≡ true
+together_tidy : (parts : List Form) → nat_le 2 (length (map look parts)) ≡ true → list_all is_tidy_part parts ≡ true → (look_of_parts (map look parts)).fits ≡ true
 together_tidy parts many h = and_from (nat_le 2 (length (map look parts))) _ many (list_all-map (λ part. part.fits) look parts ∙ h)
 
 joined_tidy : (every : Bool) (parts : List Form) → list_all is_tidy_part parts ≡ true → is_tidy (joined every parts) ≡ true

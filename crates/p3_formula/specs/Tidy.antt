@@ -16,16 +16,16 @@ pub record Look : Type 0 where
   pub fits : Bool
   pub negation : Bool
 
-abbrev pub joined : List Look → Look
-joined parts = record { fits = nat_le 2 (length parts) && list_all (λ part. part.fits) parts; negation = false }
+abbrev pub look_of_parts : List Look → Look
+look_of_parts parts = record { fits = nat_le 2 (length parts) && list_all (λ part. part.fits) parts; negation = false }
 
 abbrev pub look_layer : Form-F Look → Look
 look_layer True = record { fits = false; negation = false }
 look_layer False = record { fits = false; negation = false }
 look_layer (Atom atom) = record { fits = true; negation = false }
 look_layer (Not part) = record { fits = part.fits && not part.negation; negation = true }
-look_layer (And parts) = joined parts
-look_layer (Or parts) = joined parts
+look_layer (And parts) = look_of_parts parts
+look_layer (Or parts) = look_of_parts parts
 
 unfoldable pub look : Form → Look
 look form = fold_form look_layer form
