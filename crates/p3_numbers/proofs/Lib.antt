@@ -1,0 +1,15 @@
+pub mod BindingLemmas
+pub mod ConditionLaws
+pub mod ConditionLemmas
+pub mod ConstraintLaws
+pub mod ConstraintLemmas
+pub mod EffectLaws
+pub mod EffectLemmas
+pub mod GoalLaws
+pub mod GoalLemmas
+pub mod JoinLemmas
+pub mod KnownLaws
+pub mod PlaceLemmas
+pub mod StartLaws
+pub mod UseLemmas
+pub mod Worked

@@ -1,0 +1,10 @@
+pub mod Conditions
+pub mod Constraints
+pub mod Effects
+pub mod Folds
+pub mod Goals
+pub mod Known
+pub mod Places
+pub mod Slots
+pub mod Starts
+pub mod Worked

@@ -1,0 +1,46 @@
+//! Effects and amounts over numbers.
+
+use crate::{Argument, Condition};
+use p3_base::{Boxed, List};
+use p3_tree::Numeral;
+
+/// By how much an action increases the total cost.
+#[derive(Debug, Drop)]
+pub enum NumberedAmount {
+    /// A number.
+    Number(Numeral),
+    /// The value that the initial state gives to a static function.
+    Value {
+        /// The function.
+        function: u32,
+        /// Its arguments.
+        args: List<Argument>,
+    },
+}
+
+/// What a step changes, over numbers.
+#[derive(Debug, Drop)]
+pub enum NumberedEffect {
+    /// An atom becomes true.
+    Add {
+        /// The predicate.
+        predicate: u32,
+        /// The arguments.
+        args: List<Argument>,
+    },
+    /// An atom becomes false, where it is not added too.
+    Del {
+        /// The predicate.
+        predicate: u32,
+        /// The arguments.
+        args: List<Argument>,
+    },
+    /// All of the parts.
+    All(List<NumberedEffect>),
+    /// The body for all objects of the ranges.
+    Each(List<u32>, Boxed<NumberedEffect>),
+    /// The body where the condition holds before the step.
+    If(Condition, Boxed<NumberedEffect>),
+    /// The total cost grows.
+    Cost(NumberedAmount),
+}

@@ -1,0 +1,22 @@
+//! The trees of a task with numbers in the place of names and slots in the place of variables, and
+//! what they mean.
+#![tactic(auto)]
+
+mod condition;
+mod constraint;
+mod effect;
+mod goal;
+mod laws;
+mod numbers;
+
+pub use condition::{Argument, Condition};
+pub use constraint::{NumberedConstraint, NumberedModal};
+pub use effect::{NumberedAmount, NumberedEffect};
+pub use goal::{Goal, Preference};
+pub use laws::{
+    numbered_arguments_mean_their_arguments, numbered_conditions_mean_their_formulas,
+    numbered_constraints_mean_their_constraints, numbered_effects_mean_their_effects,
+    numbered_goals_mean_their_goals, numbered_start_means_the_start, well_formed_tasks_are_known,
+    worked_conditions,
+};
+pub use numbers::Numbers;
