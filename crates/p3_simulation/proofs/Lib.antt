@@ -7,4 +7,15 @@ pub mod Made
 pub mod MadeLaws
 pub mod MadeMachine
 pub mod CompiledLaw
-pub mod Spread
+pub mod Watched
+pub mod Narrow
+pub mod Wide
+pub mod EndForms
+pub mod Bounds
+pub mod Steps
+pub mod Assembling
+pub mod Sized
+pub mod Keys
+pub mod Spelled
+pub mod Named
+pub mod Worked

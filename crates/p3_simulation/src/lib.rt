@@ -4,4 +4,4 @@
 
 mod laws;
 
-pub use laws::parts_make_a_compiled_task;
+pub use laws::{assembled_targets_are_compiled, parts_make_a_compiled_task};

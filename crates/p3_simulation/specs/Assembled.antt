@@ -1,0 +1,99 @@
+-- What the body of a ground compiler shows of a target: names, truth of preconditions, effects and costs of its actions.
+use Rattle.std.specs.Prelude.{◌≡◌, ℕ, ◌+◌, ◌-◌, ◌^◌, ◌<◌, ◌≤◌, Bool, true, false, ◌&&◌, List, [], ◌∷◌, ◌++◌, length, is_some, take, drop}
+use Rattle.std.specs.List.{All}
+use Rattle.p3_base.specs.Copies.{copy_name}
+use Rattle.p3_formula.specs.Forms.{State, truth, IsBelow}
+use Rattle.p3_formula.specs.Guards.{IsGuardedForm}
+use Rattle.p3_formula.specs.Weighted.{width_of}
+use Rattle.p3_formula.specs.declared.form.Change.{Change}
+use Rattle.p3_formula.specs.declared.form.Form.{Form}
+use Rattle.p3_formula.specs.declared.target.Target.{Target}
+use Rattle.p3_formula.specs.declared.target.TargetAction.{TargetAction}
+use Rattle.p3_formula.specs.declared.target.Weights.{Weights}
+use Rattle.p3_formula.specs.declared.task.GroundStep.{GroundStep}
+use Rattle.p3_formula.specs.declared.task.GroundTask.{GroundTask}
+use Rattle.p3_endphase.specs.Ends.{AreBelow, IsEndPhase}
+use Rattle.p3_endphase.specs.declared.phase.EndPhase.{EndPhase}
+use Rattle.p3_endphase.specs.declared.phase.SoftEnd.{SoftEnd}
+use Rattle.p3_monitors.specs.declared.watching.Monitor.{Monitor}
+use Rattle.p3_precprefs.specs.Copies.{HasOneCopy, HasPartsIn, HasAtomsIn, fitting, patterns, violated_lists}
+use Rattle.p3_precprefs.specs.Questions.{IsChain}
+use Rattle.p3_precprefs.specs.declared.copies.StepCopy.{StepCopy}
+use Rattle.p3_simulation.specs.Naming.{atom_names, pattern, wide_steps}
+use Rattle.p3_simulation.specs.Watching.{all_modals, AreMonitors, AreSoftEnds, IsEffects, all_accept, initial_bits}
+
+-- ---- the actions of a step
+
+-- the action of a copy fits where the running atom is set and the copy fits
+pub record IsCopyAction (go number : ℕ) (effects : List Change) (copy : StepCopy) (action : TargetAction) : Type 0 where
+  pub named : action.name ≡ copy_name number (pattern copy.violated)
+  pub pre : IsGuardedForm (go ∷ []) copy.pre action.pre
+  pub does : action.effects ≡ effects
+  pub costs : action.cost ≡ copy.cost
+
+abbrev pub AreCopyActions : ℕ → ℕ → List Change → List StepCopy → List TargetAction → Type 0
+AreCopyActions go number effects [] [] = Unit {0}
+AreCopyActions go number effects (copy ∷ copies) (action ∷ actions) = IsCopyAction go number effects copy action × AreCopyActions go number effects copies actions
+AreCopyActions go number effects [] (action ∷ actions) = ⊥
+AreCopyActions go number effects (copy ∷ copies) [] = ⊥
+
+-- the copies of a step are as `split` makes them, each with its action
+pub record IsSplit (go : ℕ) (weights : Weights) (step : GroundStep) (effects : List Change) (actions : List TargetAction) : Type 0 where
+  pub copies : List StepCopy
+  pub one_copy : (state : State) → truth state step.pre ≡ true → HasOneCopy weights step copies state
+  pub no_copy : (state : State) → truth state step.pre ≡ false → fitting state copies ≡ []
+  pub shown : violated_lists copies ≡ patterns (width_of weights.by_name step)
+  pub atoms : (allowed : ℕ → Bool) → HasPartsIn allowed step → All (λ (copy : StepCopy). HasAtomsIn allowed copy.pre) copies
+  pub are : AreCopyActions go step.number effects copies actions
+
+-- the actions of one step: none without a cost, those of its copies, or its chain, whose current atom is the next one
+pub data AreOfStep (go first : ℕ) (weights : Weights) (monitors : List Monitor) (from : ℕ) : ℕ → GroundStep → List TargetAction → Type 0 where
+  Costless : (step : GroundStep) → is_some step.cost ≡ false → AreOfStep go first weights monitors from from step []
+  Narrow : (step : GroundStep) (effects : List Change) (actions : List TargetAction) → is_some step.cost ≡ true → width_of weights.by_name step ≤ 8
+      → IsEffects go monitors step effects → IsSplit go weights step effects actions → AreOfStep go first weights monitors from from step actions
+  Wide : (step : GroundStep) (effects : List Change) (actions : List TargetAction) → is_some step.cost ≡ true → 8 < width_of weights.by_name step
+      → IsEffects go monitors step effects → IsChain go first from weights step effects actions → AreOfStep go first weights monitors from (from + 1) step actions
+
+-- the actions of the steps in order, whose current atoms stand from a number on up to another
+pub data AreOfSteps (go first : ℕ) (weights : Weights) (monitors : List Monitor) : ℕ → ℕ → List GroundStep → List TargetAction → Type 0 where
+  NoSteps : (from : ℕ) → AreOfSteps go first weights monitors from from [] []
+  OneStep : (from next to : ℕ) (step : GroundStep) (steps : List GroundStep) (own actions : List TargetAction) → AreOfStep go first weights monitors from next step own
+      → AreOfSteps go first weights monitors next to steps actions → AreOfSteps go first weights monitors from to (step ∷ steps) (own ++ actions)
+
+-- ---- the whole
+
+pub record Assembly : Type 0 where
+  -- the monitors of the hard constraints, and then of the parts of the soft ones
+  pub monitors : List Monitor
+  -- the running atom, the first question atom, and the end of the current atoms
+  pub go : ℕ
+  pub first : ℕ
+  pub last : ℕ
+  -- the actions of the steps
+  pub actions : List TargetAction
+  -- the end phase, the form of what must hold before it, and what is settled in it
+  pub phase : EndPhase
+  pub finish : Form
+  pub instances : List SoftEnd
+
+pub record IsAssembled (G : GroundTask) (weights : Weights) (X : Target) (made : Assembly) : Type 0 where
+  -- the layout
+  pub questions : made.first ≡ made.go + (length G.soft + 2)
+  pub names : X.predicates ≡ atom_names G.atoms (made.go - G.atoms) (length G.soft + 1) (wide_steps weights.by_name G.steps)
+  pub room : length X.predicates < 2 ^ 64
+  pub numbers : G.step_count < 2 ^ 32
+  -- the monitors
+  pub monitors : AreMonitors G.initial G.atoms made.go (all_modals G) made.monitors
+  pub idle : ℕ
+  pub initial : X.initial ≡ initial_bits G.initial made.monitors idle
+  pub bits : length X.initial ≡ length X.predicates
+  -- the actions and the goal
+  pub steps : AreOfSteps made.go made.first weights made.monitors (made.first + 201) made.last G.steps made.actions
+  pub actions : X.actions ≡ made.actions ++ made.phase.actions
+  pub goal : X.goal ≡ made.phase.goal
+  -- the end
+  pub accepts : (state : State) → truth state made.finish ≡ (truth state G.goal && all_accept state (take (length G.hard) made.monitors))
+  pub finish : IsBelow made.go made.finish
+  pub ends : AreSoftEnds weights.by_name G.soft (drop (length G.hard) made.monitors) made.instances
+  pub instances : AreBelow made.go made.instances
+  pub phase : IsEndPhase made.finish made.instances made.go made.phase
