@@ -1,0 +1,8 @@
+use Rattle.std.proofs.Common.{◌≡◌, ◌++◌, map, take}
+use Rattle.std.specs.List.{flat_map}
+use Rattle.p3_compile.specs.Readers.{atoms_of, reader}
+use Rattle.p3_compile.proofs.reading.+atoms.Given as goal
+
+-- the atoms of the forms passed are read
+abbrev pub invariant-push_forms-loop-form : goal.invariant-push_forms-loop-form
+invariant-push_forms-loop-form l = l.readers.items ≡ l.fn.readers.items ++ map (reader l.place) (flat_map atoms_of (take l.form-index l.forms))

@@ -1,0 +1,60 @@
+-- The changes of the monitors that a step touches.
+use Rattle.std.specs.Prelude.{◌≡◌, ℕ, ◌*◌, ◌<◌, ◌≤◌, true, List, ◌++◌, length, count_by, slice_index_or, Contains}
+use Rattle.std.specs.List.{All, list_all}
+use Rattle.std.specs.List.Sorted.{IsNonDecreasing}
+use Rattle.p3_formula.specs.Kept.{is_own}
+use Rattle.p3_formula.specs.Targets.{is_sized_change}
+use Rattle.p3_formula.specs.declared.form.Change.{Change}
+use Rattle.p3_monitors.specs.KeepsOn.{HasNone, HasConditions, AreOwn, KeepsOn}
+use Rattle.p3_monitors.specs.declared.watching.Monitor.{Monitor}
+use Rattle.p3_simulation.specs.Parts.{AreBefore}
+use Rattle.p3_simulation.specs.Watching.{AreUpdates}
+use Rattle.p3_compile.specs.Lean.{is_busy}
+use Rattle.p3_compile.specs.Tidied.{AreTidied}
+
+-- the changes are of no monitor's own atoms
+abbrev pub AreApart : List Monitor → List Change → Type 0
+AreApart monitors step = All (λ (monitor : Monitor). HasNone (is_own monitor.base monitor.modal) step) monitors
+
+abbrev pub busy_count : List Change → List Monitor → ℕ
+busy_count step monitors = count_by (λ (monitor : Monitor). is_busy step monitor.modal) monitors
+
+-- the places are those of the busy monitors, and rise
+pub record AreTouched (step : List Change) (monitors : List Monitor) (places : List ℕ) : Type 0 where
+  pub rising : IsNonDecreasing places
+  pub within : All (λ place. place < length monitors) places
+  pub busy : (place : ℕ) (monitor : Monitor) → Contains places place → is_busy step (slice_index_or monitors place monitor).modal ≡ true
+  pub all : (place : ℕ) (monitor : Monitor) → place < length monitors → is_busy step (slice_index_or monitors place monitor).modal ≡ true → Contains places place
+
+-- the changes of one monitor stand behind the others, with tidy conditions
+pub record HasUpdate (step : List Change) (monitor : Monitor) (old new : List Change) : Type 0 where
+  pub updates : List Change
+  pub tidied : List Change
+  pub own : AreOwn monitor.base monitor.modal updates
+  pub keeps : KeepsOn monitor.base monitor.modal step updates
+  pub few : length updates ≤ 2
+  pub reads : HasConditions monitor.base monitor.modal step updates
+  pub are : new ≡ old ++ tidied
+  pub same : AreTidied updates tidied
+
+-- the changes are of the monitors' own atoms, and have no other atoms than these and those of the constraints and of the step
+pub record HasOwnAtoms (step : List Change) (monitors : List Monitor) (updates : List Change) : Type 0 where
+  pub inside : (sources bound : ℕ) → sources ≤ bound → AreBefore sources bound monitors → list_all (is_sized_change sources) step ≡ true → list_all (is_sized_change bound) updates ≡ true
+
+-- so for those of all monitors that the step touches, at most two for each
+pub record HasUpdates (step : List Change) (monitors : List Monitor) (old new : List Change) : Type 0 where
+  pub updates : List Change
+  pub tidied : List Change
+  pub watched : AreUpdates step monitors updates
+  pub few : length updates ≤ 2 * busy_count step monitors
+  pub atoms : HasOwnAtoms step monitors updates
+  pub are : new ≡ old ++ tidied
+  pub same : AreTidied updates tidied
+
+-- the changes of the step and of the monitors that it touches, with tidy conditions
+pub record HasChanges (step : List Change) (monitors : List Monitor) (changes : List Change) : Type 0 where
+  pub updates : List Change
+  pub watched : AreUpdates step monitors updates
+  pub few : length updates ≤ 2 * busy_count step monitors
+  pub atoms : HasOwnAtoms step monitors updates
+  pub same : AreTidied (step ++ updates) changes

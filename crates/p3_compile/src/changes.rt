@@ -1,0 +1,100 @@
+//! The changes of a step in a target: its own, and those of the monitors that it touches.
+
+ghost use Rattle.std.specs.Prelude.{◌≡◌, ◌++◌, IfOk, OnOk, true};
+ghost use Rattle.std.specs.List.{All, list_all};
+ghost use Rattle.std.specs.List.Sorted.{IsPermutation};
+ghost use Rattle.p3_formula.specs.Kept.{is_own};
+ghost use Rattle.p3_monitors.specs.KeepsOn.{HasNone};
+ghost use Rattle.p3_regress.specs.Memory.{Extends};
+ghost use Rattle.p3_compile.specs.Readers.{readers_from, IsRising};
+ghost use Rattle.p3_compile.specs.Tidied.{IsTidied, HasTidied};
+ghost use Rattle.p3_compile.specs.Updated.{AreApart, AreTouched, HasUpdates, HasUpdate, HasChanges};
+
+use crate::reading::Reader;
+use crate::touching::touched;
+use p3_base::{List, NoMemory};
+use p3_formula::{Change, Effects, Table, simplify};
+use p3_monitors::Monitor;
+use p3_regress::Regressed;
+use std::alloc::Global;
+
+/// The change with a tidy condition.
+fn change_tidied(alloc: Global, change: &Change) -> Result<Change, NoMemory>
+    ensures { IfOk result (IsTidied change.now) }
+{
+    let cond = simplify(alloc, &change.cond)?;
+    Ok(Change {
+        cond,
+        atom: change.atom,
+        add: change.add,
+    })
+}
+
+/// The changes with tidy conditions stand behind the others.
+fn push_tidied(alloc: Global, all: &mut Effects, changes: &Effects) -> Result<(), NoMemory>
+    ensures { OnOk result (HasTidied changes.now all.old all.new) }
+{
+    for change in changes.items() {
+        all.push(change_tidied(alloc, change)?)?;
+    }
+    Ok(())
+}
+
+/// What rides on a step for one monitor stands behind the other changes.
+fn push_update(
+    alloc: Global,
+    all: &mut Effects,
+    monitor: &Monitor,
+    regressed: &mut Regressed,
+) -> Result<(), NoMemory>
+    requires { HasNone (is_own monitor.now.base monitor.now.modal) regressed.old.effects }
+    ensures pushed { OnOk result (HasUpdate regressed.old.effects monitor.now all.old all.new) }
+    ensures extends { Extends regressed.old regressed.new }
+{
+    let changes = monitor.effects_in(alloc, regressed)?;
+    push_tidied(alloc, all, &changes)
+}
+
+/// What rides on a step for the monitors that it touches stands behind the other changes. Their
+/// places rise, and one may stand several times.
+fn push_updates(
+    alloc: Global,
+    all: &mut Effects,
+    monitors: &[Monitor],
+    places: &[usize],
+    regressed: &mut Regressed,
+) -> Result<(), NoMemory>
+    requires apart { AreApart monitors.now regressed.old.effects }
+    requires touched { AreTouched regressed.old.effects monitors.now places.now }
+    ensures { OnOk result (HasUpdates regressed.old.effects monitors.now all.old all.new) }
+{
+    let mut next = 0;
+    for place in places {
+        if *place >= next {
+            push_update(alloc, all, &monitors[*place], regressed)?;
+            next = *place + 1;
+        }
+    }
+    Ok(())
+}
+
+/// The changes of a step in the target, with tidy conditions: its own, and those of the monitors
+/// that it touches.
+pub(crate) fn step_changes(
+    alloc: Global,
+    monitors: &[Monitor],
+    readers: &[Reader],
+    step: &Effects,
+) -> Result<Effects, NoMemory>
+    requires apart { AreApart monitors.now step.now }
+    requires readers { IsPermutation (readers_from 0 monitors.now) readers.now }
+    requires rising { IsRising readers.now }
+    ensures { IfOk result (HasChanges step.now monitors.now) }
+{
+    let places = touched(alloc, readers, step)?;
+    let mut all = List::new(alloc);
+    push_tidied(alloc, &mut all, step)?;
+    let mut regressed = Regressed::open(alloc, Table::new(alloc), step)?;
+    push_updates(alloc, &mut all, monitors, &places, &mut regressed)?;
+    Ok(all)
+}

@@ -1,0 +1,105 @@
+//! The actions of a step with few weighted preferences: one for each of its copies.
+
+ghost use Rattle.std.specs.Prelude.{◌≡◌, ◌<◌, ◌≤◌, ◌+◌, ◌++◌, [], length, sum_by, IfOk, IsSome, IsTrue, string_bytes};
+ghost use Rattle.std.specs.List.{list_all};
+ghost use Rattle.p3_base.specs.Copies.{copy_name};
+ghost use Rattle.p3_formula.specs.Conditions.{cost_limit, is_tidy_action};
+ghost use Rattle.p3_formula.specs.Weighted as weigh;
+ghost use Rattle.p3_compile.specs.Tidied.{HasTidyConditions};
+ghost use Rattle.p3_simulation.specs.Assembled.{IsCopyAction, AreCopyActions, IsSplit};
+ghost use Rattle.p3_simulation.specs.Naming.{pattern};
+
+use p3_base::{List, Name, NoMemory};
+use p3_formula::{Effects, GroundStep, TargetAction, Weights, copied, effects_copied, guarded};
+use p3_precprefs::{StepCopy, split};
+use std::alloc::Global;
+
+/// Behind the text a digit for each preference: 1 where it is violated, and else 0.
+fn pattern_pushed(text: String, violated: &List<bool>) -> Result<String, NoMemory>
+    ensures { IfOk result (λ new. string_bytes new ≡ string_bytes text ++ pattern violated.now) }
+{
+    let mut text = text;
+    for one in violated.items() {
+        let digit = if *one { "1" } else { "0" };
+        text.push_str(digit)?;
+    }
+    Ok(text)
+}
+
+/// `s`, the number and `v`.
+fn copy_prefix(alloc: Global, number: u32) -> Result<String, NoMemory>
+    ensures { IfOk result (λ text. string_bytes text ≡ copy_name number []) }
+{
+    Ok(format!(in alloc; "s{number}v")?)
+}
+
+/// The name of a copy.
+#[tactic(auto, using(crate::proofs::CopyNames::lowered_copy, crate::proofs::CopyNames::copy_name_joined))]
+fn name_of_copy(alloc: Global, number: u32, violated: &List<bool>) -> Result<Name, NoMemory>
+    ensures { IfOk result (λ name. name ≡ copy_name number (pattern violated.now)) }
+{
+    let text = pattern_pushed(copy_prefix(alloc, number)?, violated)?;
+    Name::of(alloc, text.as_bytes())
+}
+
+/// The action of a copy.
+fn copy_action(
+    alloc: Global,
+    number: u32,
+    effects: &Effects,
+    copy: &StepCopy,
+    go: usize,
+) -> Result<TargetAction, NoMemory>
+    ensures { IfOk result (IsCopyAction go number effects.now copy.now) }
+{
+    let name = name_of_copy(alloc, number, &copy.violated)?;
+    let pre = guarded(alloc, [go].as_slice(), copied(alloc, &copy.pre)?)?;
+    let effects = effects_copied(alloc, effects)?;
+    let cost = copy.cost;
+    Ok(TargetAction {
+        name,
+        pre,
+        effects,
+        cost,
+    })
+}
+
+/// An action for each copy.
+fn copy_actions(
+    alloc: Global,
+    number: u32,
+    effects: &Effects,
+    copies: &List<StepCopy>,
+    go: usize,
+) -> Result<List<TargetAction>, NoMemory>
+    ensures { IfOk result (AreCopyActions go number effects.now copies.now) }
+{
+    let mut actions = List::new(alloc);
+    for copy in copies.items() {
+        actions.push(copy_action(alloc, number, effects, copy, go)?)?;
+    }
+    Ok(actions)
+}
+
+/// The actions of a step with at most 8 weighted preferences, where these are the changes that the
+/// step makes in the target.
+pub(crate) fn narrow_actions(
+    alloc: Global,
+    step: &GroundStep,
+    effects: &Effects,
+    weights: &Weights,
+    go: usize,
+) -> Result<List<TargetAction>, NoMemory>
+    requires cost { IsSome step.now.cost }
+    requires names { weigh.AreNamedBelow (length weights.now.by_name) step.now.prefs }
+    requires few { weigh.width_of weights.now.by_name step.now ≤ 8 }
+    requires room { weigh.weighted_cost weights.now step.now
+        + sum_by (weigh.weight_of weights.now.by_name) step.now.prefs < cost_limit }
+    ensures split { IfOk result (IsSplit go weights.now step.now effects.now) }
+    // They are tidy where the changes are.
+    ensures tidy { HasTidyConditions effects.now
+        → IfOk result (λ actions. IsTrue (list_all is_tidy_action actions)) }
+{
+    let copies = split(alloc, step, weights)?;
+    copy_actions(alloc, step.number, effects, &copies, go)
+}
