@@ -23,6 +23,9 @@ const EXAMPLE_PROBLEM: &str =
 const MOVE_DOMAIN: &str =
     "(define (domain compiled)\n(:requirements :adl :action-costs)\n(:predicates (p) (q))\n(:functions (total-cost) - number)\n(:action move :parameters ()\n :precondition (and)\n :effect (and (when (q) (not (p))) (q) (increase (total-cost) 7)))\n)\n";
 
+/// The bytes of a domain's text beside its actions.
+const SHELL_BYTES: usize = 120;
+
 fn both_changes(alloc: Global, first: Change, second: Change) -> Result<Effects, NoMemory>
     ensures { IfOk result (λ effects. effects ≡ first ∷ second ∷ []) }
 {
@@ -242,6 +245,74 @@ fn goal_is(rt: &(impl Abort + AllocGlobal), goal: Form, text: &str) -> Result<()
     )?;
     let problem = write_problem(alloc, &target)?;
     assert_eq!(rt; problem.as_slice(), wanted.as_bytes(), "{text}");
+    Ok(())
+}
+
+/// An atom under so many negations.
+#[tactic(auto, using(p3_formula::proofs::FormLemmas::atom_laws))]
+fn deep(alloc: Global, levels: u32) -> Result<Form, NoMemory>
+    ensures { IfOk result (IsBelow 2) }
+{
+    let mut form = Form::Atom(0);
+    for _ in 0..levels {
+        form = Form::negation(alloc, form)?;
+    }
+    Ok(form)
+}
+
+#[test]
+fn a_deep_goal_is_written(rt: HostRuntime) -> Result<(), Fail> {
+    let alloc = rt.alloc();
+    let target = with_goal(alloc, deep(alloc, 0)?)?;
+    let flat = write_problem(alloc, &target)?;
+    let target = with_goal(alloc, deep(alloc, 1000)?)?;
+    let problem = write_problem(alloc, &target)?;
+    assert_eq!(rt; problem.len(), flat.len() + 1000 * "(not )".len());
+    Ok(())
+}
+
+/// So many actions, all alike: the writer does not ask that names differ.
+fn alike(alloc: Global, count: u32) -> Result<List<TargetAction>, NoMemory>
+    ensures sized { IfOk result (λ actions. IsTrue (list_all (is_sized_action 2) actions)) }
+    ensures names { IfOk result (λ actions. IsTrue (list_all is_name (map (λ action. action.name) actions))) }
+    ensures spelled { IfOk result (λ actions. AreSpelled (map (λ action. action.name) actions)) }
+{
+    let mut actions = List::new(alloc);
+    for _ in 0..count {
+        actions.push(conditional(alloc)?)?;
+    }
+    Ok(actions)
+}
+
+/// Two predicates, and so many actions.
+#[tactic(auto, using(p3_formula::proofs::FormLemmas::atom_laws))]
+fn large(alloc: Global, count: u32) -> Result<Target, NoMemory>
+    ensures sized { IfOk result IsSized }
+    ensures predicates { IfOk result (λ X. IsTrue (list_all is_predicate_name X.predicates)) }
+    ensures actions { IfOk result (λ X. IsTrue (list_all is_name (action_names X))) }
+    ensures spelled { IfOk result (λ X. AreSpelled (X.predicates ++ action_names X)) }
+{
+    let mut predicates = List::new(alloc);
+    predicates.push(Name::of(alloc, b"p")?)?;
+    predicates.push(Name::of(alloc, b"q")?)?;
+    let initial = Bits::new(alloc, 2)?;
+    let actions = alike(alloc, count)?;
+    let goal = Form::True;
+    Ok(Target {
+        predicates,
+        initial,
+        actions,
+        goal,
+    })
+}
+
+#[test]
+fn a_large_domain_is_written(rt: HostRuntime) -> Result<(), Fail> {
+    let alloc = rt.alloc();
+    let target = large(alloc, 800_000)?;
+    let domain = write_domain(alloc, &target)?;
+    let one = MOVE_DOMAIN.len() - SHELL_BYTES;
+    assert_eq!(rt; domain.len(), SHELL_BYTES + 800_000 * one);
     Ok(())
 }
 
