@@ -21,7 +21,6 @@ use Rattle.p3_compile.proofs.TinyReading.{OneAction, OnePreference, one_instance
 use Rattle.p3_tree.specs.declared.task.Action.{Action}
 use Rattle.p3_tree.specs.declared.task.Step.{Step}
 use Rattle.p3_tree.specs.declared.task.Task.{Task}
-use Rattle.p3_syntax.proofs.GrammarLemmas.{task_text}
 use Rattle.p3_cli.specs.Ending.{status_of}
 use Rattle.p3_tree.specs.Reports.Tasks.{direction_name}
 use Rattle.p3_cli.specs.Meaning.{HoldsTask, task_report, IsCompiled, IsDone}
@@ -35,7 +34,6 @@ use Rattle.p3_cli.specs.declared.ending.Ending.{Ending}
 use Rattle.p3_cli.specs.declared.ending.Ending.TheVariants as ending
 use Rattle.p3_compile.proofs.TinyWellFormed.{tiny_well_formed}
 use Rattle.p3_cli.proofs.RunLemmas.{kept_status}
-use Rattle.p3_cli.proofs.SpelledLemmas.{spelled_task}
 
 -- ---- what the names hold
 
@@ -145,13 +143,12 @@ report_is T tiny = λ i. codes "steps " ++ (decimal (step_count_is T tiny i) ++ 
 
 compiled : (domain problem od op d p odt opt report : List ℕ) (store : Store) (before after : Option (List ℕ)) (status : ℕ) → od ≢ op → bytes_under store domain ≡ Some d → bytes_under store problem ≡ Some p
     → IsTranslation d p odt opt report → (status ≡ 0 → after ≡ with_put report before) → IsCompiled domain problem od op store (insert (insert store od odt) op opt) before after status
-compiled domain problem od op d p odt opt report store before after status apart first second (task, spelled, made) put =
-    let tiny : IsTinyTask task = spelled_task d p task spelled in
+compiled domain problem od op d p odt opt report store before after status apart first second (task, spelled, tiny, made) put =
     let both : (bytes_under (insert (insert store od odt) op opt) od ≡ Some odt) × (bytes_under (insert (insert store od odt) op opt) op ≡ Some opt) = both_written store od op odt opt apart in
     record {
       task = task;
       written = made.text.0;
-      read = holds_task store domain problem d p task first second (task_text d p task spelled.domain spelled.problem);
+      read = holds_task store domain problem d p task first second spelled.reads;
       tiny = tiny;
       well_formed = tiny_well_formed task tiny;
       holds = holds_task (insert (insert store od odt) op opt) od op odt opt made.text.0 both.0 both.1 made.text.1;

@@ -1,5 +1,5 @@
 -- What follows from how a run ends.
-use Rattle.std.proofs.Common.{◌≡◌, ◌∙◌, ◌≢◌, ◌⊎◌, ℕ, false, cond, List, [], ◌∷◌, map, take, Option, Some, None, IfSome, IsSome, refl, sym, ap, subst, inl, inr}
+use Rattle.std.proofs.Common.{◌≡◌, ◌∙◌, ◌≢◌, ◌⊎◌, ℕ, false, cond, List, [], ◌∷◌, map, take, Option, Some, None, IfSome, refl, sym, ap, subst, inl, inr, ◌≤◌, arith}
 use Rattle.std.specs.Option.{option_map}
 use Rattle.std.specs.List.{AllByRecursion, slice_get}
 use Rattle.std.specs.Prelude.{IsSomeAnd, zero, suc}
@@ -11,19 +11,53 @@ use Rattle.std.specs.FinMap.{get, get-insert, slice_cmp-IsAntisymmetric, nat_cmp
 use Rattle.p3_base.specs.Outside.{Store, Rose, bytes_under, holding, IsPartlyWritten}
 use Rattle.p3_base.specs.declared.refusal.Role.{Role}
 use Rattle.p3_cli.specs.Ending.{status_of}
-use Rattle.p3_cli.specs.Request.{Request, outputs}
-use Rattle.p3_tree.specs.Commands.{Output}
-use Rattle.p3_cli.specs.Run.{FilesState, SinkState, IsAccepted, IsProduct, refusal_in, shown_by, Comes, Leaves, Tells, Answers, IsRefusedIn, IsAcceptedIn, SameUnder, OthersStay}
-use Rattle.p3_cli.specs.Store.{holding_all, IsWrittenUpTo}
+use Rattle.p3_cli.specs.Outcome.{ReadsAll, WriteFails}
+use Rattle.p3_cli.specs.Product.{Accepts, IsRefusedBy, Refuses}
+use Rattle.p3_cli.specs.Request.{Request, inputs, outputs}
+use Rattle.p3_tree.specs.Commands.{Input, Output}
+use Rattle.p3_cli.specs.Run.{FilesState, SinkState, IsAccepted, IsProduct, IsRefusalIn, ShownBy, Comes, Leaves, Tells, Answers, IsRefusedIn, IsAcceptedIn, SameUnder, OthersStay}
+use Rattle.p3_cli.specs.Store.{Texts, reading, holding_all, IsWrittenUpTo}
 use Rattle.p3_cli.specs.declared.ending.Ending.{Ending}
 use Rattle.p3_cli.specs.declared.ending.Ending.TheVariants as ending
 
 -- what is accepted shows no refusal
-accepted_shows_none : (store : Store) (request : Request) → IsAccepted store request → refusal_in store request ≡ None
-accepted_shows_none store request (texts, read, none) = ap (shown_by request) read ∙ none
+accepted_or : {A : Type 0} (store : Store) (request : Request) (how : Ending) → IsAccepted store request → IsRefusalIn store request how → A
+accepted_or store request how (texts, read, none) shown = absurd (none how (subst (λ found. ShownBy request found how) read shown))
 
-accepted_or : {A : Type 0} (store : Store) (request : Request) → IsAccepted store request → IsSome (refusal_in store request) → A
-accepted_or store request accepted shown = absurd (subst (λ refusal. IsSome refusal → ⊥) (sym (accepted_shows_none store request accepted)) (λ some. cc) shown)
+-- what was read of the inputs, where it is told
+module _ (request : Request) (asked : List Input) (same : asked ≡ inputs request) (found texts : List (List ℕ)) (are : found ≡ texts) where
+  -- what is accepted of it is accepted of what is held
+  pub all_accepted : (told : Option Store) → ReadsAll told asked found → Accepts request texts → IfSome told (λ store. IsAccepted store request)
+  all_accepted None read accepted = tt
+  all_accepted (Some store) read accepted = (texts, (λ i. reading store (sym same i)) ∙ read ∙ ap Texts are, accepted)
+
+  refused_of : (told : Option Store) (how : Ending) → ReadsAll told asked found → Refuses request texts how → IfSome told (λ store. IsRefusalIn store request how)
+  refused_of None how read refused = tt
+  refused_of (Some store) how read refused = subst (λ shown. ShownBy request shown how) (sym ((λ i. reading store (sym same i)) ∙ read ∙ ap Texts are)) refused
+
+  -- what is refused of it is refused of what is held
+  pub refused_comes : (old new : FilesState) (how : Ending) → ReadsAll old.held asked found → IsRefusedBy (Refuses request texts) how → Comes request old new how
+  refused_comes old new ending.OutOfMemory read refused = tt
+  refused_comes old new (ending.Refused line) read refused = refused_of old.held (ending.Refused line) read refused
+  refused_comes old new (ending.Done report) read refused = absurd refused
+  refused_comes old new (ending.TooLong role) read refused = absurd refused
+  refused_comes old new (ending.ReadFailed role) read refused = absurd refused
+  refused_comes old new (ending.WriteFailed role) read refused = absurd refused
+  refused_comes old new ending.Usage read refused = absurd refused
+
+  rose_since : (first before after : ℕ) → first ≤ before → Rose before after → Rose first after
+  rose_since first before after grows rose = elim rose [ inl less ↦ inl (omega arith) | inr most ↦ inr most ]
+
+  -- where what is accepted was not written
+  pub unwritten_comes : (old new : FilesState) (how : Ending) (writings : List (Output × List ℕ)) (told : Option Store) (before : ℕ) → ReadsAll old.held asked found → Accepts request texts
+      → old.write_faults ≤ before → WriteFails writings told new.held before new.write_faults how → Comes request old new how
+  unwritten_comes old new ending.OutOfMemory writings told before read accepted grows fails = tt
+  unwritten_comes old new (ending.WriteFailed role) writings told before read accepted grows fails = (rose_since old.write_faults before new.write_faults grows fails.1, all_accepted old.held read accepted)
+  unwritten_comes old new (ending.Refused line) writings told before read accepted grows fails = absurd fails
+  unwritten_comes old new (ending.Done report) writings told before read accepted grows fails = absurd fails
+  unwritten_comes old new (ending.TooLong role) writings told before read accepted grows fails = absurd fails
+  unwritten_comes old new (ending.ReadFailed role) writings told before read accepted grows fails = absurd fails
+  unwritten_comes old new ending.Usage writings told before read accepted grows fails = absurd fails
 
 abbrev state : Option Store → ℕ → ℕ → FilesState
 state told reads writes = record { held = told; read_faults = reads; write_faults = writes }
@@ -40,13 +74,13 @@ kept_status before after status ending.Usage tells other = elim tells [ inl t �
 
 refuses_request : (request : Request) (told : Option Store) (reads writes : ℕ) (new : FilesState) (before after : SinkState) (status : ℕ) (how : Ending)
     → Comes request (state told reads writes) new how → Tells before after status how
-    → IfSome told (λ store. IsSome (refusal_in store request) → Rose reads new.read_faults ⊎ ((status ≡ 2) ⊎ (status ≡ 5)))
+    → IfSome told (λ store. ((how : Ending) × IsRefusalIn store request how) → Rose reads new.read_faults ⊎ ((status ≡ 2) ⊎ (status ≡ 5)))
 refuses_request request None reads writes new before after status how comes tells = tt
-refuses_request request (Some store) reads writes new before after status (ending.Done report) comes tells = accepted_or store request comes
+refuses_request request (Some store) reads writes new before after status (ending.Done report) comes tells = λ shown. accepted_or store request shown.0 comes shown.1
 refuses_request request (Some store) reads writes new before after status (ending.Refused line) comes tells = λ shown. inr (inl (kept_status before after status (ending.Refused line) tells (λ e. cc)))
 refuses_request request (Some store) reads writes new before after status (ending.TooLong role) comes tells = λ shown. inr (inl (kept_status before after status (ending.TooLong role) tells (λ e. cc)))
 refuses_request request (Some store) reads writes new before after status (ending.ReadFailed role) comes tells = λ shown. inl comes.1
-refuses_request request (Some store) reads writes new before after status (ending.WriteFailed role) comes tells = accepted_or store request comes.1
+refuses_request request (Some store) reads writes new before after status (ending.WriteFailed role) comes tells = λ shown. accepted_or store request shown.0 comes.1 shown.1
 refuses_request request (Some store) reads writes new before after status ending.OutOfMemory comes tells = λ shown. inr (inr (kept_status before after status ending.OutOfMemory tells (λ e. cc)))
 refuses_request request (Some store) reads writes new before after status ending.Usage comes tells = absurd comes
 
@@ -69,9 +103,9 @@ completes_request request None reads writes new before after status how comes te
 completes_request request (Some store) reads writes new before after status (ending.Done report) comes tells =
     λ accepted. elim tells [ inl t ↦ inr (inr (inr (inl t.0))) | inr t ↦ inr (inr (inl t.1)) ]
 completes_request request (Some store) reads writes new before after status (ending.Refused line) comes tells =
-    λ accepted. let none : refusal_in store request ≡ None = accepted_shows_none store request accepted in absurd cc
+    λ accepted. accepted_or store request (ending.Refused line) accepted comes
 completes_request request (Some store) reads writes new before after status (ending.TooLong role) comes tells =
-    λ accepted. let none : refusal_in store request ≡ None = accepted_shows_none store request accepted in absurd cc
+    λ accepted. accepted_or store request (ending.TooLong role) accepted comes
 completes_request request (Some store) reads writes new before after status (ending.ReadFailed role) comes tells = λ accepted. inl comes.1
 completes_request request (Some store) reads writes new before after status (ending.WriteFailed role) comes tells = λ accepted. inr (inl comes.0)
 completes_request request (Some store) reads writes new before after status ending.OutOfMemory comes tells =

@@ -1,48 +1,74 @@
--- What two texts spell is tiny.
-use Rattle.std.proofs.Common.{◌≡◌, ℕ, Bool, true, false, List, Option, Some, None, refl, subst, cond}
-use Rattle.std.specs.Prelude.{IsTrue, ◌&&◌}
-use Rattle.p3_compile.specs.Tiny.{IsTinyTask, is_tiny_task, is_tiny_domain, is_tiny_problem}
-use Rattle.p3_tree.specs.Expressions.{expression_of_text}
-use Rattle.p3_tree.specs.declared.expression.Expression.{Expression}
+-- What two texts spell, and what is refused of them.
+use Rattle.std.proofs.Common.{◌≡◌, ◌∙◌, ℕ, true, false, List, length, refl, sym, ap, subst, inl, inr}
+use Rattle.p3_base.specs.declared.refusal.Refusal.{Refusal}
+use Rattle.p3_base.specs.declared.refusal.Role.TheVariants as role
+use Rattle.p3_base.specs.declared.refusal.Side.TheVariants.{Source}
+use Rattle.p3_tree.specs.Grammar.Halves.{domain_place, problem_place}
+use Rattle.p3_tree.specs.Refusals.First.{HalfText, halves, IsRefusedText, IsReadable, AreReadable}
+use Rattle.p3_tree.specs.Sides.{InDomain, InProblem}
 use Rattle.p3_tree.specs.declared.task.Domain.{Domain}
 use Rattle.p3_tree.specs.declared.task.Problem.{Problem}
 use Rattle.p3_tree.specs.declared.task.Task.{Task}
-use Rattle.p3_syntax.specs.Reading.{◌>>=◌}
-use Rattle.p3_syntax.specs.Domain.{domain_of}
-use Rattle.p3_syntax.specs.Problem.{problem_of}
-use Rattle.p3_syntax.specs.Texts.{domain_of_text, problem_of_text, kept, source_depth}
-use Rattle.p3_cli.specs.Translation.{IsSpelled}
+use Rattle.p3_tree.proofs.TextLemmas.{one_task_at_most}
+use Rattle.p3_compile.specs.Tiny.{IsTinyTask, is_tiny_task}
+use Rattle.p3_syntax.specs.Texts.{IsHalfText, IfRefused}
+use Rattle.p3_syntax.specs.First.{IsWithin}
+use Rattle.p3_syntax.specs.declared.error.ReadFail.{ReadFail}
+use Rattle.p3_syntax.specs.declared.error.ReadFail.TheVariants as fail
+use Rattle.p3_cli.specs.Product.{IsRefusedBy, EndsAs}
+use Rattle.p3_cli.specs.Translation.{source_texts, IsSpelled, beyond, Shows, InText, NotTiny, AreAccepted, text_of, refused_in, IsRefusal}
+use Rattle.p3_cli.specs.declared.ending.Ending.{Ending}
+use Rattle.p3_cli.specs.declared.ending.Ending.TheVariants as ending
 
-kept_passes : {A : Type 0} (test : A → Bool) (x y : A) → kept test x ≡ Some y → IsTrue (test y)
-kept_passes test x y is =
-    elim (test x) as (λ passes. test x ≡ passes → cond passes (Some x) None ≡ Some y → IsTrue (test y)) [
-      | true ↦ λ passes e. let same : x ≡ y = cc in subst (λ z. IsTrue (test z)) same passes
-      | false ↦ λ passes e. cc
-    ] refl is
+module _ (d p : List ℕ) where
+  are_readable : IsReadable (HalfText Source InDomain d) → IsReadable (HalfText Source InProblem p) → AreReadable (halves (source_texts d p))
+  are_readable first second refusal (inl shown) = first refusal shown
+  are_readable first second refusal (inr (before, inl shown)) = second refusal shown
+  are_readable first second refusal (inr (before, inr (also, none))) = none
 
-last_kept : {A B : Type 0} (test : B → Bool) (o : Option A) (f : A → Option B) (y : B) → (o >>= λ x. f x >>= kept test) ≡ Some y → IsTrue (test y)
-last_kept test None f y is = cc
-last_kept test (Some x) f y is =
-    elim (f x) as (λ made. (made >>= kept test) ≡ Some y → IsTrue (test y)) [
-      | None ↦ λ e. cc
-      | Some z ↦ λ e. kept_passes test z y e
-    ] is
+  -- two halves that are read are those of a task
+  pub halves_spell : (domain : Domain) (problem : Problem) → IsHalfText domain_place d domain → IsReadable (HalfText Source InDomain d)
+      → IsHalfText problem_place p problem → IsReadable (HalfText Source InProblem p) → IsSpelled d p (record { domain = domain; problem = problem })
+  halves_spell domain problem half first other second = record {
+    readable = are_readable first second;
+    reads = record {
+      domain = half.expression;
+      problem = other.expression;
+      domain_balanced = half.balanced;
+      problem_balanced = other.balanced;
+      texts = record { domain = half.reads; problem = other.reads };
+    };
+  }
 
-spelled_domain : (text : List ℕ) (domain : Domain) → domain_of_text text ≡ Some domain → IsTrue (is_tiny_domain domain)
-unfolding domain_of_text
-spelled_domain text domain is = last_kept {A = Expression} is_tiny_domain (expression_of_text source_depth text) domain_of domain is
+  both_tests : (T U : Task) → T ≡ U → is_tiny_task T ≡ true → is_tiny_task U ≡ false → ⊥
+  both_tests T U same tiny not_tiny = let e : is_tiny_task T ≡ is_tiny_task U = ap is_tiny_task same in cc
 
-spelled_problem : (text : List ℕ) (problem : Problem) → problem_of_text text ≡ Some problem → IsTrue (is_tiny_problem problem)
-unfolding problem_of_text
-spelled_problem text problem is = last_kept {A = Expression} is_tiny_problem (expression_of_text source_depth text) problem_of problem is
+  -- nothing is refused of the texts of a tiny task
+  pub tiny_accepted : (task : Task) → IsSpelled d p task → IsTinyTask task → AreAccepted d p
+  tiny_accepted task spelled tiny refusal (InText _ shown) = spelled.readable refusal shown
+  tiny_accepted task spelled tiny refusal (NotTiny other spells not_tiny) = both_tests task other (one_task_at_most d p task other spelled.reads spells.reads) tiny not_tiny
 
-all_three : (a b c : Bool) → IsTrue a → IsTrue b → IsTrue c → IsTrue (a && b && c)
-all_three true true true p q r = refl
-all_three false b c p q r = cc
-all_three true false c p q r = cc
-all_three true true false p q r = cc
+  says : (text : List ℕ) (refusal : Refusal) (how : Ending) → Shows d p refusal → text ≡ text_of refusal.pos.role d p → IsRefusedBy (λ end. end ≡ refused_in text refusal) how → IsRefusedBy (IsRefusal d p) how
+  says text refusal ending.OutOfMemory shows is told = tt
+  says text refusal (ending.Refused line) shows is told = record { refusal = refusal; shows = shows; says = told ∙ ap (λ words. refused_in words refusal) is }
+  says text refusal (ending.Done report) shows is told = told
+  says text refusal (ending.TooLong role) shows is told = told
+  says text refusal (ending.ReadFailed role) shows is told = told
+  says text refusal (ending.WriteFailed role) shows is told = told
+  says text refusal ending.Usage shows is told = told
 
--- a task that two texts spell is tiny
-pub spelled_task : (d p : List ℕ) (task : Task) → IsSpelled d p task → IsTinyTask task
-unfolding is_tiny_task
-spelled_task d p task spelled = all_three _ _ _ (spelled_domain d task.domain spelled.domain) (spelled_problem p task.problem spelled.problem) spelled.together
+  no_memory : (how : Ending) → how ≡ ending.OutOfMemory → IsRefusedBy (IsRefusal d p) how
+  no_memory how is = subst (IsRefusedBy (IsRefusal d p)) (sym is) tt
+
+  pub domain_refused : (found : ReadFail) (how : Ending) → IfRefused found (IsRefusedText (HalfText Source InDomain d)) → IfRefused found (IsWithin role.Domain (length d)) → EndsAs d found how
+      → IsRefusedBy (IsRefusal d p) how
+  domain_refused fail.NoMemory how shown stands told = no_memory how told
+  domain_refused (fail.Refused refusal) how shown stands told = says d refusal how (InText refusal (inl shown)) (ap (λ of. text_of of d p) (sym stands.file)) told
+
+  pub problem_refused : (found : ReadFail) (how : Ending) → IsReadable (HalfText Source InDomain d) → IfRefused found (IsRefusedText (HalfText Source InProblem p))
+      → IfRefused found (IsWithin role.Problem (length p)) → EndsAs p found how → IsRefusedBy (IsRefusal d p) how
+  problem_refused fail.NoMemory how first shown stands told = no_memory how told
+  problem_refused (fail.Refused refusal) how first shown stands told = says p refusal how (InText refusal (inr (first, inl shown))) (ap (λ of. text_of of d p) (sym stands.file)) told
+
+  pub task_refused : (task : Task) (how : Ending) → IsSpelled d p task → is_tiny_task task ≡ false → IsRefusedBy (λ end. end ≡ refused_in d beyond) how → IsRefusedBy (IsRefusal d p) how
+  task_refused task how spelled not_tiny told = says d beyond how (NotTiny task spelled not_tiny) refl told

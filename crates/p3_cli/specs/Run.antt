@@ -1,10 +1,10 @@
 -- A whole run: when each ending comes, what it leaves in the files, and what it puts.
-use Rattle.std.specs.Prelude.{ℕ, ◌≡◌, ◌⊎◌, List, Option, Some, None, IfSome, IsSome, Contains, map, ◌≢◌}
+use Rattle.std.specs.Prelude.{ℕ, ◌≡◌, ◌⊎◌, List, Option, Some, None, IfSome, Contains, map, ◌≢◌}
 use Rattle.std.specs.Option.{option_map}
 use Rattle.std.specs.List.{AllByRecursion}
 use Rattle.p3_base.specs.Outside.{Store, Rose, IsPartlyPut, bytes_under, with_put}
 use Rattle.p3_cli.specs.Ending.{status_of, lines_of}
-use Rattle.p3_cli.specs.Product.{refused, Produces}
+use Rattle.p3_cli.specs.Product.{Refuses, Accepts, Produces}
 use Rattle.p3_cli.specs.Request.{Request, inputs, outputs}
 use Rattle.p3_tree.specs.Commands.{Output}
 use Rattle.p3_cli.specs.Store.{Reading, Texts, TooLong, Absent, reading, AreStored, holding_all, AreFirstWritten, IsWrittenUpTo}
@@ -22,19 +22,19 @@ pub record SinkState : Type 0 where
   pub written : Option (List ℕ)
   pub faults : ℕ
 
--- the refusal that a reading shows, as the ending that says it
-abbrev pub shown_by : Request → Reading → Option Ending
-shown_by request (Texts texts) = refused request texts
-shown_by request (TooLong role) = Some (ending.TooLong role)
-shown_by request Absent = None
+-- the ending says a refusal that a reading shows
+abbrev pub ShownBy : Request → Reading → Ending → Type 0
+ShownBy request (Texts texts) how = Refuses request texts how
+ShownBy request (TooLong role) how = how ≡ ending.TooLong role
+ShownBy request Absent how = ⊥
 
--- the first refusal that what the store holds shows, in the order of the command line
-abbrev pub refusal_in : Store → Request → Option Ending
-refusal_in store request = shown_by request (reading store (inputs request))
+-- the ending says a refusal that what the store holds shows, in the order of the command line
+abbrev pub IsRefusalIn : Store → Request → Ending → Type 0
+IsRefusalIn store request how = ShownBy request (reading store (inputs request)) how
 
 -- all inputs are held, within their limits, and none of them is refused
 abbrev pub IsAccepted : Store → Request → Type 0
-IsAccepted store request = (texts : List (List ℕ)) × (reading store (inputs request) ≡ Texts texts) × (refused request texts ≡ None)
+IsAccepted store request = (texts : List (List ℕ)) × (reading store (inputs request) ≡ Texts texts) × Accepts request texts
 
 -- there is a text for each output, and the texts and the report are what the command makes of what was read
 pub record IsProduct (told : Option Store) (request : Request) (writings : List (Output × List ℕ)) (report : List ℕ) : Type 0 where
@@ -44,8 +44,8 @@ pub record IsProduct (told : Option Store) (request : Request) (writings : List 
 -- when an ending of a request comes
 abbrev pub Comes : Request → FilesState → FilesState → Ending → Type 0
 Comes request old new (ending.Done report) = IfSome old.held (λ store. IsAccepted store request)
-Comes request old new (ending.Refused line) = IfSome old.held (λ store. refusal_in store request ≡ Some (ending.Refused line))
-Comes request old new (ending.TooLong role) = IfSome old.held (λ store. refusal_in store request ≡ Some (ending.TooLong role))
+Comes request old new (ending.Refused line) = IfSome old.held (λ store. IsRefusalIn store request (ending.Refused line))
+Comes request old new (ending.TooLong role) = IfSome old.held (λ store. IsRefusalIn store request (ending.TooLong role))
 Comes request old new (ending.ReadFailed role) = Contains (map (λ input. input.role) (inputs request)) role × Rose old.read_faults new.read_faults
 Comes request old new (ending.WriteFailed role) = Rose old.write_faults new.write_faults × IfSome old.held (λ store. IsAccepted store request)
 Comes request old new ending.OutOfMemory = Unit {0}
@@ -88,7 +88,7 @@ pub record Ends (asked : Option Request) (old new : FilesState) (before after : 
 -- what the store holds shows a refusal of what is asked
 abbrev pub IsRefusedIn : Option Request → Store → Type 0
 IsRefusedIn None store = ⊥
-IsRefusedIn (Some request) store = IsSome (refusal_in store request)
+IsRefusedIn (Some request) store = (how : Ending) × IsRefusalIn store request how
 
 -- what the store holds is accepted for what is asked
 abbrev pub IsAcceptedIn : Option Request → Store → Type 0

@@ -1,47 +1,63 @@
 -- What `compile` makes of the texts of a domain and a problem.
-use Rattle.std.specs.Prelude.{ℕ, ◌≡◌, if◌then◌else◌, List, ◌++◌, codes, length, Option, Some, None, IsTrue}
+use Rattle.std.specs.Prelude.{ℕ, ◌≡◌, false, List, ◌++◌, codes, length}
 use Rattle.std.specs.Fmt.{decimal}
+use Rattle.p3_base.specs.declared.refusal.Code.TheVariants.{Construct}
+use Rattle.p3_base.specs.declared.refusal.Refusal.{Refusal}
 use Rattle.p3_base.specs.declared.refusal.Role.{Role}
 use Rattle.p3_base.specs.declared.refusal.Role.TheVariants as role
+use Rattle.p3_base.specs.declared.refusal.Side.TheVariants.{Source}
 use Rattle.p3_tree.specs.Faithful.{Faithful}
-use Rattle.p3_compile.specs.Tiny.{declares_all}
-use Rattle.p3_tree.specs.declared.task.Domain.{Domain}
-use Rattle.p3_tree.specs.declared.task.Problem.{Problem}
+use Rattle.p3_tree.specs.Grammar.Texts.{Reads}
+use Rattle.p3_tree.specs.Refusals.First.{TaskTexts, halves, IsFirstOfTexts, AreReadable}
+use Rattle.p3_tree.specs.Refusals.Places.{refusal_at}
+use Rattle.p3_tree.specs.Reports.Refusals.{refusal_line}
 use Rattle.p3_tree.specs.declared.task.Task.{Task}
-use Rattle.p3_syntax.specs.Texts.{domain_of_text, problem_of_text, malformed}
+use Rattle.p3_compile.specs.Tiny.{IsTinyTask, is_tiny_task}
 use Rattle.p3_compile.specs.Written.{written_of}
 use Rattle.p3_cli.specs.Layout.{domain_layout, problem_layout}
-use Rattle.p3_tree.specs.Reports.Refusals.{refusal_line}
 use Rattle.p3_cli.specs.WrittenText.{HasFaithfulText}
 use Rattle.p3_cli.specs.declared.ending.Ending.{Ending}
 use Rattle.p3_cli.specs.declared.ending.Ending.TheVariants.{Refused}
 
--- a text is refused as a whole
-abbrev pub refused_as : Role → List ℕ → Option Ending
-refused_as role text = Some (Refused (refusal_line text (malformed role)))
+-- ---- what is refused
 
-abbrev pub refused_domain : List ℕ → Option Domain → Option Ending
-refused_domain text None = refused_as role.Domain text
-refused_domain text (Some half) = None
+-- the texts of a task that is read
+abbrev pub source_texts : List ℕ → List ℕ → TaskTexts
+source_texts d p = record { side = Source; domain = d; problem = p }
 
-abbrev pub refused_problem : List ℕ → Option Problem → Option Ending
-refused_problem text None = refused_as role.Problem text
-refused_problem text (Some half) = None
-
--- the refusal that the halves show: of the domain, of the problem, or of the problem where they do not fit together
-abbrev pub refused_halves : List ℕ → List ℕ → Option Domain → Option Problem → Option Ending
-refused_halves d p None problem = refused_as role.Domain d
-refused_halves d p (Some domain) None = refused_as role.Problem p
-refused_halves d p (Some domain) (Some problem) = if declares_all domain problem then None else refused_as role.Problem p
-
-abbrev pub refused_texts : List ℕ → List ℕ → Option Ending
-refused_texts d p = refused_halves d p (domain_of_text d) (problem_of_text p)
-
--- the two texts spell the two halves of the task, which fit together
+-- nothing is refused of the texts by themselves, and they are those of the task
 pub record IsSpelled (d p : List ℕ) (task : Task) : Type 0 where
-  pub domain : domain_of_text d ≡ Some task.domain
-  pub problem : problem_of_text p ≡ Some task.problem
-  pub together : IsTrue (declares_all task.domain task.problem)
+  pub readable : AreReadable (halves (source_texts d p))
+  pub reads : Reads d p task
+
+-- a task beyond those that are compiled is refused at the domain's beginning, without a word
+abbrev pub beyond : Refusal
+beyond = refusal_at Construct role.Domain 0 0
+
+-- a refusal that the texts show: the first of the texts by themselves, or else of a task that is not tiny
+pub data Shows (d p : List ℕ) : Refusal → Type 0 where
+  InText : (refusal : Refusal) → IsFirstOfTexts (halves (source_texts d p)) refusal → Shows d p refusal
+  NotTiny : (task : Task) → IsSpelled d p task → is_tiny_task task ≡ false → Shows d p beyond
+
+abbrev pub AreAccepted : List ℕ → List ℕ → Type 0
+AreAccepted d p = (refusal : Refusal) → Shows d p refusal → ⊥
+
+-- the text of the file that a refusal names
+abbrev pub text_of : Role → List ℕ → List ℕ → List ℕ
+text_of role.Domain d p = d
+text_of _ d p = p
+
+-- the ending that says a refusal in a text
+abbrev pub refused_in : List ℕ → Refusal → Ending
+refused_in text refusal = Refused (refusal_line text refusal)
+
+-- the ending says a refusal that the texts show
+pub record IsRefusal (d p : List ℕ) (how : Ending) : Type 0 where
+  pub refusal : Refusal
+  pub shows : Shows d p refusal
+  pub says : how ≡ refused_in (text_of refusal.pos.role d p) refusal
+
+-- ---- what is written
 
 -- the report: the number of steps, that of preference instances, the loss of no violation, and the direction
 abbrev pub report_text : ℕ → List ℕ
@@ -55,6 +71,6 @@ pub record IsWritten (task : Task) (od op report : List ℕ) : Type 0 where
   pub text : HasFaithfulText od op task
   pub told : report ≡ report_text (length task.domain.actions)
 
--- the texts od and op are what is written for the task that d and p spell
+-- the texts od and op are what is written for the tiny task that d and p spell
 abbrev pub IsTranslation : List ℕ → List ℕ → List ℕ → List ℕ → List ℕ → Type 0
-IsTranslation d p od op report = (task : Task) × IsSpelled d p task × IsWritten task od op report
+IsTranslation d p od op report = (task : Task) × IsSpelled d p task × IsTinyTask task × IsWritten task od op report

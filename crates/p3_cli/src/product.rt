@@ -2,11 +2,11 @@
 
 ghost use Rattle.std.specs.Prelude.{◌≡◌, ◌≤◌, ◌∷◌, [], length, map, IfOk, IfErr, OnOk, None};
 ghost use Rattle.p3_cli.specs.Asked.{asked_request, asked_writings};
-ghost use Rattle.p3_cli.specs.Product.{IsRefusedBy, IsTranslated, Produces, refused};
+ghost use Rattle.p3_cli.specs.Product.{Accepts, IsRefusedBy, IsTranslated, Produces, Refuses};
 ghost use Rattle.p3_cli.specs.Request.{inputs, outputs};
 ghost use Rattle.p3_base.specs.declared.refusal.Role.TheVariants.{WrittenDomain, WrittenProblem};
 ghost use Rattle.p3_cli.specs.Store.{AreWithin};
-ghost use Rattle.p3_cli.specs.Translation.{refused_texts};
+ghost use Rattle.p3_cli.specs.Translation.{AreAccepted, IsRefusal};
 
 use crate::Ending;
 use crate::request::{Request, Written};
@@ -32,8 +32,8 @@ pub(crate) fn product_of<'a>(
     requires { AreWithin (inputs (asked_request request.now)) (map (λ text. text.items) texts.now) }
     ensures outputs { IfOk result (λ product. map (λ written. written.0) (asked_writings product.writings.items) ≡ outputs (asked_request request.now)) }
     ensures ok { IfOk result (λ product. Produces (asked_request request.now) (map (λ text. text.items) texts.now) (asked_writings product.writings.items) product.report.items) }
-    ensures accepted { OnOk result (refused (asked_request request.now) (map (λ text. text.items) texts.now) ≡ None) }
-    ensures err { IfErr result (IsRefusedBy (refused (asked_request request.now) (map (λ text. text.items) texts.now))) }
+    ensures accepted { OnOk result (Accepts (asked_request request.now) (map (λ text. text.items) texts.now)) }
+    ensures err { IfErr result (IsRefusedBy (Refuses (asked_request request.now) (map (λ text. text.items) texts.now))) }
 {
     match request {
         Request::Compile {
@@ -68,8 +68,8 @@ fn translated<'a>(
     ensures outputs { IfOk result (λ product. map (λ written. written.0) (asked_writings product.writings.items)
         ≡ record { role = WrittenDomain; name = written_domain.now } ∷ record { role = WrittenProblem; name = written_problem.now } ∷ []) }
     ensures ok { IfOk result (λ product. IsTranslated domain.now problem.now (asked_writings product.writings.items) product.report.items) }
-    ensures accepted { OnOk result (refused_texts domain.now problem.now ≡ None) }
-    ensures err { IfErr result (IsRefusedBy (refused_texts domain.now problem.now)) }
+    ensures accepted { OnOk result (AreAccepted domain.now problem.now) }
+    ensures err { IfErr result (IsRefusedBy (IsRefusal domain.now problem.now)) }
 {
     let made = match translate(alloc, domain, problem) {
         Ok(made) => made,

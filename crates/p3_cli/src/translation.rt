@@ -1,20 +1,18 @@
 //! What `compile` makes of the texts of a domain and a problem.
 
-ghost use Rattle.std.specs.Prelude.{◌≡◌, ◌≤◌, length, IfOk, IfErr, OnOk, None, Some, string_bytes};
+ghost use Rattle.std.specs.Prelude.{◌≡◌, ◌≤◌, length, IfOk, IfErr, OnOk, string_bytes};
 ghost use Rattle.p3_compile.specs.Tiny.{IsTinyTask};
-ghost use Rattle.p3_syntax.specs.Texts.{domain_of_text, problem_of_text, malformed};
-ghost use Rattle.p3_cli.specs.Product.{IsRefusedBy};
-ghost use Rattle.p3_tree.specs.Reports.Refusals.{refusal_line};
-ghost use Rattle.p3_cli.specs.Translation.{IsSpelled, IsTranslation, IsWritten, refused_texts, refused_domain, refused_problem, report_text};
-ghost use Rattle.p3_cli.specs.declared.ending.Ending.TheVariants as ending;
+ghost use Rattle.p3_syntax.specs.Texts.{IfRefused};
+ghost use Rattle.p3_cli.specs.Product.{IsRefusedBy, EndsAs};
+ghost use Rattle.p3_cli.specs.Translation.{AreAccepted, IsRefusal, IsSpelled, IsTranslation, IsWritten, beyond, refused_in, report_text};
 
 use crate::Ending;
 use crate::layout::{domain_text, problem_text};
 use crate::refusal::line_of_refusal;
 use p3_base::{Code, List, NoMemory, Pos, Refusal, Role, Side};
-use p3_compile::compile_small;
-use p3_syntax::{ReadFail, declares, read_domain, read_problem};
-use p3_tree::{Domain, Problem, Task};
+use p3_compile::{compile_small, is_tiny};
+use p3_syntax::{ReadFail, read_domain, read_problem};
+use p3_tree::Task;
 use std::alloc::Global;
 
 /// The two texts that are written, and the report.
@@ -33,10 +31,10 @@ pub(crate) fn translate(alloc: Global, domain: &[u8], problem: &[u8]) -> Result<
     requires domain_short { length domain.now ≤ 16777216 }
     requires problem_short { length problem.now ≤ 16777216 }
     ensures ok { IfOk result (λ made. IsTranslation domain.now problem.now made.domain.items made.problem.items made.report.items) }
-    ensures accepted { OnOk result (refused_texts domain.now problem.now ≡ None) }
-    ensures err { IfErr result (IsRefusedBy (refused_texts domain.now problem.now)) }
+    ensures accepted { OnOk result (AreAccepted domain.now problem.now) }
+    ensures err { IfErr result (IsRefusedBy (IsRefusal domain.now problem.now)) }
 {
-    let task = match task_of(alloc, domain, problem) {
+    let task = match tiny_task(alloc, domain, problem) {
         Ok(task) => task,
         Err(ending) => return Err(ending),
     };
@@ -46,67 +44,56 @@ pub(crate) fn translate(alloc: Global, domain: &[u8], problem: &[u8]) -> Result<
     }
 }
 
-/// The task that the two texts spell.
-fn task_of(alloc: Global, domain: &[u8], problem: &[u8]) -> Result<Task, Ending>
+/// The tiny task that the two texts spell.
+#[tactic(auto, using(crate::proofs::SpelledLemmas::halves_spell))]
+fn tiny_task(alloc: Global, domain: &[u8], problem: &[u8]) -> Result<Task, Ending>
     requires domain_short { length domain.now ≤ 16777216 }
     requires problem_short { length problem.now ≤ 16777216 }
     ensures spelled { IfOk result (IsSpelled domain.now problem.now) }
     ensures tiny { IfOk result IsTinyTask }
-    ensures accepted { OnOk result (refused_texts domain.now problem.now ≡ None) }
-    ensures err { IfErr result (IsRefusedBy (refused_texts domain.now problem.now)) }
+    ensures err { IfErr result (IsRefusedBy (IsRefusal domain.now problem.now)) }
 {
-    let domain_half = match domain_of(alloc, domain) {
+    let domain_half = match read_domain(alloc, Side::Source, domain) {
         Ok(half) => half,
-        Err(ending) => return Err(ending),
+        Err(fail) => return Err(not_read(alloc, domain, fail)),
     };
-    let problem_half = match problem_of(alloc, problem) {
+    let problem_half = match read_problem(alloc, Side::Source, problem) {
         Ok(half) => half,
-        Err(ending) => return Err(ending),
+        Err(fail) => return Err(not_read(alloc, problem, fail)),
     };
-    if declares(&domain_half, &problem_half) {
+    if is_tiny(&domain_half, &problem_half) {
         Ok(Task {
             domain: domain_half,
             problem: problem_half,
         })
     } else {
-        Err(refused_whole(alloc, problem, Role::Problem))
+        Err(refused_beyond(alloc, domain))
     }
 }
 
-/// The domain half.
-fn domain_of(alloc: Global, text: &[u8]) -> Result<Domain, Ending>
-    requires { length text.now ≤ 16777216 }
-    ensures ok { IfOk result (λ half. domain_of_text text.now ≡ Some half) }
-    ensures err { IfErr result (IsRefusedBy (refused_domain text.now (domain_of_text text.now))) }
+/// The ending where a half was not read.
+fn not_read(alloc: Global, text: &[u8], fail: ReadFail) -> Ending
+    requires within { IfRefused fail (λ refusal. refusal.pos.offset ≤ length text.now) }
+    requires short { length text.now ≤ 16777216 }
+    ensures { EndsAs text.now fail result }
 {
-    match read_domain(alloc, Side::Source, text) {
-        Ok(half) => Ok(half),
-        Err(ReadFail::Refused(refusal)) => Err(refused(alloc, text, &refusal)),
-        Err(ReadFail::NoMemory) => Err(Ending::OutOfMemory),
+    match fail {
+        ReadFail::Refused(refusal) => refused(alloc, text, &refusal),
+        ReadFail::NoMemory => Ending::OutOfMemory,
     }
 }
 
-/// The problem half.
-fn problem_of(alloc: Global, text: &[u8]) -> Result<Problem, Ending>
+/// The ending of a task beyond those that are compiled.
+fn refused_beyond(alloc: Global, text: &[u8]) -> Ending
     requires { length text.now ≤ 16777216 }
-    ensures ok { IfOk result (λ half. problem_of_text text.now ≡ Some half) }
-    ensures err { IfErr result (IsRefusedBy (refused_problem text.now (problem_of_text text.now))) }
-{
-    match read_problem(alloc, Side::Source, text) {
-        Ok(half) => Ok(half),
-        Err(ReadFail::Refused(refusal)) => Err(refused(alloc, text, &refusal)),
-        Err(ReadFail::NoMemory) => Err(Ending::OutOfMemory),
-    }
-}
-
-/// The ending of a text that is refused as a whole.
-fn refused_whole(alloc: Global, text: &[u8], role: Role) -> Ending
-    requires { length text.now ≤ 16777216 }
-    ensures { IsRefusedBy (Some (ending.Refused (refusal_line text.now (malformed role)))) result }
+    ensures { IsRefusedBy (λ how. how ≡ refused_in text.now beyond) result }
 {
     let refusal = Refusal {
-        code: Code::Malformed,
-        pos: Pos { role, offset: 0 },
+        code: Code::Construct,
+        pos: Pos {
+            role: Role::Domain,
+            offset: 0,
+        },
         len: 0,
     };
     refused(alloc, text, &refusal)
@@ -116,7 +103,7 @@ fn refused_whole(alloc: Global, text: &[u8], role: Role) -> Ending
 fn refused(alloc: Global, text: &[u8], refusal: &Refusal) -> Ending
     requires within { refusal.now.pos.offset ≤ length text.now }
     requires short { length text.now ≤ 16777216 }
-    ensures { IsRefusedBy (Some (ending.Refused (refusal_line text.now refusal.now))) result }
+    ensures { IsRefusedBy (λ how. how ≡ refused_in text.now refusal.now) result }
 {
     match line_of_refusal(alloc, text, refusal) {
         Ok(line) => Ending::Refused(List::from(line)),

@@ -8,6 +8,10 @@ mod outside;
 #[cfg(test)]
 mod reading;
 #[cfg(test)]
+mod refusals;
+#[cfg(test)]
 mod rows;
+#[cfg(test)]
+mod trucks;
 #[cfg(test)]
 mod world;

@@ -1,134 +1,164 @@
-//! Which texts are read as halves of a tiny task.
+//! Which texts are read as halves of a task, on either side.
 
-use p3_base::Side;
-use p3_syntax::{ReadFail, declares, read_domain, read_problem};
+use crate::trucks::{TRUCKS_DOMAIN, TRUCKS_PROBLEM};
+use p3_base::{Code, NoMemory, Refusal, Side};
+use p3_syntax::{ReadFail, read_domain, read_problem};
 use std::alloc::Global;
 use std::test::Fail;
 
-const DOMAIN: &[u8] =
-    b"(define (domain d) (:predicates (p)) (:action a :parameters () :precondition () :effect (p)))";
+/// A half that is read, or the code, the offset and the length of its refusal.
+type Outcome = Option<(Code, u32, u32)>;
 
-const PROBLEM: &[u8] =
-    b"(define (problem q) (:domain d) (:init) (:goal (preference g (p))) (:metric minimize (* 5 (is-violated g))))";
+fn told(refusal: Refusal) -> Outcome {
+    Some((refusal.code, refusal.pos.offset, refusal.len))
+}
 
-/// Whether a domain is read; nothing where memory is wanting.
-fn reads_domain(alloc: Global, text: &[u8]) -> Option<bool> {
+/// What comes of reading a domain.
+fn of_domain(alloc: Global, side: Side, text: &[u8]) -> Result<Outcome, NoMemory> {
     if text.len() > 16_777_216 {
-        return None;
+        return Err(NoMemory);
     }
-    match read_domain(alloc, Side::Source, text) {
-        Ok(_) => Some(true),
-        Err(ReadFail::Refused(_)) => Some(false),
-        Err(ReadFail::NoMemory) => None,
+    match read_domain(alloc, side, text) {
+        Ok(_) => Ok(None),
+        Err(ReadFail::Refused(refusal)) => Ok(told(refusal)),
+        Err(ReadFail::NoMemory) => Err(NoMemory),
     }
 }
 
-/// Whether a problem is read; nothing where memory is wanting.
-fn reads_problem(alloc: Global, text: &[u8]) -> Option<bool> {
+/// What comes of reading a problem.
+fn of_problem(alloc: Global, side: Side, text: &[u8]) -> Result<Outcome, NoMemory> {
     if text.len() > 16_777_216 {
-        return None;
+        return Err(NoMemory);
     }
-    match read_problem(alloc, Side::Source, text) {
-        Ok(_) => Some(true),
-        Err(ReadFail::Refused(_)) => Some(false),
-        Err(ReadFail::NoMemory) => None,
+    match read_problem(alloc, side, text) {
+        Ok(_) => Ok(None),
+        Err(ReadFail::Refused(refusal)) => Ok(told(refusal)),
+        Err(ReadFail::NoMemory) => Err(NoMemory),
     }
 }
 
 #[test]
-fn the_domains_of_tiny_tasks_are_read(rt: HostRuntime) {
-    let table: [(&[u8], bool); 14] = [
-        (DOMAIN, true),
-        (b"(define (domain d))", true),
-        (
-            b"(DEFINE;\xc3\xa9 (\n(Domain D)(:ACTION a :effect (not(P)))\t(:predicates (p) (q)))",
-            true,
-        ),
-        (
-            b"(define (domain d) (:predicates (p)) (:action a :effect (p) :precondition (and)))",
-            true,
-        ),
-        (
-            b"(define (domain d) (:predicates (p)) (:action a :effect (p)) (:action b :effect (p)))",
-            false,
-        ),
-        (
-            b"(define (domain d) (:predicates (p)) (:action a :effect (q)))",
-            false,
-        ),
-        (b"(define (domain d) (:predicates (p)) (:action a))", false),
-        (
-            b"(define (domain d) (:predicates (p)) (:action a :effect (p) :effect (p)))",
-            false,
-        ),
-        (b"(define (domain d) (:predicates (p) (p)))", false),
-        (b"(define (domain d) (:predicates (p k)))", false),
-        (b"(define (domain d) (:predicates (and)))", false),
-        (b"(define (domain d) \xc3\xa9)", false),
-        (b"(define (domain d)", false),
-        (b"(define (domain d)) )", false),
+fn halves_of_all_forms_are_read(rt: HostRuntime) -> Result<(), Fail> {
+    let alloc = rt.alloc();
+    let domains: [&[u8]; 5] = [
+        TRUCKS_DOMAIN.as_bytes(),
+        b"(define (domain d))",
+        b"(DEFINE;\xc3\xa9 (\n(Domain D)(:ACTION a :effect (not(P)))\t(:predicates (p) (q)))",
+        b"(define (domain d) (:requirements :adl) (:types) (:constants) (:predicates) (:functions) (:constraints ()))",
+        b"(define (domain d) (:functions (f ?x) (g) - number (h)) (:action a :effect () :precondition () :parameters ()))",
     ];
-    for (text, want) in table {
-        assert_eq!(rt; reads_domain(rt.alloc(), text), Some(want));
+    for text in domains {
+        assert_eq!(rt; of_domain(alloc, Side::Source, text)?, None);
+        assert_eq!(rt; of_domain(alloc, Side::Written, text)?, None);
     }
-}
-
-#[test]
-fn the_problems_of_tiny_tasks_are_read(rt: HostRuntime) {
-    let table: [(&[u8], bool); 10] = [
-        (PROBLEM, true),
-        (
-            b"(define (problem q) (:metric minimize (is-violated g)) (:goal (preference g (not (p)))) (:init (p) (p)) (:domain d))",
-            true,
-        ),
-        (
-            b"(define (problem q) (:domain d) (:init (p k)) (:goal (preference g (p))) (:metric minimize (is-violated g)))",
-            false,
-        ),
-        (
-            b"(define (problem q) (:domain d) (:init) (:goal (preference g (p))))",
-            false,
-        ),
-        (
-            b"(define (problem q) (:domain d) (:init) (:goal (preference g (p))) (:metric minimize (is-violated h)))",
-            false,
-        ),
-        (
-            b"(define (problem q) (:domain d) (:init) (:goal (preference g (p))) (:metric maximize (is-violated g)))",
-            false,
-        ),
-        (
-            b"(define (problem q) (:domain d) (:init) (:goal (preference g (p))) (:metric minimize (* 000000000000005 (is-violated g))))",
-            true,
-        ),
-        (
-            b"(define (problem q) (:domain d) (:init) (:goal (preference g (p))) (:metric minimize (* 0000000000000005 (is-violated g))))",
-            false,
-        ),
-        (
-            b"(define (problem q) (:domain d) (:init) (:goal (preference (p))) (:metric minimize (is-violated g)))",
-            false,
-        ),
-        (
-            b"(define (problem q) (:domain d) (:init) (:goal ((((((((((((((((p))))))))))))))))) (:metric minimize (is-violated g)))",
-            false,
-        ),
+    let problems: [&[u8]; 3] = [
+        TRUCKS_PROBLEM.as_bytes(),
+        b"(define (problem q) (:goal ()) (:init (p) (not (q a)) (= (f a) 3)) (:domain d) (:constraints (and)) (:objects a b - t c))",
+        b"(define (problem q) (:domain d) (:init) (:goal (imply (exists (?x ?y - (either t u)) (= ?x ?y)) (or (p) (not (p))))) (:metric maximize (- (+ 1 total-cost (total-cost)) (* 2 (is-violated g)))))",
     ];
-    for (text, want) in table {
-        assert_eq!(rt; reads_problem(rt.alloc(), text), Some(want));
+    for text in problems {
+        assert_eq!(rt; of_problem(alloc, Side::Source, text)?, None);
+        assert_eq!(rt; of_problem(alloc, Side::Written, text)?, None);
     }
+    Ok(())
 }
 
-#[test]
-fn the_halves_of_the_example_fit_together(rt: HostRuntime) -> Result<(), Fail> {
-    let domain = read_domain(rt.alloc(), Side::Source, DOMAIN)?;
-    let problem = read_problem(rt.alloc(), Side::Source, PROBLEM)?;
-    assert!(rt; declares(&domain, &problem));
-    let other = read_domain(
-        rt.alloc(),
-        Side::Source,
-        b"(define (domain d) (:predicates (q)))",
+/// A problem whose metric is a number, behind the number's offset of 70.
+fn of_number(alloc: Global, side: Side, number: &[u8]) -> Result<Outcome, NoMemory> {
+    let mut text = Vec::from_slice(
+        alloc,
+        b"(define (problem q) (:domain d) (:init) (:goal (p)) (:metric minimize ",
     )?;
-    assert!(rt; !declares(&other, &problem));
+    text.extend_from_slice(number)?;
+    text.extend_from_slice(b"))")?;
+    of_problem(alloc, side, text.as_slice())
+}
+
+#[test]
+fn numbers_have_a_limit_on_each_side(rt: HostRuntime) -> Result<(), Fail> {
+    let alloc = rt.alloc();
+    let cases: [(&[u8], bool, bool); 8] = [
+        (b"123456789012345", true, true),
+        (b"1234567890123456", false, true),
+        (b"0000000000000005", false, true),
+        (b"123456789.012345", true, false),
+        (b"1234567890.123456", false, false),
+        (b"0.1234567", false, false),
+        (b"1234567890123456789", false, true),
+        (b"12345678901234567890", false, false),
+    ];
+    for (number, on_source, on_written) in cases {
+        let long = Some((Code::NumberTooLong, 70, number.len() as u32));
+        let source = if on_source { None } else { long };
+        let written = if on_written { None } else { long };
+        assert_eq!(rt; of_number(alloc, Side::Source, number)?, source);
+        assert_eq!(rt; of_number(alloc, Side::Written, number)?, written);
+    }
+    Ok(())
+}
+
+/// The bytes before the last `)`.
+fn without_end(text: &[u8]) -> &[u8] {
+    match text.iter().rposition(|byte| *byte == b')') {
+        Some(at) => &text[..at],
+        None => text,
+    }
+}
+
+/// A text of so many bytes that is unbalanced at its end.
+fn cut_at(end: usize) -> Outcome {
+    match u32::try_from(end) {
+        Ok(offset) => Some((Code::Unbalanced, offset, 0)),
+        Err(_) => None,
+    }
+}
+
+/// At most so many bytes from the first.
+fn first(text: &[u8], count: usize) -> &[u8] {
+    &text[..count.min(text.len())]
+}
+
+#[test]
+fn a_text_that_is_cut_is_unbalanced_at_its_end(rt: HostRuntime) -> Result<(), Fail> {
+    let alloc = rt.alloc();
+    let domain = without_end(TRUCKS_DOMAIN.as_bytes());
+    for end in 0..=domain.len() {
+        let outcome = of_domain(alloc, Side::Source, first(domain, end))?;
+        assert_eq!(rt; outcome, cut_at(end));
+    }
+    let problem = without_end(TRUCKS_PROBLEM.as_bytes());
+    for end in 0..=problem.len() {
+        let outcome = of_problem(alloc, Side::Source, first(problem, end))?;
+        assert_eq!(rt; outcome, cut_at(end));
+    }
+    Ok(())
+}
+
+/// A problem whose goal has so many negations inside one another, on its second line.
+fn negations(alloc: Global, count: u32) -> Result<Vec<u8>, NoMemory> {
+    let mut text = Vec::from_slice(alloc, b"(define (problem q) (:domain d) (:init)\n(:goal ")?;
+    for _ in 0..count {
+        text.extend_from_slice(b"(not ")?;
+    }
+    text.extend_from_slice(b"(p)))")?;
+    for _ in 0..count {
+        text.push(b')')?;
+    }
+    Ok(text)
+}
+
+#[test]
+fn levels_have_a_limit_on_each_side(rt: HostRuntime) -> Result<(), Fail> {
+    let alloc = rt.alloc();
+    let cases = [
+        (Side::Source, 197, None),
+        (Side::Source, 198, Some((Code::TooDeep, 1037, 1))),
+        (Side::Written, 997, None),
+        (Side::Written, 998, Some((Code::TooDeep, 5037, 1))),
+    ];
+    for (side, count, wanted) in cases {
+        let text = negations(alloc, count)?;
+        assert_eq!(rt; of_problem(alloc, side, text.as_slice())?, wanted);
+    }
     Ok(())
 }

@@ -44,14 +44,8 @@ impl Row<'_> {
     }
 }
 
-const TWO_ACTIONS: &[u8] =
-    b"(define (domain d) (:predicates (p))\n(:action a :effect (p)) (:action b :effect (not (p))))\n";
-
 const WITH_COMMENT: &[u8] =
     b"(DEFINE (Domain D) (:Predicates (P)) ; caf\xc3\xa9\n(:action a :parameters () :precondition () :effect (p)))\n";
-
-const UNDECLARED: &[u8] =
-    b"(define (problem q) (:domain d) (:init (r))\n(:goal (preference g (p)))\n(:metric minimize (is-violated g)))\n";
 
 const USAGE: &str = "usage: pddl3c compile D P OD OP\n";
 
@@ -64,30 +58,10 @@ fn each_run_ends_as_it_must(rt: HostRuntime) -> Result<(), Fail> {
         status: 0,
         printed: REPORT,
     };
-    let refused = "refused 5 malformed: domain 1:1 end of text\n";
-    let refused_problem = "refused 5 malformed: problem 1:1 end of text\n";
     let rows = [
         example,
         Row {
             domain: WITH_COMMENT,
-            ..example
-        },
-        Row {
-            domain: TWO_ACTIONS,
-            status: 2,
-            printed: refused,
-            ..example
-        },
-        Row {
-            problem: DOMAIN.as_bytes(),
-            status: 2,
-            printed: refused_problem,
-            ..example
-        },
-        Row {
-            problem: UNDECLARED,
-            status: 2,
-            printed: refused_problem,
             ..example
         },
         Row {

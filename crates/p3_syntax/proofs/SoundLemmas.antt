@@ -117,7 +117,7 @@ module _ (role : Role) where
 
 -- ---- it is the first refusal that the text shows by itself
 
-same_role : (of : Role) → of ≢ role.Plan → role_of (side_of of) (half_of of) ≡ of
+pub same_role : (of : Role) → of ≢ role.Plan → role_of (side_of of) (half_of of) ≡ of
 same_role role.Domain task = refl
 same_role role.Problem task = refl
 same_role role.WrittenDomain task = refl

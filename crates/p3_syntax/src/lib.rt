@@ -3,19 +3,18 @@
 
 mod balance;
 mod build;
-mod domain;
+#[cfg(test)]
+mod cases;
+mod constructs;
 mod error;
-mod expression;
-mod formed;
+mod first;
+mod halves;
+mod numbers;
 mod outlines;
-mod part;
-mod problem;
-mod read;
+mod tree;
 mod view;
-mod word;
 
 pub use error::ReadFail;
-pub use formed::declares;
+pub use halves::{read_domain, read_problem};
 pub use outlines::outline;
-pub use read::{read_domain, read_problem};
 pub use view::{Outline, Parts, View};

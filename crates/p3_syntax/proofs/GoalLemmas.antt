@@ -1,0 +1,62 @@
+-- Preconditions and goals of lists.
+use Rattle.std.proofs.Common.{◌≡◌, ◌∙◌, refl, ap, List, [], ◌∷◌, Option, Some, None}
+use Rattle.p3_tree.specs.Grammar.Words.{◌>>=◌, Place, pair, parts_place, name_place, expressions, headed, choose}
+use Rattle.p3_tree.specs.Grammar.Lists.{variables_place}
+use Rattle.p3_tree.specs.Grammar.Formulas.{formula_place}
+use Rattle.p3_tree.specs.Grammar.Goals.{goal_place, goal_in, goal_forms, plain_form, preferred, each_form, preference_form}
+use Rattle.p3_tree.specs.declared.expression.Expression.{Expression, Group'}
+use Rattle.p3_tree.specs.declared.expression.Expression.TheVariants as expression
+use Rattle.p3_tree.specs.declared.formula.Formula.{Formula}
+use Rattle.p3_tree.specs.declared.goal.PreGoal.{PreGoal}
+use Rattle.p3_tree.specs.declared.goal.PreGoal.TheVariants as goal
+use Rattle.p3_tree.specs.declared.term.Ref.{Ref}
+use Rattle.p3_syntax.specs.Trees.{listed, goal_of}
+use Rattle.p3_syntax.proofs.TreeLemmas.{raws_listed, row_listed, headed_listed}
+
+-- what is preferred is read behind its name
+pub preferred_named : {A B : Type 0} (place : Place A) (list : List Expression) (f : Option Ref → A → B)
+    → (preferred place list >>= λ found. Some (f found.0 found.1)) ≡ preferred {A = Expression} Some list >>= λ found. place found.1 >>= λ tree. Some (f found.0 tree)
+preferred_named {A} {B} place list f = by list
+  where
+    with_name : {X : Type 0} → Option Ref → X → Option Ref × X
+    with_name name x = (name, x)
+
+    one : (name : Option Ref) (tree : Option A) → ((tree >>= λ tree. Some (with_name name tree)) >>= λ found. Some (f found.0 found.1)) ≡ tree >>= λ tree. Some (f name tree)
+    one name None = refl
+    one name (Some tree) = refl
+
+    two : (name : Option Ref) (e : Expression) → ((name >>= λ name. place e >>= λ tree. Some (with_name (Some name) tree)) >>= λ found. Some (f found.0 found.1))
+        ≡ (name >>= λ name. Some (with_name (Some name) e)) >>= λ found. place found.1 >>= λ tree. Some (f found.0 tree)
+    two None e = refl
+    two (Some name) e = one (Some name) (place e)
+
+    by : (list : List Expression) → (preferred place list >>= λ found. Some (f found.0 found.1)) ≡ preferred {A = Expression} Some list >>= λ found. place found.1 >>= λ tree. Some (f found.0 tree)
+    by [] = refl
+    by (e ∷ []) = one None (place e)
+    by (e ∷ d ∷ []) = two (name_place e) d
+    by (e ∷ d ∷ c ∷ list) = refl
+
+pub each_listed : (head : Ref) (list : List Expression)
+    → each_form head (listed goal_place list) ≡ pair list >>= λ both. variables_place both.0 >>= λ variables. goal_place both.1 >>= λ body. Some (goal.Each variables body)
+each_listed head [] = refl
+each_listed head (e ∷ []) = refl
+each_listed head (e ∷ d ∷ []) = refl
+each_listed head (e ∷ d ∷ c ∷ list) = refl
+
+soft : Ref → Option Ref → Formula → PreGoal
+soft head name body = goal.Soft (record { at = head.at; name = name; body = body })
+
+pub preference_listed : (head : Ref) (list : List Expression)
+    → preference_form head (listed goal_place list)
+    ≡ preferred {A = Expression} Some list >>= λ found. formula_place found.1 >>= λ body. Some (goal.Soft (record { at = head.at; name = found.0; body = body }))
+unfolding soft
+preference_listed head list = (λ i. preferred formula_place (raws_listed goal_place list i) >>= λ found. Some (soft head found.0 found.1)) ∙ preferred_named formula_place list (soft head)
+
+-- the goal of an expression is that of its list, by the first word
+pub goal_of_list : (e : Expression) → goal_place e ≡ parts_place e >>= λ parts. headed (λ (part : Expression). part) parts >>= λ list. goal_of e list.0 list.1
+unfolding goal_place
+goal_of_list (expression.Word at text) = refl
+goal_of_list (Group' at shape row) =
+    let e : Expression = Group' at shape row in
+    ap (goal_in e) (row_listed (λ word. None) goal_in row)
+    ∙ headed_listed goal_place (expressions row) (λ list. choose list.0.name goal_forms (λ head behind. plain_form e) list.0 list.1)

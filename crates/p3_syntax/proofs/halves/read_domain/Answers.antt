@@ -1,0 +1,14 @@
+use Rattle.std.proofs.Common.{◌∙◌, sym, ap}
+use Rattle.p3_tree.specs.Grammar.Halves.{domain_place}
+use Rattle.p3_syntax.specs.Nodes.{root_of}
+use Rattle.p3_syntax.proofs.FirstLemmas.{outline_balanced}
+use Rattle.p3_syntax.proofs.halves.read_domain.Goals as goal
+
+pub returns-in-Ok-clause-text : goal.returns-in-Ok-clause-text
+returns-in-Ok-clause-text c =
+    let outline = c.in_ok-outline.outline in
+    record {
+      expression = root_of outline;
+      balanced = outline_balanced c.domain_role.result c.args.text.now outline c.in_ok-outline.ensures.outline;
+      reads = ap domain_place (sym c.root.ensures.root) ∙ c.in-Ok.ensures;
+    }

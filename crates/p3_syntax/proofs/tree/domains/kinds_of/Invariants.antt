@@ -1,0 +1,13 @@
+use Rattle.std.proofs.Common.{◌≡◌}
+use Rattle.p3_syntax.specs.Nodes.{expressions_of}
+use Rattle.p3_syntax.specs.Groups.{each_item, groups_left, groups_size}
+use Rattle.p3_syntax.specs.Domains.{kind_at, kinds_of}
+use Rattle.p3_syntax.proofs.GroupLemmas.{front}
+use Rattle.p3_syntax.proofs.tree.domains.kinds_of.Given as goal
+
+-- what is found and what is left make up the whole
+abbrev pub invariant-loop-found : goal.invariant-loop-found
+invariant-loop-found l = front l.found (each_item kind_at (groups_left l.groups)) ≡ kinds_of (expressions_of l.fn.parts)
+
+abbrev pub decreases-loop-found : goal.decreases-loop-found
+decreases-loop-found l = groups_size l.groups

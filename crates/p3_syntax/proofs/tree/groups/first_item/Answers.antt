@@ -1,0 +1,22 @@
+use Rattle.std.proofs.Common.{◌∙◌, sym, arith}
+use Rattle.p3_syntax.specs.Nodes.{expression_of, expressions_of}
+use Rattle.p3_syntax.proofs.GroupLemmas.{group_item, group_dropped, group_kind}
+use Rattle.p3_syntax.proofs.tree.groups.first_item.Goals as goal
+
+pub group-preserved : goal.group-preserved
+group-preserved c =
+    let kept = c.group.invariant in
+    let view = c.in-Some-next in
+    record {
+      whole = group_item (expression_of c.in-Some.first) c.group.count (expressions_of c.next.new.self) (expressions_of c.group.ahead) _ kept.whole
+          (expression_of view.view) _ view.ensures.parts kept.here (sym c.is_dash.ensures ∙ c.if-is_dash.false);
+      here = group_dropped c.group.count (expressions_of c.next.new.self) (expressions_of c.group.ahead) _ (expression_of view.view) view.ensures.parts kept.here;
+      nodes = omega (arith, kept.nodes, view.ensures.less);
+      less = kept.less;
+    }
+
+pub returns-then-is_dash-clause-items : goal.returns-then-is_dash-clause-items
+returns-then-is_dash-clause-items c =
+    let view = c.in-Some-next in
+    group_kind (expression_of c.in-Some.first) c.group.count (expressions_of c.next.new.self) (expressions_of c.group.ahead) _ c.group.invariant.whole
+    (expression_of view.view) (expression_of c.in-Some-next-2.kind) _ _ view.ensures.parts (sym c.is_dash.ensures ∙ c.if-is_dash.true) c.in-Some-next-2.ensures.parts

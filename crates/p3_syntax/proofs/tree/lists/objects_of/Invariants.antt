@@ -1,0 +1,14 @@
+use Rattle.std.proofs.Common.{◌≡◌}
+use Rattle.p3_tree.specs.Grammar.Words.{name_place}
+use Rattle.p3_tree.specs.Grammar.Lists.{one_type_place, objects_in}
+use Rattle.p3_syntax.specs.Nodes.{expressions_of}
+use Rattle.p3_syntax.specs.Groups.{each_item, groups_left, groups_size, typed_at}
+use Rattle.p3_syntax.proofs.GroupLemmas.{front}
+use Rattle.p3_syntax.proofs.tree.lists.objects_of.Given as goal
+
+-- what is found and what is left make up the whole
+abbrev pub invariant-loop-found : goal.invariant-loop-found
+invariant-loop-found l = front l.found (each_item (typed_at name_place one_type_place) (groups_left l.groups)) ≡ objects_in (expressions_of l.fn.parts)
+
+abbrev pub decreases-loop-found : goal.decreases-loop-found
+decreases-loop-found l = groups_size l.groups

@@ -1,0 +1,13 @@
+use Rattle.std.proofs.Common.{◌≡◌, length}
+use Rattle.p3_tree.specs.Grammar.Words.{each_at}
+use Rattle.p3_tree.specs.Grammar.Halves.{init_place}
+use Rattle.p3_syntax.specs.Nodes.{expressions_of}
+use Rattle.p3_syntax.proofs.Loops.{behind}
+use Rattle.p3_syntax.proofs.tree.problems.entries.Given as goal
+
+-- what is found and what is left make up the whole
+abbrev pub invariant-loop-view : goal.invariant-loop-view
+invariant-loop-view l = behind l.found (each_at init_place (expressions_of l.left)) ≡ each_at init_place (expressions_of l.fn.parts)
+
+abbrev pub decreases-loop-view : goal.decreases-loop-view
+decreases-loop-view l = length l.left.nodes.now

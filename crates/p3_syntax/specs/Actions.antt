@@ -1,0 +1,43 @@
+-- Parts of actions as they are read.
+use Rattle.std.specs.Prelude.{ℕ, List, [], ◌∷◌, map, codes, Option}
+use Rattle.p3_tree.specs.Grammar.Words.{◌>>=◌}
+use Rattle.p3_tree.specs.Grammar.Lists.{variables_place}
+use Rattle.p3_tree.specs.Grammar.Goals.{goal_or_empty_place}
+use Rattle.p3_tree.specs.Grammar.Effects.{effect_or_empty_place}
+use Rattle.p3_tree.specs.Grammar.Halves.{Section, sections_among, optional, body_at, part_at, action_keywords, keyword_parts}
+use Rattle.p3_tree.specs.declared.expression.Expression.{Expression}
+use Rattle.p3_tree.specs.declared.term.Typed.{Typed}
+use Rattle.p3_tree.specs.declared.task.Part.{Part}
+use Rattle.p3_tree.specs.declared.goal.PreGoal.{PreGoal}
+use Rattle.p3_tree.specs.declared.goal.PreGoal.TheVariants as goal
+use Rattle.p3_tree.specs.declared.effect.Effect.{Effect}
+use Rattle.p3_tree.specs.declared.effect.Effect.TheVariants as effect
+use Rattle.p3_syntax.specs.declared.view.Parts.{Parts}
+use Rattle.p3_syntax.specs.declared.tree.actions.ActionPart.{ActionPart}
+use Rattle.p3_syntax.specs.Nodes.{expression_of, expressions_of}
+use Rattle.p3_syntax.specs.Trees.{the_word}
+
+abbrev pub the_part : ActionPart → Section
+the_part part = record { word = the_word part.word; behind = expression_of part.body ∷ [] }
+
+abbrev pub the_parts : List ActionPart → List Section
+the_parts parts = map the_part parts
+
+-- the keywords with their bodies, where all are keywords of actions
+abbrev pub action_parts_in : List Expression → Option (List Section)
+action_parts_in list = keyword_parts list >>= sections_among action_keywords
+
+abbrev pub each_part : Parts → Option (List Section)
+each_part parts = keyword_parts (expressions_of parts)
+
+abbrev pub parts_of_action : Parts → Option (List Section)
+parts_of_action parts = action_parts_in (expressions_of parts)
+
+abbrev pub parameters_among : List Section → Option (List Typed)
+parameters_among parts = optional (codes ":parameters") [] (body_at variables_place) parts
+
+abbrev pub precondition_among : ℕ → List Section → Option (Part PreGoal)
+precondition_among at parts = optional (codes ":precondition") (record { at = at; body = goal.Both [] }) (part_at goal_or_empty_place) parts
+
+abbrev pub effect_among : ℕ → List Section → Option (Part Effect)
+effect_among at parts = optional (codes ":effect") (record { at = at; body = effect.All [] }) (part_at effect_or_empty_place) parts

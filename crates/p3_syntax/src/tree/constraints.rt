@@ -1,0 +1,159 @@
+//! Constraints over the visited states.
+
+ghost use Rattle.p3_tree.specs.Grammar.Words.{each_at};
+ghost use Rattle.p3_tree.specs.Grammar.Constraints.{at_end_form, modal_place, constraint_place, constraint_or_empty_place};
+ghost use Rattle.p3_syntax.specs.Nodes.{expression_of, expressions_of};
+ghost use Rattle.p3_syntax.specs.Reading.{Gives};
+ghost use Rattle.p3_syntax.specs.Trees.{constraint_at, constraint_by, each_constraint, modal_by, soft_constraint};
+
+use crate::error::Fault;
+use crate::tree::formulas::formula;
+use crate::tree::goals::{NamedBody, named};
+use crate::tree::lists::variables;
+use crate::tree::parts::{headed, only, pair, parts};
+use crate::tree::tests::is;
+use crate::tree::words::{TextWord, keyword};
+use crate::view::{Parts, View};
+use p3_base::{Boxed, List};
+use p3_tree::{Constraint, Modal};
+use std::alloc::Global;
+
+fn at_end_form(alloc: Global, behind: Parts<'_, '_>) -> Result<Modal, Fault>
+    ensures { Gives (λ tree. tree) result (at_end_form (expressions_of behind.entry)) }
+{
+    let (first, second) = pair(behind)?;
+    keyword(first, b"end")?;
+    Ok(Modal::AtEnd(formula(alloc, second)?))
+}
+
+/// The operator of a list by its first word.
+fn modal_by(alloc: Global, word: &[u8], behind: Parts<'_, '_>) -> Result<Modal, Fault>
+    ensures { Gives (λ tree. tree) result (modal_by word.now behind.entry) }
+{
+    if is(word, b"at") {
+        at_end_form(alloc, behind)
+    } else if is(word, b"always") {
+        Ok(Modal::Always(formula(alloc, only(behind)?)?))
+    } else if is(word, b"sometime") {
+        Ok(Modal::Sometime(formula(alloc, only(behind)?)?))
+    } else if is(word, b"at-most-once") {
+        Ok(Modal::AtMostOnce(formula(alloc, only(behind)?)?))
+    } else if is(word, b"sometime-after") {
+        let (first, second) = pair(behind)?;
+        let first = formula(alloc, first)?;
+        Ok(Modal::SometimeAfter(first, formula(alloc, second)?))
+    } else if is(word, b"sometime-before") {
+        let (first, second) = pair(behind)?;
+        let first = formula(alloc, first)?;
+        Ok(Modal::SometimeBefore(first, formula(alloc, second)?))
+    } else {
+        Err(Fault::Malformed)
+    }
+}
+
+/// An operator over the visited states.
+pub fn modal(alloc: Global, view: View<'_, '_>) -> Result<Modal, Fault>
+    ensures { Gives (λ tree. tree) result (modal_place (expression_of view.entry)) }
+{
+    let list = headed(parts(view)?)?;
+    modal_by(alloc, list.word.text, list.behind)
+}
+
+/// The constraints of parts.
+#[cycle(constraint_at)]
+fn constraints(
+    alloc: Global,
+    may_be_soft: bool,
+    parts: Parts<'_, '_>,
+) -> Result<List<Constraint>, Fault>
+    ensures { Gives (λ trees. trees) result (each_at (constraint_at may_be_soft) (expressions_of parts.entry)) }
+{
+    let mut left = parts;
+    let mut found = List::new(alloc);
+    while let Some(view) = left.next() {
+        found.push(constraint_at(alloc, may_be_soft, view)?)?;
+    }
+    Ok(found)
+}
+
+#[cycle(constraint_at)]
+#[tactic(auto, using(crate::proofs::ConstraintLemmas::each_listed))]
+fn each_form(alloc: Global, may_be_soft: bool, behind: Parts<'_, '_>) -> Result<Constraint, Fault>
+    ensures { Gives (λ tree. tree) result (each_constraint may_be_soft behind.entry) }
+{
+    let (first, second) = pair(behind)?;
+    let variables = variables(alloc, first)?;
+    let body = constraint_at(alloc, may_be_soft, second)?;
+    Ok(Constraint::Each(variables, Boxed::new(alloc, body)?))
+}
+
+#[cycle(constraint_at)]
+#[tactic(auto, using(crate::proofs::ConstraintLemmas::preference_listed))]
+fn preference_form(
+    alloc: Global,
+    word: TextWord<'_>,
+    behind: Parts<'_, '_>,
+) -> Result<Constraint, Fault>
+    ensures { Gives (λ tree. tree) result (soft_constraint word.entry behind.entry) }
+{
+    let NamedBody { name, body } = named(alloc, behind)?;
+    let body = constraint_at(alloc, false, body)?;
+    let body = Boxed::new(alloc, body)?;
+    Ok(Constraint::Soft {
+        at: word.at,
+        name,
+        body,
+    })
+}
+
+/// The constraint of a list by its first word.
+#[cycle(constraint_at)]
+#[tactic(auto, using(crate::proofs::TreeLemmas::trees_listed))]
+fn constraint_by(
+    alloc: Global,
+    may_be_soft: bool,
+    view: View<'_, '_>,
+    word: TextWord<'_>,
+    behind: Parts<'_, '_>,
+) -> Result<Constraint, Fault>
+    ensures { Gives (λ tree. tree) result (constraint_by may_be_soft view.entry word.entry behind.entry) }
+{
+    if may_be_soft && is(word.text, b"preference") {
+        preference_form(alloc, word, behind)
+    } else if is(word.text, b"and") {
+        Ok(Constraint::Both(constraints(alloc, may_be_soft, behind)?))
+    } else if is(word.text, b"forall") {
+        each_form(alloc, may_be_soft, behind)
+    } else {
+        Ok(Constraint::Single(modal(alloc, view)?))
+    }
+}
+
+/// The constraint that a view is, with preferences in it where they may stand.
+#[cycle(constraint_at)]
+#[tactic(auto, using(crate::proofs::ConstraintLemmas::constraint_of_list))]
+fn constraint_at(alloc: Global, may_be_soft: bool, view: View<'_, '_>) -> Result<Constraint, Fault>
+    ensures { Gives (λ tree. tree) result (constraint_at may_be_soft (expression_of view.entry)) }
+{
+    let list = headed(parts(view)?)?;
+    constraint_by(alloc, may_be_soft, view, list.word, list.behind)
+}
+
+/// A constraint.
+pub fn constraint(alloc: Global, view: View<'_, '_>) -> Result<Constraint, Fault>
+    ensures { Gives (λ tree. tree) result (constraint_place (expression_of view.entry)) }
+{
+    constraint_at(alloc, true, view)
+}
+
+/// A constraint, where an empty list means that nothing is asked.
+pub fn constraint_or_empty(alloc: Global, view: View<'_, '_>) -> Result<Constraint, Fault>
+    ensures { Gives (λ tree. tree) result (constraint_or_empty_place (expression_of view.entry)) }
+{
+    let mut parts = parts(view)?;
+    if parts.next().is_none() {
+        Ok(Constraint::Both(List::new(alloc)))
+    } else {
+        constraint(alloc, view)
+    }
+}

@@ -1,0 +1,151 @@
+//! Formulas.
+
+ghost use Rattle.std.specs.Prelude.{◌≡◌};
+ghost use Rattle.p3_tree.specs.Grammar.Words.{each_at};
+ghost use Rattle.p3_tree.specs.Grammar.Formulas.{atom_in, formula_place, not_form, imply_form, exists_form, forall_form, equal_form, atom_form};
+ghost use Rattle.p3_syntax.specs.Nodes.{expression_of, expressions_of};
+ghost use Rattle.p3_syntax.specs.Reading.{Gives};
+ghost use Rattle.p3_syntax.specs.Trees.{form_at, formula_by, the_atom};
+
+use crate::error::Fault;
+use crate::tree::lists::{term, terms, variables};
+use crate::tree::parts::{headed, only, pair, parts};
+use crate::tree::tests::is;
+use crate::tree::words::predicate;
+use crate::view::{Parts, View};
+use p3_base::{Boxed, List};
+use p3_tree::{Formula, Ref, Term};
+use std::alloc::Global;
+
+/// A predicate at arguments.
+#[derive(Drop)]
+pub struct AtomParts {
+    /// The predicate.
+    pub pred: Ref,
+    /// The arguments.
+    pub args: List<Term>,
+}
+
+/// An atom, from its parts.
+pub fn atom(alloc: Global, mut parts: Parts<'_, '_>) -> Result<AtomParts, Fault>
+    ensures { Gives the_atom result (atom_in (expressions_of parts.entry)) }
+{
+    let Some(first) = parts.next() else {
+        return Err(Fault::Malformed);
+    };
+    let pred = predicate(alloc, first)?;
+    let args = terms(alloc, parts)?;
+    Ok(AtomParts { pred, args })
+}
+
+#[tactic(auto, using(crate::proofs::TreeLemmas::raws_listed))]
+fn atom_form(alloc: Global, parts: Parts<'_, '_>) -> Result<Formula, Fault>
+    ensures { Gives (λ tree. tree) result (form_at atom_form parts.entry) }
+{
+    let AtomParts { pred, args } = atom(alloc, parts)?;
+    Ok(Formula::Atom { pred, args })
+}
+
+#[tactic(auto, using(crate::proofs::TreeLemmas::raws_listed))]
+fn equal_form(alloc: Global, behind: Parts<'_, '_>) -> Result<Formula, Fault>
+    ensures { Gives (λ tree. tree) result (form_at equal_form behind.entry) }
+{
+    let (left, right) = pair(behind)?;
+    Ok(Formula::Equal(term(alloc, left)?, term(alloc, right)?))
+}
+
+/// The formulas of parts.
+#[cycle(formula)]
+fn formulas(alloc: Global, parts: Parts<'_, '_>) -> Result<List<Formula>, Fault>
+    ensures { Gives (λ trees. trees) result (each_at formula_place (expressions_of parts.entry)) }
+{
+    let mut left = parts;
+    let mut found = List::new(alloc);
+    while let Some(view) = left.next() {
+        found.push(formula(alloc, view)?)?;
+    }
+    Ok(found)
+}
+
+#[cycle(formula)]
+#[tactic(auto, using(crate::proofs::FormulaLemmas::not_listed))]
+fn not_form(alloc: Global, behind: Parts<'_, '_>) -> Result<Formula, Fault>
+    ensures { Gives (λ tree. tree) result (form_at not_form behind.entry) }
+{
+    let part = formula(alloc, only(behind)?)?;
+    Ok(Formula::Not(Boxed::new(alloc, part)?))
+}
+
+#[cycle(formula)]
+#[tactic(auto, using(crate::proofs::FormulaLemmas::imply_listed))]
+fn imply_form(alloc: Global, behind: Parts<'_, '_>) -> Result<Formula, Fault>
+    ensures { Gives (λ tree. tree) result (form_at imply_form behind.entry) }
+{
+    let (first, second) = pair(behind)?;
+    let first = formula(alloc, first)?;
+    let second = formula(alloc, second)?;
+    Ok(Formula::Imply(Boxed::new(alloc, first)?, Boxed::new(alloc, second)?))
+}
+
+#[cycle(formula)]
+#[tactic(auto, using(crate::proofs::FormulaLemmas::exists_listed))]
+fn exists_form(alloc: Global, behind: Parts<'_, '_>) -> Result<Formula, Fault>
+    ensures { Gives (λ tree. tree) result (form_at exists_form behind.entry) }
+{
+    let (first, second) = pair(behind)?;
+    let variables = variables(alloc, first)?;
+    let body = formula(alloc, second)?;
+    Ok(Formula::Exists(variables, Boxed::new(alloc, body)?))
+}
+
+#[cycle(formula)]
+#[tactic(auto, using(crate::proofs::FormulaLemmas::forall_listed))]
+fn forall_form(alloc: Global, behind: Parts<'_, '_>) -> Result<Formula, Fault>
+    ensures { Gives (λ tree. tree) result (form_at forall_form behind.entry) }
+{
+    let (first, second) = pair(behind)?;
+    let variables = variables(alloc, first)?;
+    let body = formula(alloc, second)?;
+    Ok(Formula::Forall(variables, Boxed::new(alloc, body)?))
+}
+
+/// The formula of a list by its first word.
+#[cycle(formula)]
+#[tactic(auto, using(crate::proofs::TreeLemmas::trees_listed))]
+fn formula_by(
+    alloc: Global,
+    word: &[u8],
+    parts: Parts<'_, '_>,
+    behind: Parts<'_, '_>,
+) -> Result<Formula, Fault>
+    ensures { Gives (λ tree. tree) result (formula_by word.now parts.entry behind.entry) }
+{
+    if is(word, b"and") {
+        Ok(Formula::And(formulas(alloc, behind)?))
+    } else if is(word, b"or") {
+        Ok(Formula::Or(formulas(alloc, behind)?))
+    } else if is(word, b"not") {
+        not_form(alloc, behind)
+    } else if is(word, b"imply") {
+        imply_form(alloc, behind)
+    } else if is(word, b"exists") {
+        exists_form(alloc, behind)
+    } else if is(word, b"forall") {
+        forall_form(alloc, behind)
+    } else if is(word, b"=") {
+        equal_form(alloc, behind)
+    } else {
+        atom_form(alloc, parts)
+    }
+}
+
+/// The formula that a view is.
+#[cycle(formula)]
+#[tactic(auto, using(crate::proofs::FormulaLemmas::formula_of_list))]
+pub fn formula(alloc: Global, view: View<'_, '_>) -> Result<Formula, Fault>
+    ensures { Gives (λ tree. tree) result (formula_place (expression_of view.entry)) }
+{
+    let parts = parts(view)?;
+    let list = headed(parts)?;
+    formula_by(alloc, list.word.text, parts, list.behind)
+}

@@ -1,0 +1,166 @@
+//! Terms, types, and lists of typed names.
+
+ghost use Rattle.std.specs.Prelude.{◌≡◌};
+ghost use Rattle.p3_tree.specs.Grammar.Words.{each_at, name_place, variable_place};
+ghost use Rattle.p3_tree.specs.Grammar.Lists.{term_place, object_place, type_place, one_type_place, variables_in, variables_place, objects_in, either_in};
+ghost use Rattle.p3_syntax.specs.Nodes.{expression_of, expressions_of};
+ghost use Rattle.p3_syntax.specs.Reading.{Gives};
+ghost use Rattle.p3_syntax.specs.Groups.{the_item, typed_at};
+
+use crate::error::Fault;
+use crate::tree::groups::{Groups, TypedItem};
+use crate::tree::parts::{headed, parts};
+use crate::tree::tests::{is, is_name, is_variable};
+use crate::tree::words::{copied, name, variable, word};
+use crate::view::{Parts, View};
+use p3_base::List;
+use p3_tree::{Ref, Term, Typed};
+use std::alloc::Global;
+
+/// An object or a variable.
+pub fn term(alloc: Global, view: View<'_, '_>) -> Result<Term, Fault>
+    ensures { Gives (λ term. term) result (term_place (expression_of view.entry)) }
+{
+    let word = word(view)?;
+    if is_name(word.text) {
+        Ok(Term::Const(copied(alloc, word)?))
+    } else if is_variable(word.text) {
+        Ok(Term::Var(copied(alloc, word)?))
+    } else {
+        Err(Fault::Malformed)
+    }
+}
+
+/// The terms of parts.
+pub fn terms(alloc: Global, parts: Parts<'_, '_>) -> Result<List<Term>, Fault>
+    ensures { Gives (λ terms. terms) result (each_at term_place (expressions_of parts.entry)) }
+{
+    let mut left = parts;
+    let mut found = List::new(alloc);
+    while let Some(view) = left.next() {
+        found.push(term(alloc, view)?)?;
+    }
+    Ok(found)
+}
+
+/// An object.
+pub fn object(alloc: Global, view: View<'_, '_>) -> Result<Term, Fault>
+    ensures { Gives (λ term. term) result (object_place (expression_of view.entry)) }
+{
+    Ok(Term::Const(name(alloc, view)?))
+}
+
+/// The objects of parts.
+pub fn object_terms(alloc: Global, parts: Parts<'_, '_>) -> Result<List<Term>, Fault>
+    ensures { Gives (λ terms. terms) result (each_at object_place (expressions_of parts.entry)) }
+{
+    let mut left = parts;
+    let mut found = List::new(alloc);
+    while let Some(view) = left.next() {
+        found.push(object(alloc, view)?)?;
+    }
+    Ok(found)
+}
+
+fn names(alloc: Global, parts: Parts<'_, '_>) -> Result<List<Ref>, Fault>
+    ensures { Gives (λ names. names) result (each_at name_place (expressions_of parts.entry)) }
+{
+    let mut left = parts;
+    let mut found = List::new(alloc);
+    while let Some(view) = left.next() {
+        found.push(name(alloc, view)?)?;
+    }
+    Ok(found)
+}
+
+/// The names behind the word `either`.
+#[tactic(auto, using(p3_places::proofs::WordLemmas::same_name_sym))]
+fn either(alloc: Global, parts: Parts<'_, '_>) -> Result<List<Ref>, Fault>
+    ensures { Gives (λ names. names) result (either_in (expressions_of parts.entry)) }
+{
+    let list = headed(parts)?;
+    if !is(list.word.text, b"either") {
+        return Err(Fault::Malformed);
+    }
+    let mut behind = list.behind;
+    if behind.next().is_none() {
+        return Err(Fault::Malformed);
+    }
+    names(alloc, list.behind)
+}
+
+/// A type, which is its own list.
+fn one_type(alloc: Global, view: View<'_, '_>) -> Result<List<Ref>, Fault>
+    ensures { Gives (λ names. names) result (one_type_place (expression_of view.entry)) }
+{
+    let mut types = List::new(alloc);
+    types.push(name(alloc, view)?)?;
+    Ok(types)
+}
+
+/// A type, or several.
+pub fn types(alloc: Global, view: View<'_, '_>) -> Result<List<Ref>, Fault>
+    ensures { Gives (λ names. names) result (type_place (expression_of view.entry)) }
+{
+    match view.word() {
+        Some(_) => one_type(alloc, view),
+        None => either(alloc, parts(view)?),
+    }
+}
+
+/// A variable with its types.
+fn typed_variable(alloc: Global, typed: TypedItem<'_, '_>) -> Result<Typed, Fault>
+    ensures { Gives (λ typed. typed) result (typed_at variable_place type_place (the_item typed.entry)) }
+{
+    let name = variable(alloc, typed.item)?;
+    let types = match typed.kind {
+        Some(kind) => types(alloc, kind)?,
+        None => List::new(alloc),
+    };
+    Ok(Typed { name, types })
+}
+
+/// The variables of parts.
+#[tactic(auto, using(crate::proofs::ListLemmas::variables_each, crate::proofs::GroupLemmas::one_more, crate::proofs::GroupLemmas::none_more))]
+pub fn variables_of(alloc: Global, parts: Parts<'_, '_>) -> Result<List<Typed>, Fault>
+    ensures { Gives (λ list. list) result (variables_in (expressions_of parts.entry)) }
+{
+    let mut groups = Groups::of(parts);
+    let mut found = List::new(alloc);
+    while let Some(typed) = groups.next()? {
+        found.push(typed_variable(alloc, typed)?)?;
+    }
+    Ok(found)
+}
+
+/// A list of variables.
+pub fn variables(alloc: Global, view: View<'_, '_>) -> Result<List<Typed>, Fault>
+    ensures { Gives (λ list. list) result (variables_place (expression_of view.entry)) }
+{
+    variables_of(alloc, parts(view)?)
+}
+
+/// An object with its type.
+fn typed_object(alloc: Global, typed: TypedItem<'_, '_>) -> Result<Typed, Fault>
+    ensures { Gives (λ typed. typed) result (typed_at name_place one_type_place (the_item typed.entry)) }
+{
+    let name = name(alloc, typed.item)?;
+    let types = match typed.kind {
+        Some(kind) => one_type(alloc, kind)?,
+        None => List::new(alloc),
+    };
+    Ok(Typed { name, types })
+}
+
+/// The objects of parts.
+#[tactic(auto, using(crate::proofs::ListLemmas::objects_each, crate::proofs::GroupLemmas::one_more, crate::proofs::GroupLemmas::none_more))]
+pub fn objects_of(alloc: Global, parts: Parts<'_, '_>) -> Result<List<Typed>, Fault>
+    ensures { Gives (λ list. list) result (objects_in (expressions_of parts.entry)) }
+{
+    let mut groups = Groups::of(parts);
+    let mut found = List::new(alloc);
+    while let Some(typed) = groups.next()? {
+        found.push(typed_object(alloc, typed)?)?;
+    }
+    Ok(found)
+}
