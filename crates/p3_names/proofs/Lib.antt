@@ -1,0 +1,5 @@
+pub mod NameLemmas
+pub mod ScopeLemmas
+pub mod KindLemmas
+pub mod SearchLemmas
+pub mod ObjectLemmas
