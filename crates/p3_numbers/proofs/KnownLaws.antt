@@ -5,14 +5,15 @@ use Rattle.std.specs.List.{list_all}
 use Rattle.std.proofs.Math.Bool.{and-true, or-true}
 use Rattle.std.proofs.lemmas.Bool.{and_parts}
 use Rattle.std.proofs.lemmas.List.Folds.{list_all-append}
+use Rattle.std.proofs.lemmas.List.Concat.{flat_map-append}
 use Rattle.std.proofs.lemmas.Slice.Eq.{bytes_eq-Decides}
 use mathlib.Core.Former.{Count}
 use Rattle.p3_tree.specs.Folds.{fold_formulas, fold_effects, fold_goals, fold_constraints}
 use Rattle.p3_tree.specs.Names.{Name, same_name, has_name, total_cost}
-use Rattle.p3_tree.specs.Offences.{WellFormed, domain_unknowns, problem_unknowns}
+use Rattle.p3_tree.specs.Offences.{WellFormed, unknown_words, domain_unknowns, problem_unknowns}
 use Rattle.p3_tree.specs.PreferenceNames.{Named, named_at, goal_names_layer, named_in_goal, constraint_names_layer, named_in_constraint, named_in_domain, named_in_problem, preference_names}
 use Rattle.p3_tree.specs.Uses as uses
-use Rattle.p3_tree.specs.Uses.{Scope, scope_of, Use, formula_uses, amount_uses, effect_uses, goal_uses, modal_uses, constraint_uses, metric_uses, init_uses, action_uses, header_uses, domain_uses, problem_uses}
+use Rattle.p3_tree.specs.Uses.{Scope, scope_of, Use, Objects, formula_uses, amount_uses, effect_uses, goal_uses, modal_uses, constraint_uses, metric_uses, init_uses, action_uses, header_uses, domain_uses, problem_uses}
 use Rattle.p3_tree.proofs.OnceLemmas.{nil_left, nil_right}
 use Rattle.p3_tree.specs.declared.term.Ref.{Ref}
 use Rattle.p3_tree.specs.declared.formula.Formula.{Formula, Row_of-Formula, end_of-Formula, more_of-Formula}
@@ -43,6 +44,14 @@ use Rattle.p3_numbers.proofs.UseLemmas.{knows_term, knows, uses_known, Agrees, a
 
 split : {A : Type 0} (test : A → Bool) (xs ys : List A) → list_all test (xs ++ ys) ≡ true → (list_all test xs ≡ true) × (list_all test ys ≡ true)
 split test xs ys all = and_parts (list_all test xs) (list_all test ys) (sym (list_all-append test xs ys) ∙ all)
+
+ends_empty : {A B : Type 0} (f : A → List B) (first : A) (before middle last : List A) → flat_map f (first ∷ before ++ middle ++ last) ≡ [] → flat_map f (middle ++ last) ≡ []
+ends_empty f first before middle last none =
+    let rest = nil_right (f first) (flat_map f (before ++ middle ++ last)) none in
+    let parts : flat_map f (before ++ middle) ++ flat_map f last ≡ [] = sym (flat_map-append f (before ++ middle) last) ∙ rest in
+    let most : flat_map f before ++ flat_map f middle ≡ [] = sym (flat_map-append f before middle) ∙ nil_left (flat_map f (before ++ middle)) (flat_map f last) parts in
+    flat_map-append f middle last
+    ∙ (λ i. nil_right (flat_map f before) (flat_map f middle) most i ++ nil_right (flat_map f (before ++ middle)) (flat_map f last) parts i)
 
 module _ (N : Numbers) where
   abbrev all_known : List Use → Bool
@@ -202,20 +211,29 @@ module _ (N : Numbers) where
       && each_named list (λ name later. known name (ap (λ found. same_name named.name name || found) later ∙ or-true (same_name named.name name))) i
 
 module _ (T : Task) (N : Numbers) (well : WellFormed T) (covers : Covers T N) where
+  -- no word behind the headers is unknown
+  behind_headers : flat_map (unknown_words T) (constraint_uses T.domain.constraints.body [] ++ flat_map action_uses T.domain.actions) ≡ []
+  unfolding domain_unknowns problem_unknowns domain_uses
+  behind_headers =
+      let D = T.domain in
+      ends_empty (unknown_words T) (Objects D.constants) (flat_map header_uses D.predicates ++ flat_map header_uses D.functions) (constraint_uses D.constraints.body []) (flat_map action_uses D.actions)
+      (nil_left (domain_unknowns T) (problem_unknowns T) well.unknowns)
+
   domain-parts : (all_known N (constraint_uses T.domain.constraints.body []) ≡ true) × (all_known N (flat_map action_uses T.domain.actions) ≡ true)
   unfolding domain_unknowns problem_unknowns domain_uses
   domain-parts =
       let D = T.domain in
-      let types = split (has_use_types N) (domain_uses D) (problem_uses T.problem) covers.types in
-      let all = uses_known T N covers (domain_uses D) (nil_left (domain_unknowns T) (problem_unknowns T) well.unknowns) types.0 in
-      let last = split (knows N) (flat_map header_uses D.predicates ++ flat_map header_uses D.functions ++ constraint_uses D.constraints.body []) (flat_map action_uses D.actions) all in
-      ((split (knows N) (flat_map header_uses D.predicates ++ flat_map header_uses D.functions) (constraint_uses D.constraints.body []) last.0).1, last.1)
+      let constraints = constraint_uses D.constraints.body [] in
+      let actions = flat_map action_uses D.actions in
+      let types = split (has_use_types N) (constraints ++ actions) (problem_uses T.problem) covers.types in
+      let last = split (knows N) constraints actions (uses_known T N covers (constraints ++ actions) behind_headers types.0) in
+      (last.0, last.1)
 
   problem-parts : (all_known N (flat_map init_uses T.problem.init) ≡ true) × (all_known N (goal_uses T.problem.goal.body []) ≡ true) × (all_known N (constraint_uses T.problem.constraints.body []) ≡ true)
   unfolding domain_unknowns problem_unknowns problem_uses
   problem-parts =
       let P = T.problem in
-      let types = split (has_use_types N) (domain_uses T.domain) (problem_uses P) covers.types in
+      let types = split (has_use_types N) (constraint_uses T.domain.constraints.body [] ++ flat_map action_uses T.domain.actions) (problem_uses P) covers.types in
       let all = uses_known T N covers (problem_uses P) (nil_right (domain_unknowns T) (problem_unknowns T) well.unknowns) types.1 in
       let most = split (knows N) (flat_map init_uses P.init ++ goal_uses P.goal.body [] ++ constraint_uses P.constraints.body []) (metric_uses P.metric) all in
       let more = split (knows N) (flat_map init_uses P.init ++ goal_uses P.goal.body []) (constraint_uses P.constraints.body []) most.0 in

@@ -1,11 +1,11 @@
 -- What the numbers of a well-formed task cover: each name in it has a number, and each variable a slot.
-use Rattle.std.specs.Prelude.{◌≡◌, Bool, true, ◌&&◌, List, [], ◌++◌}
+use Rattle.std.specs.Prelude.{◌≡◌, Bool, true, ◌&&◌, List, [], ◌++◌, flat_map}
 use Rattle.std.specs.List.{list_any, list_all}
 use Rattle.p3_tree.specs.Names.{Name, same_name, has_name}
 use Rattle.p3_tree.specs.Offences.{WellFormed, is_declared}
 use Rattle.p3_tree.specs.PreferenceNames.{preference_names}
 use Rattle.p3_tree.specs.Types.{declared_objects}
-use Rattle.p3_tree.specs.Uses.{Use, Objects, Variables, AtomUse, FunctionUse, SideUse, NameUse, domain_uses, problem_uses}
+use Rattle.p3_tree.specs.Uses.{Use, Objects, Variables, AtomUse, FunctionUse, SideUse, NameUse, action_uses, constraint_uses, problem_uses}
 use Rattle.p3_tree.specs.declared.task.Action.{Action}
 use Rattle.p3_tree.specs.declared.task.Header.{Header}
 use Rattle.p3_tree.specs.declared.task.Task.{Task}
@@ -28,13 +28,17 @@ has_use_types N (FunctionUse function args scope) = true
 has_use_types N (SideUse side scope) = true
 has_use_types N (NameUse name) = true
 
--- what is declared has a number, and there is a range for each variable
+-- what is used behind the headers of predicates and functions, whose parameters nobody binds
+abbrev pub tree_uses : Task → List Use
+tree_uses T = constraint_uses T.domain.constraints.body [] ++ flat_map action_uses T.domain.actions ++ problem_uses T.problem
+
+-- what is declared has a number, and there is a range for each variable that is bound
 pub record Covers (T : Task) (N : Numbers) : Type 0 where
   pub predicates : (name : Name) → declares T.domain.predicates name ≡ true → has_name N.predicates name ≡ true
   pub functions : (name : Name) → declares T.domain.functions name ≡ true → has_name N.functions name ≡ true
   pub objects : (name : Name) → is_declared (declared_objects T) name ≡ true → has_name N.objects name ≡ true
   pub preferences : (name : Name) → has_name (preference_names T) name ≡ true → has_name N.preferences name ≡ true
-  pub types : list_all (has_use_types N) (domain_uses T.domain ++ problem_uses T.problem) ≡ true
+  pub types : list_all (has_use_types N) (tree_uses T) ≡ true
 
 abbrev pub is_known_action : Numbers → Action → Bool
 is_known_action N action = are_known_types N action.params && is_known_goal N action.pre.body (words_of action.params) && is_known_effect N action.effect.body (words_of action.params)

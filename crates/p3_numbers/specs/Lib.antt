@@ -1,3 +1,4 @@
+pub mod Choices
 pub mod Conditions
 pub mod Constraints
 pub mod Effects
@@ -7,4 +8,5 @@ pub mod Known
 pub mod Places
 pub mod Slots
 pub mod Starts
+pub mod Tasks
 pub mod Worked

@@ -1,5 +1,5 @@
 -- The numbers of names and the slots of variables.
-use Rattle.std.specs.Prelude.{◌≡◌, ℕ, ◌+◌, ◌<◌, Bool, true, List, [], ◌∷◌, map, length, if◌then◌else◌, Option, Some, None, is_some}
+use Rattle.std.specs.Prelude.{◌≡◌, ℕ, ◌<◌, Bool, true, List, [], ◌∷◌, map, length, Option, Some, None, is_some}
 use Rattle.std.specs.List.{list_any, list_all, position_or_len, All}
 use Rattle.p3_tree.specs.Names.{Name, same_name, same_names, has_name}
 use Rattle.p3_tree.specs.Types.{names_of, objects}
@@ -10,6 +10,7 @@ use Rattle.p3_tree.specs.declared.term.Term.{Term}
 use Rattle.p3_tree.specs.declared.term.Term.TheVariants.{Var, Const}
 use Rattle.p3_tree.specs.declared.term.Typed.{Typed}
 use Rattle.p3_tree.specs.declared.task.Task.{Task}
+pub use Rattle.p3_names.specs.Scopes.{place_after, slot_of, words_of}
 use Rattle.p3_numbers.specs.Slots.{Slots, name_at, object_names, range_at, tuples_of}
 use Rattle.p3_numbers.specs.declared.condition.Argument.{Argument}
 use Rattle.p3_numbers.specs.declared.condition.Argument.TheVariants.{Slot, Object}
@@ -23,15 +24,6 @@ number_in names name = position_or_len (λ other. same_name other name) names
 -- the variables in scope, the outermost first
 abbrev pub Variables : Type 0
 Variables = List Name
-
--- the last place of the variable behind those passed, or where it was found among them
-abbrev pub place_after : Variables → Name → ℕ → Option ℕ → Option ℕ
-place_after [] variable passed found = found
-place_after (other ∷ others) variable passed found = place_after others variable (passed + 1) (if same_name other variable then Some passed else found)
-
--- the innermost variable of that name hides the others
-abbrev pub slot_of : Variables → Name → Option ℕ
-slot_of scope variable = place_after scope variable 0 None
 
 abbrev pub slot_or_first : Option ℕ → Argument
 slot_or_first None = Slot 0
@@ -50,9 +42,6 @@ range_of N types = position_or_len (λ other. same_names other (names_of types))
 
 abbrev pub ranges_of : Numbers → List Typed → List ℕ
 ranges_of N variables = map (λ variable. range_of N variable.types) variables
-
-abbrev pub words_of : List Typed → List Name
-words_of variables = map (λ variable. variable.name.name) variables
 
 -- ---- whether it has one
 

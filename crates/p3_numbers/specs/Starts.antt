@@ -1,5 +1,5 @@
 -- The initial state with numbers.
-use Rattle.std.specs.Prelude.{◌≡◌, ℕ, Bool, true, ◌&&◌, List, [], map, filter_map, Option, Some, None}
+use Rattle.std.specs.Prelude.{◌≡◌, Bool, true, ◌&&◌, List, [], map, filter_map, Option, Some, None}
 use Rattle.std.specs.List.{list_all}
 use Rattle.p3_tree.specs.Names.{has_name}
 use Rattle.p3_tree.specs.States.{start}
@@ -10,11 +10,8 @@ use Rattle.p3_tree.specs.declared.task.Task.{Task}
 use Rattle.p3_numbers.specs.Places.{number_in, numbered_terms, are_known_terms}
 use Rattle.p3_numbers.specs.Slots.{values_of, name_at, object_names}
 use Rattle.p3_numbers.specs.declared.numbers.Numbers.{Numbers}
-
--- a predicate at objects
-pub record NumberedFact : Type 0 where
-  pub predicate : ℕ
-  pub objects : List ℕ
+use Rattle.p3_numbers.specs.declared.task.NumberedFact.{NumberedFact}
+use Rattle.p3_numbers.specs.declared.task.NumberedValue.{NumberedValue}
 
 abbrev pub fact_by : Numbers → NumberedFact → Fact
 fact_by N fact = record { name = name_at N.predicates fact.predicate; args = object_names N fact.objects }
@@ -26,6 +23,15 @@ entry_fact N (Value function args number) = None
 
 unfoldable pub start_of : Numbers → Task → List NumberedFact
 start_of N T = filter_map (entry_fact N) T.problem.init
+
+-- the values that the entries give, that of the total cost among them
+abbrev pub entry_value : Numbers → Init → Option NumberedValue
+entry_value N (True pred args) = None
+entry_value N (False pred args) = None
+entry_value N (Value function args number) = Some (record { function = number_in N.functions function.name; objects = values_of [] (numbered_terms N [] args); number = number })
+
+unfoldable pub initial_values_of : Numbers → Task → List NumberedValue
+initial_values_of N T = filter_map (entry_value N) T.problem.init
 
 abbrev pub is_known_entry : Numbers → Init → Bool
 is_known_entry N (True pred args) = has_name N.predicates pred.name && are_known_terms N [] args

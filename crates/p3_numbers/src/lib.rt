@@ -8,6 +8,7 @@ mod effect;
 mod goal;
 mod laws;
 mod numbers;
+mod task;
 
 pub use condition::{Argument, Condition};
 pub use constraint::{NumberedConstraint, NumberedModal};
@@ -20,3 +21,4 @@ pub use laws::{
     worked_conditions,
 };
 pub use numbers::Numbers;
+pub use task::{NumberedAction, NumberedFact, NumberedTask, NumberedValue};

@@ -1,0 +1,13 @@
+pub mod ConditionLemmas
+pub mod ConstraintLemmas
+pub mod CoverLemmas
+pub mod EffectLemmas
+pub mod GoalLemmas
+pub mod HavingLemmas
+pub mod ListedLemmas
+pub mod NameLemmas
+pub mod RangeLemmas
+pub mod SortLemmas
+pub mod StartLemmas
+pub mod TermLemmas
+pub mod WordLemmas

@@ -1,0 +1,11 @@
+use Rattle.std.proofs.Common.{◌≡◌, map, take}
+use Rattle.p3_numbers.specs.Conditions.{condition_of}
+use Rattle.p3_numbers.specs.Places.{words_of}
+use Rattle.p3_numbering.specs.Tables.{numbers_of}
+use Rattle.p3_numbering.proofs.conditions.+conditions.Given as goal
+
+abbrev pub invariant-numbered_formulas-loop-part : goal.invariant-numbered_formulas-loop-part
+invariant-numbered_formulas-loop-part l = record {
+  scope : l.scope ≡ l.fn.scope;
+  made : l.made ≡ map (λ part. condition_of (numbers_of l.tables) part (words_of l.fn.scope)) (take l.part-index l.parts);
+}

@@ -1,0 +1,5 @@
+pub mod Listed
+pub mod Ranges
+pub mod Tables
+pub mod Texts
+pub mod Words
