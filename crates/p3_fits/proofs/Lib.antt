@@ -1,0 +1,4 @@
+pub mod ByNameLemmas
+pub mod FitLemmas
+pub mod NumberLemmas
+pub mod FoundLemmas

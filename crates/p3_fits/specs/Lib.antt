@@ -1,0 +1,3 @@
+pub mod ByName
+pub mod Fitting
+pub mod Numbers

@@ -1,0 +1,100 @@
+-- What is found over a whole domain or problem is the word of least offset.
+use Rattle.std.proofs.Common.{◌≡◌, ◌∙◌, List, [], ◌++◌, Option, None, refl, sym, ap}
+use Rattle.std.specs.Prelude.{fold, flat_map, option_map}
+use Rattle.std.proofs.lemmas.List.{append-nil}
+use Rattle.p3_tree.specs.FirstOffence.{least_word}
+use Rattle.p3_tree.specs.Offences.{repeated, repeated_values, header_words, action_words, repeated_variables, unknown_words, miscounted, total_cost_with_parameters, domain_duplicates, problem_duplicates, domain_unknowns, problem_unknowns, domain_miscounts, problem_miscounts}
+use Rattle.p3_tree.specs.Uses.{Use, Objects, Variables, scope_of, goal_uses, effect_uses, constraint_uses, metric_uses, header_uses, action_uses, init_uses, domain_uses, problem_uses}
+use Rattle.p3_tree.specs.declared.term.Ref.{Ref}
+use Rattle.p3_tree.specs.declared.task.Action.{Action}
+use Rattle.p3_tree.specs.declared.task.Domain.{Domain}
+use Rattle.p3_tree.specs.declared.task.Problem.{Problem}
+use Rattle.p3_tree.specs.declared.task.Task.{Task}
+use Rattle.p3_offences.specs.Spots.{spot_of, step, use_step}
+use Rattle.p3_offences.specs.declared.spot.Spot.{Spot}
+use Rattle.p3_offences.specs.declared.spot.Found.{Found}
+use Rattle.p3_offences.proofs.WalkLemmas.{Notes, fold-append, least-walk, noted-uses}
+
+-- ---- part by part
+
+module _ (T : Task) (before : Found) where
+  pub action-parts : (action : Action) → fold (use_step T) before (action_uses action)
+      ≡ fold (use_step T) (fold (use_step T) (use_step T before (Variables action.params)) (goal_uses action.pre.body (scope_of action.params ++ []))) (effect_uses action.effect.body (scope_of action.params ++ []))
+  action-parts action =
+      fold-append (use_step T) (use_step T before (Variables action.params)) (goal_uses action.pre.body (scope_of action.params)) (effect_uses action.effect.body (scope_of action.params))
+      ∙ (λ i. fold (use_step T) (fold (use_step T) (use_step T before (Variables action.params)) (goal_uses action.pre.body (whole i))) (effect_uses action.effect.body (whole i)))
+    where
+      whole : scope_of action.params ≡ scope_of action.params ++ []
+      whole = sym (append-nil (scope_of action.params))
+
+  pub domain-parts : (D : Domain) → fold (use_step T) before (domain_uses D)
+      ≡ fold (use_step T) (fold (use_step T) (fold (use_step T) (fold (use_step T) (use_step T before (Objects D.constants)) (flat_map header_uses D.predicates)) (flat_map header_uses D.functions)) (constraint_uses D.constraints.body []))
+      (flat_map action_uses D.actions)
+  unfolding domain_uses
+  domain-parts D =
+      let first = use_step T before (Objects D.constants) in
+      let headers = flat_map header_uses D.predicates ++ flat_map header_uses D.functions in
+      let constraints = constraint_uses D.constraints.body [] in
+      let actions = flat_map action_uses D.actions in
+      fold-append (use_step T) first (headers ++ constraints) actions ∙ ap (λ found. fold (use_step T) found actions)
+      (fold-append (use_step T) first headers constraints ∙ ap (λ found. fold (use_step T) found constraints)
+      (fold-append (use_step T) first (flat_map header_uses D.predicates) (flat_map header_uses D.functions)))
+
+  pub problem-parts : (P : Problem) → fold (use_step T) before (problem_uses P)
+      ≡ fold (use_step T) (fold (use_step T) (fold (use_step T) (fold (use_step T) (use_step T before (Objects P.objects)) (flat_map init_uses P.init)) (goal_uses P.goal.body [])) (constraint_uses P.constraints.body [])) (metric_uses P.metric)
+  unfolding problem_uses
+  problem-parts P =
+      let first = use_step T before (Objects P.objects) in
+      let goals = flat_map init_uses P.init ++ goal_uses P.goal.body [] in
+      let constraints = constraint_uses P.constraints.body [] in
+      let metric = metric_uses P.metric in
+      fold-append (use_step T) first (goals ++ constraints) metric ∙ ap (λ found. fold (use_step T) found metric)
+      (fold-append (use_step T) first goals constraints ∙ ap (λ found. fold (use_step T) found constraints)
+      (fold-append (use_step T) first (flat_map init_uses P.init) (goal_uses P.goal.body [])))
+
+pub declared-parts : (first second third : List Ref) → fold step None (first ++ second ++ third) ≡ fold step (fold step (fold step None first) second) third
+declared-parts first second third = fold-append step None (first ++ second) third ∙ ap (λ least. fold step least third) (fold-append step None first second)
+
+-- ---- the word of least offset
+
+module _ (T : Task) (found : Found) where
+  -- words that were looked at before the walk, and those of all uses
+  least-of : (kept : Found → Option Spot) (words : Use → List Ref) (first : List Ref) (uses : List Use) → Notes T kept words → kept found ≡ fold step None first
+      → kept (fold (use_step T) found uses) ≡ option_map spot_of (least_word (first ++ flat_map words uses))
+  least-of kept words first uses notes is =
+      noted-uses T kept words notes found uses ∙ (λ i. fold step (is i) (flat_map words uses)) ∙ sym (fold-append step None first (flat_map words uses)) ∙ least-walk (first ++ flat_map words uses)
+
+  pub domain-duplicate : found.duplicate ≡ fold step None (repeated (header_words T.domain.predicates) ++ repeated (header_words T.domain.functions) ++ repeated (action_words T.domain.actions))
+      → (fold (use_step T) found (domain_uses T.domain)).duplicate ≡ option_map spot_of (least_word (domain_duplicates T.domain))
+  unfolding domain_duplicates
+  domain-duplicate is =
+      let D = T.domain in
+      least-of (λ found. found.duplicate) repeated_variables (repeated (header_words D.predicates) ++ repeated (header_words D.functions) ++ repeated (action_words D.actions)) (domain_uses D) (λ found item. refl) is
+
+  pub domain-unknown : found.unknown ≡ None → (fold (use_step T) found (domain_uses T.domain)).unknown ≡ option_map spot_of (least_word (domain_unknowns T))
+  unfolding domain_unknowns
+  domain-unknown is = least-of (λ found. found.unknown) (unknown_words T) [] (domain_uses T.domain) (λ found item. refl) is
+
+  pub domain-miscount : found.miscount ≡ fold step None (flat_map total_cost_with_parameters T.domain.functions)
+      → (fold (use_step T) found (domain_uses T.domain)).miscount ≡ option_map spot_of (least_word (domain_miscounts T))
+  unfolding domain_miscounts
+  domain-miscount is = least-of (λ found. found.miscount) (miscounted T) (flat_map total_cost_with_parameters T.domain.functions) (domain_uses T.domain) (λ found item. refl) is
+
+  pub problem-duplicate : found.duplicate ≡ fold step None (repeated_values [] T.problem.init)
+      → (fold (use_step T) found (problem_uses T.problem)).duplicate ≡ option_map spot_of (least_word (problem_duplicates T.problem))
+  unfolding problem_duplicates
+  problem-duplicate is = least-of (λ found. found.duplicate) repeated_variables (repeated_values [] T.problem.init) (problem_uses T.problem) (λ found item. refl) is
+
+  pub problem-unknown : found.unknown ≡ None → (fold (use_step T) found (problem_uses T.problem)).unknown ≡ option_map spot_of (least_word (problem_unknowns T))
+  unfolding problem_unknowns
+  problem-unknown is = least-of (λ found. found.unknown) (unknown_words T) [] (problem_uses T.problem) (λ found item. refl) is
+
+  pub problem-miscount : found.miscount ≡ None → (fold (use_step T) found (problem_uses T.problem)).miscount ≡ option_map spot_of (least_word (problem_miscounts T))
+  unfolding problem_miscounts
+  problem-miscount is = least-of (λ found. found.miscount) (miscounted T) [] (problem_uses T.problem) (λ found item. refl) is
+
+pub ruleset domain_laws = (domain-duplicate, domain-unknown, domain-miscount)
+
+pub ruleset problem_laws = (problem-duplicate, problem-unknown, problem-miscount)
+
+pub ruleset part_laws = (declared-parts, action-parts, domain-parts, problem-parts)

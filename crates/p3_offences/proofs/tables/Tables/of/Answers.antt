@@ -1,0 +1,15 @@
+use Rattle.p3_tree.specs.Offences.{declared_types}
+use Rattle.p3_tree.specs.PreferenceNames.{preference_names}
+use Rattle.p3_offences.proofs.TableLemmas.{has-adds}
+use Rattle.std.proofs.Common.{◌∙◌}
+use Rattle.p3_offences.proofs.tables.Tables.of.Goals as goal
+
+pub invariant_of-result : goal.invariant_of-result
+invariant_of-result c = record {
+  predicates_told = c.in_ok-predicates.ensures ∙ c.items.ensures;
+  functions_told = c.in_ok-functions.ensures ∙ c.items-2.ensures;
+  constants_told = c.in_ok-constants.ensures ∙ c.items-3.ensures;
+  objects_told = c.in_ok-objects.ensures ∙ c.items-4.ensures;
+  types_told = has-adds c.in_ok-types.types (declared_types c.args.task.now) c.in_ok-types.ensures;
+  preferences_told = has-adds c.in_ok-preferences.preferences (preference_names c.args.task.now) c.in_ok-preferences.ensures;
+}

@@ -1,0 +1,61 @@
+//! The word of least offset.
+
+ghost use Rattle.std.specs.Prelude.{◌≡◌, fold};
+ghost use Rattle.p3_tree.specs.Offences.{unless as unless_passing};
+ghost use Rattle.p3_offences.specs.Spots.{step};
+
+use p3_tree::Ref;
+
+/// A word of a text.
+#[derive(Clone, Copy, Debug, PartialEq, Eq)]
+pub struct Spot {
+    /// Its offset.
+    pub at: u32,
+    /// How many bytes it has.
+    pub len: usize,
+}
+
+/// The first offences that were found.
+#[derive(Clone, Copy, Debug, PartialEq, Eq)]
+pub struct Found {
+    /// The first name that is declared twice.
+    pub duplicate: Option<Spot>,
+    /// The first name that is not declared.
+    pub unknown: Option<Spot>,
+    /// The first predicate or function with a wrong number of arguments.
+    pub miscount: Option<Spot>,
+}
+
+/// The spot of a word.
+fn spot_of(word: &Ref) -> Spot
+    ensures { result ≡ Rattle.p3_offences.specs.Spots.spot_of word.now }
+{
+    Spot {
+        at: word.at,
+        len: word.name.bytes().len(),
+    }
+}
+
+/// The word, where it stands before the one that was found.
+fn noted(found: Option<Spot>, word: &Ref) -> Option<Spot>
+    ensures { result ≡ step found word.now }
+{
+    match found {
+        None => Some(spot_of(word)),
+        Some(spot) => Some(if word.at < spot.at {
+            spot_of(word)
+        } else {
+            spot
+        }),
+    }
+}
+
+/// The word, where the test does not pass.
+pub(crate) fn unless(found: Option<Spot>, passes: bool, word: &Ref) -> Option<Spot>
+    ensures { result ≡ fold step found (unless_passing passes word.now) }
+{
+    if passes {
+        return found;
+    }
+    noted(found, word)
+}
