@@ -1,0 +1,4 @@
+pub mod Cuts
+pub mod Sizes
+pub mod Preferences
+pub mod Excess

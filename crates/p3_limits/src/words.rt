@@ -1,0 +1,67 @@
+//! Refusals at words of a task.
+
+ghost use Rattle.std.specs.Prelude.{◌≡◌, length, IfOk};
+ghost use Rattle.p3_tree.specs.Refusals.Places as places;
+ghost use Rattle.p3_tree.specs.Sides.{InDomain, InProblem, role_of, size_limit as limit_of};
+
+use p3_base::{Code, Name, NoMemory, Pos, Refusal, Role, Side};
+use p3_tree::Ref;
+
+/// The domain of the side.
+pub(crate) fn domain_role(side: Side) -> Role
+    ensures { result ≡ role_of side InDomain }
+{
+    match side {
+        Side::Source => Role::Domain,
+        Side::Written => Role::WrittenDomain,
+    }
+}
+
+/// The problem of the side.
+pub(crate) fn problem_role(side: Side) -> Role
+    ensures { result ≡ role_of side InProblem }
+{
+    match side {
+        Side::Source => Role::Problem,
+        Side::Written => Role::WrittenProblem,
+    }
+}
+
+/// The greatest expanded size of one part of a task of the side.
+pub(crate) fn size_limit(side: Side) -> u64
+    ensures { result ≡ limit_of side }
+{
+    match side {
+        Side::Source => 1_000_000,
+        Side::Written => 50_000_000,
+    }
+}
+
+/// The refusal at a word of so many bytes.
+pub(crate) fn refusal_at(code: Code, role: Role, at: u32, len: u32) -> Refusal
+    ensures { result ≡ places.refusal_at code role at len }
+{
+    Refusal {
+        code,
+        pos: Pos { role, offset: at },
+        len,
+    }
+}
+
+/// How many bytes a name has.
+fn name_len(name: &Name) -> Result<u32, NoMemory>
+    ensures { IfOk result (λ len. len ≡ length name.now) }
+{
+    match u32::try_from(name.bytes().len()) {
+        Ok(len) => Ok(len),
+        Err(_) => Err(NoMemory),
+    }
+}
+
+/// The refusal at a name.
+pub(crate) fn refusal_at_name(code: Code, role: Role, name: &Ref) -> Result<Refusal, NoMemory>
+    ensures { IfOk result (λ refusal. refusal ≡ places.refusal_at_word code role name.now) }
+{
+    let len = name_len(&name.name)?;
+    Ok(refusal_at(code, role, name.at, len))
+}
