@@ -1,0 +1,13 @@
+pub mod NameNumbers
+pub mod Walk
+pub mod Validity
+pub mod Counts
+pub mod PlanNumbers
+pub mod Mentioned
+pub mod Extras
+pub mod Lifts
+pub mod NamesBelow
+pub mod MayGrows
+pub mod MayFitLaws
+pub mod Pruning
+pub mod Worked
