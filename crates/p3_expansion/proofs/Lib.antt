@@ -1,0 +1,10 @@
+pub mod AtomLemmas
+pub mod ChoiceLemmas
+pub mod GrowthLemmas
+pub mod FormParts
+pub mod MeaningLemmas
+pub mod ExpansionLemmas
+pub mod HardLemmas
+pub mod WalkLemmas
+pub mod PreferenceLemmas
+pub mod EffectLemmas

@@ -1,0 +1,9 @@
+pub mod Atoms
+pub mod Statics
+pub mod Meanings
+pub mod Expansions
+pub mod Forms
+pub mod Hard
+pub mod Walks
+pub mod Preferences
+pub mod Changes

@@ -1,0 +1,100 @@
+//! The hard parts of goals at objects as numbered nodes.
+
+ghost use Rattle.std.specs.Prelude.{true, IfOk};
+ghost use Rattle.p3_expansion.specs.Expansions.{Expands, Gathers};
+ghost use Rattle.p3_expansion.specs.Hard.{hard_meaning, hard_parts as parts_of, hard_bodies as bodies_of};
+ghost use Rattle.p3_expansion.specs.Meanings.{reads_of};
+
+use crate::choices::{choice_count, place_choice};
+use crate::condition::condition_node;
+use crate::junction::Junction;
+use crate::{Statics, Work};
+use p3_base::NoMemory;
+use p3_numbers::{Goal, Numbers};
+
+/// The node of the hard part of a goal at the objects in the slots.
+#[cycle(hard)]
+pub fn hard_node(
+    numbers: &Numbers,
+    statics: &Statics,
+    work: &mut Work,
+    slots: &[u32],
+    goal: &Goal,
+) -> Result<usize, NoMemory>
+    ensures { IfOk result (λ number. Expands numbers.now statics.now work.old work.new
+        (hard_meaning numbers.now slots.now goal.now) number) }
+{
+    match goal {
+        Goal::Plain(condition) => {
+            let number = condition_node(numbers, statics, work, slots, condition)?;
+            Ok(number)
+        }
+        Goal::Both(parts) => {
+            let gathered = hard_parts(numbers, statics, work, slots, parts.items())?;
+            let number = gathered.finish(work)?;
+            Ok(number)
+        }
+        Goal::Each(ranges, body) => {
+            let (ranges, body) = (ranges.items(), body.get());
+            let gathered = hard_bodies(numbers, statics, work, slots, ranges, body)?;
+            let number = gathered.finish(work)?;
+            Ok(number)
+        }
+        Goal::Soft(_) => {
+            let number = work.constant(true)?;
+            Ok(number)
+        }
+    }
+}
+
+/// The hard parts of the goals, until they are decided.
+#[cycle(hard)]
+fn hard_parts(
+    numbers: &Numbers,
+    statics: &Statics,
+    work: &mut Work,
+    slots: &[u32],
+    parts: &[Goal],
+) -> Result<Junction, NoMemory>
+    ensures { IfOk result (Gathers numbers.now statics.now
+        (reads_of (parts_of numbers.now slots.now parts.now)) work.old work.new true
+        (parts_of numbers.now slots.now parts.now)) }
+{
+    let mut gathered = Junction::new(work.alloc, true);
+    for part in parts {
+        if gathered.is_cut {
+            return Ok(gathered);
+        }
+        let number = hard_node(numbers, statics, work, slots, part)?;
+        gathered.take(work, number)?;
+    }
+    Ok(gathered)
+}
+
+/// The hard part of the body at each choice of one object of each range, until it is decided.
+#[cycle(hard)]
+fn hard_bodies(
+    numbers: &Numbers,
+    statics: &Statics,
+    work: &mut Work,
+    slots: &[u32],
+    ranges: &[u32],
+    body: &Goal,
+) -> Result<Junction, NoMemory>
+    ensures { IfOk result (Gathers numbers.now statics.now
+        (reads_of (bodies_of numbers.now slots.now ranges.now body.now)) work.old work.new true
+        (bodies_of numbers.now slots.now ranges.now body.now)) }
+{
+    let count = choice_count(numbers, ranges)?;
+    let mut inner = Vec::from_slice(work.alloc, slots)?;
+    let mut gathered = Junction::new(work.alloc, true);
+    for choice in 0..count {
+        if gathered.is_cut {
+            return Ok(gathered);
+        }
+        place_choice(&mut inner, slots.len(), numbers, ranges, count, choice)?;
+        let number = hard_node(numbers, statics, work, inner.as_slice(), body)?;
+        gathered.take(work, number)?;
+    }
+    Ok(gathered)
+}
