@@ -1,8 +1,8 @@
 -- What fits a list of types.
-use Rattle.std.specs.Prelude.{◌≡◌, Bool, List, [], ◌∷◌, flat_map, length, nat_lt, if◌then◌else◌}
-use Rattle.std.specs.List.{list_any}
+use Rattle.std.specs.Prelude.{◌≡◌, Bool, false, List, [], ◌∷◌, flat_map, length, nat_lt, if◌then◌else◌, Option, Some, None}
+use Rattle.std.specs.List.{list_any, list_all}
 use Rattle.p3_tree.specs.Names.{Name, has_name}
-use Rattle.p3_tree.specs.Types.{declared_objects}
+use Rattle.p3_tree.specs.Types.{declared_objects, is_below_some, is_object_of, type_names}
 use Rattle.p3_tree.specs.declared.term.Ref.{Ref}
 use Rattle.p3_tree.specs.declared.term.Typed.{Typed}
 use Rattle.p3_tree.specs.declared.task.Task.{Task}
@@ -24,3 +24,13 @@ HasFitting T types table = (name : Name) → has_name table name ≡ has_name (f
 abbrev pub found_fits : Task → List Ref → List Typed → List Name → Name → Bool
 found_fits T types all table name =
     if nat_lt 1 (length (declared_as name all)) then has_name table name else list_any (fits T types) (declared_as name all)
+
+-- whether an object is of the types of a parameter; where there is no parameter none is
+abbrev pub object_fits_at : Task → Option Typed → Name → Bool
+object_fits_at T None object = false
+object_fits_at T (Some parameter) object = is_object_of T parameter.types object
+
+-- whether each of a variable's types is below one of those of a parameter
+abbrev pub variable_fits_at : Task → Option Typed → Typed → Bool
+variable_fits_at T None variable = false
+variable_fits_at T (Some parameter) variable = list_all (is_below_some T parameter.types) (type_names variable.types)

@@ -1,8 +1,8 @@
 //! Whether objects and variables fit the parameters of a task's headers.
 
-ghost use Rattle.std.specs.Prelude.{◌≡◌, [], map, All, slice_get, option_map, option_and_then, IfOk, IfSome};
-ghost use Rattle.std.specs.List.{list_all};
-ghost use Rattle.p3_tree.specs.Types.{names_of, type_names, is_below_some, is_object_of};
+ghost use Rattle.std.specs.Prelude.{◌≡◌, [], map, All, slice_get, option_map, option_and_then, IfOk};
+ghost use Rattle.p3_tree.specs.Types.{names_of};
+ghost use Rattle.p3_fits.specs.Fitting.{object_fits_at, variable_fits_at};
 ghost use Rattle.p3_fits.specs.Numbers.{headers_of, parameter_at, names_in, AreAllNumbers};
 ghost use Rattle.p3_fits.specs.Numbers as specs;
 
@@ -104,12 +104,13 @@ impl<'t> Fits<'t> {
         }
     }
 
-    /// Whether an object is of the types of a header's parameter. It takes no memory, and the time
-    /// of a few look-ups.
+    /// Whether an object is of the types of a header's parameter, where there is one. It takes no
+    /// memory, and the time of a few look-ups.
     pub fn object_fits(&self, header: usize, parameter: usize, object: &Name) -> bool
-        ensures { IfSome (parameter_at self.now.objects.task.now header parameter)
-            (λ declared. result
-            ≡ is_object_of self.now.objects.task.now declared.types object.now) }
+        ensures { result ≡ object_fits_at
+            self.now.objects.task.now
+            (parameter_at self.now.objects.task.now header parameter)
+            object.now }
     {
         match self.find(header, parameter) {
             None => false,
@@ -117,12 +118,13 @@ impl<'t> Fits<'t> {
         }
     }
 
-    /// Whether each of a variable's types is below one of those of a header's parameter.
+    /// Whether each of a variable's types is below one of those of a header's parameter, where
+    /// there is one.
     pub fn variable_fits(&self, header: usize, parameter: usize, variable: &Typed) -> bool
-        ensures { IfSome (parameter_at self.now.objects.task.now header parameter)
-            (λ declared. result ≡ list_all
-            (is_below_some self.now.objects.task.now declared.types)
-            (type_names variable.now.types)) }
+        ensures { result ≡ variable_fits_at
+            self.now.objects.task.now
+            (parameter_at self.now.objects.task.now header parameter)
+            variable.now }
     {
         match self.find(header, parameter) {
             None => false,

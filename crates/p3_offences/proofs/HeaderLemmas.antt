@@ -26,6 +26,7 @@ module _ (T : Task) (scope : Scope) (found : Found) (word : Ref) (args : List Te
     duplicate = found.duplicate;
     unknown = unknown-both T.domain.predicates i;
     miscount = (use_step T found (AtomUse word args scope)).miscount;
+    clash = (use_step T found (AtomUse word args scope)).clash;
   })
 
   pub function-step : (header : Option Header) → header ≡ header_named T.domain.functions word.name → header_step T scope found header word args ≡ use_step T found (FunctionUse word args scope)
@@ -33,4 +34,5 @@ module _ (T : Task) (scope : Scope) (found : Found) (word : Ref) (args : List Te
     duplicate = found.duplicate;
     unknown = unknown-both T.domain.functions i;
     miscount = (use_step T found (FunctionUse word args scope)).miscount;
+    clash = (use_step T found (FunctionUse word args scope)).clash;
   })

@@ -1,7 +1,10 @@
+pub mod ClashLemmas
 pub mod FirstLemmas
 pub mod FormLemmas
 pub mod GivenLemmas
 pub mod HeaderLemmas
+pub mod OrderLemmas
 pub mod TableLemmas
+pub mod VariableLemmas
 pub mod WalkLemmas
 pub mod WholeLemmas

@@ -2,7 +2,6 @@
 use Rattle.std.proofs.Common.{◌≡◌, ◌∙◌, ℕ, Bool, true, false, ◌||◌, List, [], ◌∷◌, ◌++◌, map, Option, Some, None, refl, sym, ap, subst}
 use Rattle.std.specs.Prelude.{flat_map, cond, is_some}
 use Rattle.std.specs.List.{list_any}
-use denote.Ref.{Bor}
 use Rattle.std.proofs.lemmas.List.{map-append}
 use Rattle.std.proofs.lemmas.List.Folds.{list_any-append, flat_map-map}
 use Rattle.p3_tree.specs.Names.{Name, same_name, has_name}
@@ -26,7 +25,7 @@ use Rattle.p3_tree.proofs.Computes.{trees_compute}
 use Rattle.p3_tree.proofs.FoldLemmas.{fold_goal-Both, fold_constraint-Both}
 use Rattle.p3_names.specs.Names.{Adds}
 use Rattle.p3_names.proofs.NameLemmas.{adds-append}
-use Rattle.p3_offences.specs.Tables.{Has, name_of_word, goal_names, constraint_names, first_named, item_at}
+use Rattle.p3_offences.specs.Tables.{Has, name_of_word, goal_names, constraint_names, Placed, first_named, item_of}
 
 pub looked : (table names : List Name) (name : Name) → Has table names → has_name table name ≡ has_name names name
 looked table names name has = λ i. has i name
@@ -124,7 +123,7 @@ module _ {A : Type 0} (word_of : A → Ref) where
       by true rest = refl
       by false rest = rest
 
-pub is_some-item : {A : Type 0} (found : Option (Bor A)) → is_some found ≡ is_some (item_at found)
+pub is_some-item : {A : Type 0} (found : Option (Placed A)) → is_some found ≡ is_some (item_of found)
 is_some-item None = refl
 is_some-item (Some item) = refl
 

@@ -3,7 +3,7 @@ use Rattle.std.proofs.Common.{◌≡◌, ◌∙◌, List, [], ◌++◌, Option, 
 use Rattle.std.specs.Prelude.{fold, flat_map, option_map}
 use Rattle.std.proofs.lemmas.List.{append-nil}
 use Rattle.p3_tree.specs.FirstOffence.{least_word}
-use Rattle.p3_tree.specs.Offences.{repeated, repeated_values, header_words, action_words, repeated_variables, unknown_words, miscounted, total_cost_with_parameters, domain_duplicates, problem_duplicates, domain_unknowns, problem_unknowns, domain_miscounts, problem_miscounts}
+use Rattle.p3_tree.specs.Offences.{repeated, repeated_values, header_words, action_words, repeated_variables, unknown_words, miscounted, clashing, total_cost_with_parameters, domain_duplicates, problem_duplicates, domain_unknowns, problem_unknowns, domain_miscounts, problem_miscounts, domain_clashes, problem_clashes}
 use Rattle.p3_tree.specs.Uses.{Use, Objects, Variables, scope_of, goal_uses, effect_uses, constraint_uses, metric_uses, header_uses, action_uses, init_uses, domain_uses, problem_uses}
 use Rattle.p3_tree.specs.declared.term.Ref.{Ref}
 use Rattle.p3_tree.specs.declared.task.Action.{Action}
@@ -80,6 +80,10 @@ module _ (T : Task) (found : Found) where
   unfolding domain_miscounts
   domain-miscount is = least-of (λ found. found.miscount) (miscounted T) (flat_map total_cost_with_parameters T.domain.functions) (domain_uses T.domain) (λ found item. refl) is
 
+  pub domain-clash : found.clash ≡ None → (fold (use_step T) found (domain_uses T.domain)).clash ≡ option_map spot_of (least_word (domain_clashes T))
+  unfolding domain_clashes
+  domain-clash is = least-of (λ found. found.clash) (clashing T) [] (domain_uses T.domain) (λ found item. refl) is
+
   pub problem-duplicate : found.duplicate ≡ fold step None (repeated_values [] T.problem.init)
       → (fold (use_step T) found (problem_uses T.problem)).duplicate ≡ option_map spot_of (least_word (problem_duplicates T.problem))
   unfolding problem_duplicates
@@ -93,8 +97,12 @@ module _ (T : Task) (found : Found) where
   unfolding problem_miscounts
   problem-miscount is = least-of (λ found. found.miscount) (miscounted T) [] (problem_uses T.problem) (λ found item. refl) is
 
-pub ruleset domain_laws = (domain-duplicate, domain-unknown, domain-miscount)
+  pub problem-clash : found.clash ≡ None → (fold (use_step T) found (problem_uses T.problem)).clash ≡ option_map spot_of (least_word (problem_clashes T))
+  unfolding problem_clashes
+  problem-clash is = least-of (λ found. found.clash) (clashing T) [] (problem_uses T.problem) (λ found item. refl) is
 
-pub ruleset problem_laws = (problem-duplicate, problem-unknown, problem-miscount)
+pub ruleset domain_laws = (domain-duplicate, domain-unknown, domain-miscount, domain-clash)
+
+pub ruleset problem_laws = (problem-duplicate, problem-unknown, problem-miscount, problem-clash)
 
 pub ruleset part_laws = (declared-parts, action-parts, domain-parts, problem-parts)

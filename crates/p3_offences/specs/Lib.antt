@@ -1,3 +1,4 @@
 pub mod Given
+pub mod Order
 pub mod Spots
 pub mod Tables

@@ -2,7 +2,7 @@
 use Rattle.std.specs.Prelude.{nat_lt, fold, flat_map, length, if◌then◌else◌, Option, Some, None, List}
 use Rattle.std.specs.Prelude.{is_some}
 use Rattle.p3_tree.specs.Uses.{Scope, Use}
-use Rattle.p3_tree.specs.Offences.{repeated_variables, unknown_words, unknown_term, unless, miscounted, wrong_count}
+use Rattle.p3_tree.specs.Offences.{repeated_variables, unknown_words, unknown_term, unless, miscounted, wrong_count, clashing, clashes}
 use Rattle.p3_tree.specs.declared.term.Ref.{Ref}
 use Rattle.p3_tree.specs.declared.term.Term.{Term}
 use Rattle.p3_tree.specs.declared.task.Header.{Header}
@@ -24,6 +24,7 @@ use_step T found item = record {
   duplicate = fold step found.duplicate (repeated_variables item);
   unknown = fold step found.unknown (unknown_words T item);
   miscount = fold step found.miscount (miscounted T item);
+  clash = fold step found.clash (clashing T item);
 }
 
 -- a predicate or a function at arguments, and the header that was found for it
@@ -32,4 +33,5 @@ header_step T scope found header word args = record {
   duplicate = found.duplicate;
   unknown = fold step (fold step found.unknown (unless (is_some header) word)) (flat_map (unknown_term T scope) args);
   miscount = fold step found.miscount (wrong_count header word args);
+  clash = fold step found.clash (clashes T scope header args);
 }

@@ -1,53 +1,59 @@
 //! The first of a name among things that are declared, found by hashing.
 
-ghost use Rattle.std.specs.Prelude.{◌≡◌, bytes_eq, OnOk, IfOk};
+ghost use Rattle.std.specs.Prelude.{◌≡◌, bytes_eq, Some, slice_get, OnOk, IfOk};
 ghost use Rattle.std.specs.List.{list_any};
 ghost use Rattle.std.specs.HashMap.{get};
 ghost use Rattle.p3_tree.specs.Names.{same_name};
-ghost use Rattle.p3_offences.specs.Tables.{AddsFirst, FindsFirst, first_named, item_at};
+ghost use Rattle.p3_offences.specs.Tables.{AddsFirst, ArePlaced, FindsFirst};
+ghost use Rattle.p3_offences.specs.Tables.{first_named, item_of, looked_at};
 
 use crate::worded::Worded;
 use p3_base::{Name, NoMemory};
 use std::alloc::Global;
 use std::collections::HashMap;
 
+/// From each name to the place of the first item that has it, and to the item.
+type Table<'t, T> = HashMap<&'t [u8], (usize, &'t T)>;
+
 /// Things that are declared, the first of each name found by it.
 #[derive(Drop)]
 pub(crate) struct Firsts<'t, T: Worded> {
     items: &'t [T],
-    first: HashMap<&'t [u8], &'t T>,
+    first: Table<'t, T>,
     ghost told: { FindsFirst T.word_of items.now (get (λ x y. bytes_eq x.now y.now) first) },
+    ghost placed: { ArePlaced items.now (get (λ x y. bytes_eq x.now y.now) first) },
 }
 
 /// An item more, where none of its name is there.
 fn note_first<'t, T: Worded>(
-    first: &mut HashMap<&'t [u8], &'t T>,
+    first: &mut Table<'t, T>,
+    place: usize,
     item: &'t T,
 ) -> Result<(), NoMemory>
     ensures { OnOk result (AddsFirst
         T.word_of
         (get (λ x y. bytes_eq x.now y.now) first.old)
-        item.now
+        place
+        item.entry
         (get (λ x y. bytes_eq x.now y.now) first.new)) }
 {
     let name = item.word().name.bytes();
     if first.get(name).is_none() {
-        first.insert(name, item)?;
+        first.insert(name, (place, item))?;
     }
     Ok(())
 }
 
 /// The first item of each name.
-fn firsts_of<'t, T: Worded>(
-    alloc: Global,
-    items: &'t [T],
-) -> Result<HashMap<&'t [u8], &'t T>, NoMemory>
-    ensures { IfOk result
+fn firsts_of<'t, T: Worded>(alloc: Global, items: &'t [T]) -> Result<Table<'t, T>, NoMemory>
+    ensures told { IfOk result
         (λ first. FindsFirst T.word_of items.now (get (λ x y. bytes_eq x.now y.now) first)) }
+    ensures placed { IfOk result
+        (λ first. ArePlaced items.now (get (λ x y. bytes_eq x.now y.now) first)) }
 {
     let mut first = HashMap::new(alloc);
-    for item in items {
-        note_first(&mut first, item)?;
+    for (place, item) in items.iter().enumerate() {
+        note_first(&mut first, place, item)?;
     }
     Ok(first)
 }
@@ -61,9 +67,10 @@ impl<'t, T: Worded> Firsts<'t, T> {
         Ok(Firsts { items, first })
     }
 
-    /// The first item of that name.
-    pub(crate) fn find(&self, name: &Name) -> Option<&'t T>
-        ensures { item_at result ≡ first_named T.word_of self.now.items.now name.now }
+    /// The first item of that name, with its place.
+    pub(crate) fn find(&self, name: &Name) -> Option<(usize, &'t T)>
+        ensures item { item_of result ≡ first_named T.word_of self.now.items.now name.now }
+        ensures place { looked_at self.now.items.now result ≡ item_of result }
     {
         self.first.get(name.bytes()).copied()
     }

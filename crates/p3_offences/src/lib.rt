@@ -1,7 +1,11 @@
 //! The first offence of a task that is not well-formed.
 #![tactic(auto)]
 
+#[cfg(test)]
+mod cases;
+mod clashes;
 mod declared_names;
+mod first;
 mod firsts;
 mod given;
 mod notes;
@@ -11,6 +15,4 @@ mod walk;
 mod whole;
 mod worded;
 
-pub use spot::{Found, Spot};
-pub use tables::Tables;
-pub use whole::{domain_found, problem_found};
+pub use first::first_offence;

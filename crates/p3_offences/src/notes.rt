@@ -9,10 +9,11 @@ ghost use Rattle.p3_tree.specs.Uses.{Objects, Variables, AtomUse, FunctionUse, S
 ghost use Rattle.p3_names.specs.Scopes.{scope_seen};
 ghost use Rattle.p3_names.specs.Names.{Adds};
 ghost use Rattle.p3_offences.specs.Spots.{step, use_step, header_step};
-ghost use Rattle.p3_offences.specs.Tables.{item_at};
+ghost use Rattle.p3_offences.specs.Tables.{IsNumbered, header_of};
 
+use crate::clashes::clashes_noted;
 use crate::spot::{Found, Spot, unless};
-use crate::tables::Tables;
+use crate::tables::{Declared, Tables};
 use crate::worded::Worded;
 use p3_base::{Name, NoMemory};
 use p3_names::{Names, Scope};
@@ -134,6 +135,7 @@ pub(crate) fn variables_noted(
         duplicate,
         unknown,
         miscount: found.miscount,
+        clash: found.clash,
     })
 }
 
@@ -145,6 +147,7 @@ pub(crate) fn objects_noted(found: Found, tables: &Tables, objects: &[Typed]) ->
         duplicate: found.duplicate,
         unknown: types_unknown(found.unknown, tables, objects),
         miscount: found.miscount,
+        clash: found.clash,
     }
 }
 
@@ -156,71 +159,80 @@ fn miscount_noted(found: Option<Spot>, header: &Header, word: &Ref, args: &[Term
 }
 
 /// A predicate or a function at arguments, whose header was looked up.
-fn header_noted<'t>(
-    alloc: Global,
+fn header_noted(
     found: Found,
-    tables: &Tables<'t>,
+    tables: &Tables,
     scope: &Scope,
-    header: Option<&'t Header>,
+    declared: Option<Declared>,
     word: &Ref,
     args: &[Term],
-) -> Result<Found, NoMemory>
-    ensures { IfOk result
-        (λ after. after ≡ header_step
+) -> Found
+    requires { IsNumbered tables.now.task.now declared }
+    ensures { result ≡ header_step
         tables.now.task.now
         (scope_seen scope.now)
         found
-        (item_at header.entry)
+        (header_of declared.entry)
         word.now
-        args.now) }
+        args.now }
 {
-    let least = unless(found.unknown, header.is_some(), word);
+    let least = unless(found.unknown, declared.is_some(), word);
     let unknown = terms_unknown(least, tables, scope, args);
-    let miscount = match header {
-        None => found.miscount,
-        Some(header) => miscount_noted(found.miscount, header, word, args),
+    let (miscount, clash) = match declared {
+        None => (found.miscount, found.clash),
+        Some(one) => (
+            miscount_noted(found.miscount, one.header, word, args),
+            clashes_noted(found.clash, tables, scope, one, args),
+        ),
     };
-    Ok(Found {
+    Found {
         duplicate: found.duplicate,
         unknown,
         miscount,
-    })
+        clash,
+    }
 }
 
 /// A predicate at arguments.
-pub(crate) fn atom_noted<'t>(
-    alloc: Global,
+pub(crate) fn atom_noted(
     found: Found,
-    tables: &Tables<'t>,
+    tables: &Tables,
     scope: &Scope,
     pred: &Ref,
     args: &[Term],
-) -> Result<Found, NoMemory>
-    ensures { IfOk result
-        (λ after. after ≡ use_step tables.now.task.now found
-        (AtomUse pred.now args.now (scope_seen scope.now))) }
+) -> Found
+    ensures { result ≡ use_step tables.now.task.now found
+        (AtomUse pred.now args.now (scope_seen scope.now)) }
 {
-    let header = tables.predicate(&pred.name);
-    let after = header_noted(alloc, found, tables, scope, header, pred, args)?;
-    Ok(after)
+    header_noted(
+        found,
+        tables,
+        scope,
+        tables.predicate(&pred.name),
+        pred,
+        args,
+    )
 }
 
 /// A function at arguments.
-pub(crate) fn function_noted<'t>(
-    alloc: Global,
+pub(crate) fn function_noted(
     found: Found,
-    tables: &Tables<'t>,
+    tables: &Tables,
     scope: &Scope,
     function: &Ref,
     args: &[Term],
-) -> Result<Found, NoMemory>
-    ensures { IfOk result
-        (λ after. after ≡ use_step tables.now.task.now found
-        (FunctionUse function.now args.now (scope_seen scope.now))) }
+) -> Found
+    ensures { result ≡ use_step tables.now.task.now found
+        (FunctionUse function.now args.now (scope_seen scope.now)) }
 {
-    let header = tables.function(&function.name);
-    let after = header_noted(alloc, found, tables, scope, header, function, args)?;
-    Ok(after)
+    header_noted(
+        found,
+        tables,
+        scope,
+        tables.function(&function.name),
+        function,
+        args,
+    )
 }
 
 /// A side of an equality.
@@ -232,6 +244,7 @@ pub(crate) fn side_noted(found: Found, tables: &Tables, scope: &Scope, side: &Te
         duplicate: found.duplicate,
         unknown: term_unknown(found.unknown, tables, scope, side),
         miscount: found.miscount,
+        clash: found.clash,
     }
 }
 
@@ -243,5 +256,6 @@ pub(crate) fn name_noted(found: Found, tables: &Tables, name: &Ref) -> Found
         duplicate: found.duplicate,
         unknown: unless(found.unknown, tables.is_preference(&name.name), name),
         miscount: found.miscount,
+        clash: found.clash,
     }
 }

@@ -7,23 +7,25 @@ ghost use Rattle.p3_offences.specs.Spots.{step};
 use p3_tree::Ref;
 
 /// A word of a text.
-#[derive(Clone, Copy, Debug, PartialEq, Eq)]
-pub struct Spot {
+#[derive(Clone, Copy)]
+pub(crate) struct Spot {
     /// Its offset.
-    pub at: u32,
+    pub(crate) at: u32,
     /// How many bytes it has.
-    pub len: usize,
+    pub(crate) len: usize,
 }
 
 /// The first offences that were found.
-#[derive(Clone, Copy, Debug, PartialEq, Eq)]
-pub struct Found {
+#[derive(Clone, Copy)]
+pub(crate) struct Found {
     /// The first name that is declared twice.
-    pub duplicate: Option<Spot>,
+    pub(crate) duplicate: Option<Spot>,
     /// The first name that is not declared.
-    pub unknown: Option<Spot>,
+    pub(crate) unknown: Option<Spot>,
     /// The first predicate or function with a wrong number of arguments.
-    pub miscount: Option<Spot>,
+    pub(crate) miscount: Option<Spot>,
+    /// The first argument that does not fit its parameter.
+    pub(crate) clash: Option<Spot>,
 }
 
 /// The spot of a word.

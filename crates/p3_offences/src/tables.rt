@@ -1,22 +1,32 @@
 //! What a task declares, found by hashing.
 
-ghost use Rattle.std.specs.Prelude.{◌≡◌, IfOk};
+ghost use Rattle.std.specs.Prelude.{◌≡◌, IfOk, OnOk};
 ghost use Rattle.p3_tree.specs.Names.{has_name};
 ghost use Rattle.p3_tree.specs.Types.{declared_objects};
 ghost use Rattle.p3_tree.specs.Offences.{is_declared, declared_types, header_named};
 ghost use Rattle.p3_tree.specs.PreferenceNames.{preference_names};
-ghost use Rattle.p3_offences.specs.Tables.{Has, item_at};
+ghost use Rattle.p3_offences.specs.Tables.{AreCounted, Has, IsNumbered, header_of};
 
 use crate::declared_names::{preference_table, type_table};
 use crate::firsts::Firsts;
 use p3_base::{Name, NoMemory};
+use p3_fits::Fits;
 use p3_names::Names;
 use p3_tree::{Header, Task, Typed};
 use std::alloc::Global;
 
+/// A predicate or a function of a task.
+#[derive(Clone, Copy)]
+pub(crate) struct Declared<'t> {
+    /// Its number among all of them, the predicates first.
+    pub(crate) number: usize,
+    /// Where it is declared.
+    pub(crate) header: &'t Header,
+}
+
 /// What a task declares.
 #[derive(Drop)]
-pub struct Tables<'t> {
+pub(crate) struct Tables<'t> {
     task: &'t Task,
     predicates: Firsts<'t, Header>,
     functions: Firsts<'t, Header>,
@@ -24,18 +34,32 @@ pub struct Tables<'t> {
     objects: Firsts<'t, Typed>,
     types: Names,
     preferences: Names,
+    pub(crate) fits: Fits<'t>,
     ghost predicates_told: { predicates.items.now ≡ task.now.domain.predicates },
     ghost functions_told: { functions.items.now ≡ task.now.domain.functions },
     ghost constants_told: { constants.items.now ≡ task.now.domain.constants },
     ghost objects_told: { objects.items.now ≡ task.now.problem.objects },
     ghost types_told: { Has types (declared_types task.now) },
     ghost preferences_told: { Has preferences (preference_names task.now) },
+    ghost fits_told: { fits.objects.task.now ≡ task.now },
+    ghost counted: { AreCounted task.now },
+}
+
+/// The numbers of predicates and functions can be told.
+fn are_counted(task: &Task) -> Result<(), NoMemory>
+    ensures { OnOk result (AreCounted task.now) }
+{
+    let predicates = task.domain.predicates.len();
+    match predicates.checked_add(task.domain.functions.len()) {
+        None => Err(NoMemory),
+        Some(_) => Ok(()),
+    }
 }
 
 impl<'t> Tables<'t> {
     /// The tables of a task.
     #[tactic(auto, using(crate::proofs::TableLemmas::table_laws))]
-    pub fn of(alloc: Global, task: &'t Task) -> Result<Tables<'t>, NoMemory>
+    pub(crate) fn of(alloc: Global, task: &'t Task) -> Result<Tables<'t>, NoMemory>
         ensures { IfOk result (λ tables. tables.task.now ≡ task.now) }
     {
         let predicates = Firsts::of(alloc, task.domain.predicates.items())?;
@@ -44,6 +68,8 @@ impl<'t> Tables<'t> {
         let objects = Firsts::of(alloc, task.problem.objects.items())?;
         let types = type_table(alloc, task)?;
         let preferences = preference_table(alloc, task)?;
+        let fits = Fits::of(alloc, task)?;
+        are_counted(task)?;
         Ok(Tables {
             task,
             predicates,
@@ -52,6 +78,7 @@ impl<'t> Tables<'t> {
             objects,
             types,
             preferences,
+            fits,
         })
     }
 
@@ -63,17 +90,30 @@ impl<'t> Tables<'t> {
     }
 
     /// The first predicate of that name.
-    pub(crate) fn predicate(&self, name: &Name) -> Option<&'t Header>
-        ensures { item_at result ≡ header_named self.now.task.now.domain.predicates name.now }
+    pub(crate) fn predicate(&self, name: &Name) -> Option<Declared<'t>>
+        ensures header { header_of result
+            ≡ header_named self.now.task.now.domain.predicates name.now }
+        ensures number { IsNumbered self.now.task.now result }
     {
-        self.predicates.find(name)
+        match self.predicates.find(name) {
+            None => None,
+            Some((number, header)) => Some(Declared { number, header }),
+        }
     }
 
     /// The first function of that name.
-    pub(crate) fn function(&self, name: &Name) -> Option<&'t Header>
-        ensures { item_at result ≡ header_named self.now.task.now.domain.functions name.now }
+    pub(crate) fn function(&self, name: &Name) -> Option<Declared<'t>>
+        ensures header { header_of result
+            ≡ header_named self.now.task.now.domain.functions name.now }
+        ensures number { IsNumbered self.now.task.now result }
     {
-        self.functions.find(name)
+        match self.functions.find(name) {
+            None => None,
+            Some((place, header)) => {
+                let number = self.task.domain.predicates.len() + place;
+                Some(Declared { number, header })
+            }
+        }
     }
 
     /// Whether a type has the name.

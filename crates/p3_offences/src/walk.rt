@@ -32,10 +32,7 @@ pub(crate) fn formula_walked<'t>(
         (formula_uses formula.now (scope_seen scope.old))) }
 {
     match formula {
-        Formula::Atom { pred, args } => {
-            let found = atom_noted(alloc, found, tables, scope, pred, args.items())?;
-            Ok(found)
-        }
+        Formula::Atom { pred, args } => { Ok(atom_noted(found, tables, scope, pred, args.items())) }
         Formula::Equal(left, right) => {
             let found = side_noted(found, tables, scope, left);
             Ok(side_noted(found, tables, scope, right))
@@ -151,27 +148,18 @@ fn total_cost_noted(
 {
     let function = total_cost_word(alloc, at)?;
     let none: List<Term> = List::new(alloc);
-    let found = function_noted(alloc, found, tables, scope, &function, none.items())?;
-    Ok(found)
+    Ok(function_noted(found, tables, scope, &function, none.items()))
 }
 
 /// What is found in an amount.
-fn amount_walked(
-    alloc: Global,
-    found: Found,
-    tables: &Tables,
-    scope: &Scope,
-    amount: &Amount,
-) -> Result<Found, NoMemory>
-    ensures { IfOk result
-        (λ after. after ≡ fold (use_step tables.now.task.now) found
-        (amount_uses amount.now (scope_seen scope.now))) }
+fn amount_walked(found: Found, tables: &Tables, scope: &Scope, amount: &Amount) -> Found
+    ensures { result ≡ fold (use_step tables.now.task.now) found
+        (amount_uses amount.now (scope_seen scope.now)) }
 {
     match amount {
-        Amount::Number(_) => Ok(found),
+        Amount::Number(_) => found,
         Amount::Value { function, args } => {
-            let found = function_noted(alloc, found, tables, scope, function, args.items())?;
-            Ok(found)
+            function_noted(found, tables, scope, function, args.items())
         }
     }
 }
@@ -192,14 +180,8 @@ pub(crate) fn effect_walked<'t>(
         (effect_uses effect.now (scope_seen scope.old))) }
 {
     match effect {
-        Effect::Add { pred, args } => {
-            let found = atom_noted(alloc, found, tables, scope, pred, args.items())?;
-            Ok(found)
-        }
-        Effect::Del { pred, args } => {
-            let found = atom_noted(alloc, found, tables, scope, pred, args.items())?;
-            Ok(found)
-        }
+        Effect::Add { pred, args } => { Ok(atom_noted(found, tables, scope, pred, args.items())) }
+        Effect::Del { pred, args } => { Ok(atom_noted(found, tables, scope, pred, args.items())) }
         Effect::All(parts) => {
             let found = all_effects_walked(alloc, found, tables, scope, parts.items())?;
             Ok(found)
@@ -222,8 +204,7 @@ pub(crate) fn effect_walked<'t>(
         }
         Effect::Cost(at, increase) => {
             let found = total_cost_noted(alloc, found, tables, scope, *at)?;
-            let found = amount_walked(alloc, found, tables, scope, increase)?;
-            Ok(found)
+            Ok(amount_walked(found, tables, scope, increase))
         }
     }
 }

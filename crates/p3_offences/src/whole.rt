@@ -6,6 +6,7 @@ ghost use Rattle.p3_tree.specs.Offences.{repeated, header_words, action_words};
 ghost use Rattle.p3_tree.specs.Offences.{domain_duplicates, problem_duplicates};
 ghost use Rattle.p3_tree.specs.Offences.{domain_unknowns, problem_unknowns};
 ghost use Rattle.p3_tree.specs.Offences.{domain_miscounts, problem_miscounts};
+ghost use Rattle.p3_tree.specs.Offences.{domain_clashes, problem_clashes};
 ghost use Rattle.p3_tree.specs.Offences.{total_cost_with_parameters};
 ghost use Rattle.p3_tree.specs.Uses.{header_uses, action_uses, init_uses, metric_uses};
 ghost use Rattle.p3_tree.specs.Uses.{domain_uses, problem_uses};
@@ -79,51 +80,31 @@ fn actions_walked<'t>(
 }
 
 /// What is found in an entry of the initial state.
-fn init_walked(
-    alloc: Global,
-    found: Found,
-    tables: &Tables,
-    scope: &Scope,
-    entry: &Init,
-) -> Result<Found, NoMemory>
+fn init_walked(found: Found, tables: &Tables, scope: &Scope, entry: &Init) -> Found
     requires { scope.now ≡ [] }
-    ensures { IfOk result
-        (λ after. after ≡ fold (use_step tables.now.task.now) found (init_uses entry.now)) }
+    ensures { result ≡ fold (use_step tables.now.task.now) found (init_uses entry.now) }
 {
     match entry {
-        Init::True { pred, args } => {
-            let found = atom_noted(alloc, found, tables, scope, pred, args.items())?;
-            Ok(found)
-        }
-        Init::False { pred, args } => {
-            let found = atom_noted(alloc, found, tables, scope, pred, args.items())?;
-            Ok(found)
-        }
+        Init::True { pred, args } => atom_noted(found, tables, scope, pred, args.items()),
+        Init::False { pred, args } => atom_noted(found, tables, scope, pred, args.items()),
         Init::Value { function, args, .. } => {
-            let found = function_noted(alloc, found, tables, scope, function, args.items())?;
-            Ok(found)
+            function_noted(found, tables, scope, function, args.items())
         }
     }
 }
 
 /// What is found in the initial state.
 #[tactic(auto, using(crate::proofs::WalkLemmas::walk_laws))]
-fn inits_walked(
-    alloc: Global,
-    found: Found,
-    tables: &Tables,
-    entries: &[Init],
-) -> Result<Found, NoMemory>
-    ensures { IfOk result
-        (λ after. after ≡ fold (use_step tables.now.task.now) found
-        (flat_map init_uses entries.now)) }
+fn inits_walked(alloc: Global, found: Found, tables: &Tables, entries: &[Init]) -> Found
+    ensures { result
+        ≡ fold (use_step tables.now.task.now) found (flat_map init_uses entries.now) }
 {
     let scope = Scope::new(alloc);
     let mut after = found;
     for entry in entries {
-        after = init_walked(alloc, after, tables, &scope, entry)?;
+        after = init_walked(after, tables, &scope, entry);
     }
-    Ok(after)
+    after
 }
 
 /// What is found in the metric.
@@ -177,7 +158,7 @@ fn problem_walked<'t>(
         (λ after. after ≡ fold (use_step tables.now.task.now) found (problem_uses problem.now)) }
 {
     let found = objects_noted(found, tables, problem.objects.items());
-    let found = inits_walked(alloc, found, tables, problem.init.items())?;
+    let found = inits_walked(alloc, found, tables, problem.init.items());
     let mut scope = Scope::new(alloc);
     let found = goal_walked(alloc, found, tables, &mut scope, &problem.goal.body)?;
     let found = constraint_walked(alloc, found, tables, &mut scope, &problem.constraints.body)?;
@@ -223,7 +204,7 @@ fn total_costs_noted(functions: &[Header]) -> Option<Spot>
 
 /// The first offences of the domain of a task.
 #[tactic(auto, using(crate::proofs::WholeLemmas::domain_laws))]
-pub fn domain_found(alloc: Global, tables: &Tables) -> Result<Found, NoMemory>
+pub(crate) fn domain_found(alloc: Global, tables: &Tables) -> Result<Found, NoMemory>
     ensures duplicate { IfOk result
         (λ found. found.duplicate
         ≡ option_map spot_of (least_word (domain_duplicates tables.now.task.now.domain))) }
@@ -233,6 +214,9 @@ pub fn domain_found(alloc: Global, tables: &Tables) -> Result<Found, NoMemory>
     ensures miscount { IfOk result
         (λ found. found.miscount
         ≡ option_map spot_of (least_word (domain_miscounts tables.now.task.now))) }
+    ensures clash { IfOk result
+        (λ found. found.clash
+        ≡ option_map spot_of (least_word (domain_clashes tables.now.task.now))) }
 {
     let domain = &tables.task().domain;
     let duplicate = declared_twice(alloc, domain)?;
@@ -241,6 +225,7 @@ pub fn domain_found(alloc: Global, tables: &Tables) -> Result<Found, NoMemory>
         duplicate,
         unknown: None,
         miscount,
+        clash: None,
     };
     let found = domain_walked(alloc, found, tables, domain)?;
     Ok(found)
@@ -248,7 +233,7 @@ pub fn domain_found(alloc: Global, tables: &Tables) -> Result<Found, NoMemory>
 
 /// The first offences of the problem of a task.
 #[tactic(auto, using(crate::proofs::WholeLemmas::problem_laws))]
-pub fn problem_found(alloc: Global, tables: &Tables) -> Result<Found, NoMemory>
+pub(crate) fn problem_found(alloc: Global, tables: &Tables) -> Result<Found, NoMemory>
     ensures duplicate { IfOk result
         (λ found. found.duplicate
         ≡ option_map spot_of (least_word (problem_duplicates tables.now.task.now.problem))) }
@@ -258,6 +243,9 @@ pub fn problem_found(alloc: Global, tables: &Tables) -> Result<Found, NoMemory>
     ensures miscount { IfOk result
         (λ found. found.miscount
         ≡ option_map spot_of (least_word (problem_miscounts tables.now.task.now))) }
+    ensures clash { IfOk result
+        (λ found. found.clash
+        ≡ option_map spot_of (least_word (problem_clashes tables.now.task.now))) }
 {
     let problem = &tables.task().problem;
     let duplicate = values_repeated(alloc, None, problem.init.items())?;
@@ -265,6 +253,7 @@ pub fn problem_found(alloc: Global, tables: &Tables) -> Result<Found, NoMemory>
         duplicate,
         unknown: None,
         miscount: None,
+        clash: None,
     };
     let found = problem_walked(alloc, found, tables, problem)?;
     Ok(found)

@@ -1,10 +1,10 @@
 use Rattle.std.proofs.Common.{◌∙◌}
 use Rattle.p3_names.specs.Scopes.{scope_seen}
-use Rattle.p3_offences.specs.Tables.{item_at}
+use Rattle.p3_offences.specs.Tables.{header_of}
 use Rattle.p3_offences.proofs.HeaderLemmas.{predicate-step}
 use Rattle.p3_offences.proofs.notes.atom_noted.Goals as goal
 
 pub returns : goal.returns
 returns c =
-    c.in_ok-after.ensures
-    ∙ predicate-step c.args.tables.now.task.now (scope_seen c.args.scope.now) c.args.found c.args.pred.now c.args.args.now (item_at c.predicate-header.result) c.predicate-header.ensures
+    c.header_noted.ensures
+    ∙ predicate-step c.args.tables.now.task.now (scope_seen c.args.scope.now) c.args.found c.args.pred.now c.args.args.now (header_of c.predicate.result) c.predicate.ensures.header

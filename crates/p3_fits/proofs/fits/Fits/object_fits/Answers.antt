@@ -1,6 +1,7 @@
-use Rattle.std.proofs.Common.{◌≡◌, ◌∙◌, map}
+use Rattle.std.proofs.Common.{◌≡◌, ◌∙◌, false, map, refl}
 use Rattle.std.proofs.Math.Bool.{Bool-set}
 use Rattle.std.proofs.Math.Logic.{∥∥₁_elim}
+use Rattle.p3_fits.specs.Fitting.{object_fits_at}
 use Rattle.p3_fits.specs.Numbers.{headers_of, number_at}
 use Rattle.p3_fits.proofs.FoundLemmas.{none-found, one-found, found-told, object-told}
 use Rattle.p3_fits.proofs.fits.Fits.object_fits.Goals as goal
@@ -9,7 +10,7 @@ pub returns-in-None : goal.returns-in-None
 returns-in-None c =
     let self = c.args.self.now in
     none-found (λ fit. fit.below.types.now) self.fits.items (map (λ one. one.items) self.numbers.items) (headers_of self.objects.task.now) c.args.header c.args.parameter
-    _ self.numbered c.in-None.ensures
+    (λ found. false ≡ object_fits_at self.objects.task.now found c.args.object.now) self.numbered c.in-None.ensures refl
 
 pub returns-in-Some : goal.returns-in-Some
 returns-in-Some c =
@@ -17,7 +18,7 @@ returns-in-Some c =
     let fit = c.in-Some.fit.now in
     let numbers = map (λ one. one.items) self.numbers.items in
     one-found (λ fit. fit.below.types.now) self.fits.items numbers (headers_of self.objects.task.now) c.args.header c.args.parameter
-    _ fit self.numbered c.in-Some.ensures
+    (λ found. c.has_object.result ≡ object_fits_at self.objects.task.now found c.args.object.now) fit self.numbered c.in-Some.ensures
     (λ declared same. c.has_object.ensures ∙ ∥∥₁_elim self.tasks (Bool-set _ _) (λ tasks.
     object-told self.objects.task.now fit.below.task.now
     (found-told (λ one. one.below.task.now ≡ self.objects.task.now) self.fits.items (number_at numbers c.args.header c.args.parameter) fit tasks c.in-Some.ensures)

@@ -4,4 +4,4 @@ use Rattle.p3_offences.proofs.TableLemmas.{found-named, is_some-item}
 use Rattle.p3_offences.proofs.firsts.Firsts.has.Goals as goal
 
 pub returns : goal.returns
-returns g c = c.is_some.ensures ∙ is_some-item c.find.result ∙ ap is_some c.find.ensures ∙ found-named g.T.Worded.word_of c.args.self.now.items.now c.args.name.now
+returns g c = c.is_some.ensures ∙ is_some-item c.find.result ∙ ap is_some c.find.ensures.item ∙ found-named g.T.Worded.word_of c.args.self.now.items.now c.args.name.now

@@ -12,4 +12,6 @@ invariant_of-result c = record {
   objects_told = c.in_ok-objects.ensures ∙ c.items-4.ensures;
   types_told = has-adds c.in_ok-types.types (declared_types c.args.task.now) c.in_ok-types.ensures;
   preferences_told = has-adds c.in_ok-preferences.preferences (preference_names c.args.task.now) c.in_ok-preferences.ensures;
+  fits_told = c.in_ok-fits.ensures;
+  counted = c.in_ok-are_counted.ensures;
 }
