@@ -29,7 +29,6 @@ use Rattle.p3_types.proofs.NameOrderLemmas.{slice_at, slice_within, place_of_wor
 use Rattle.p3_types.proofs.StepLemmas.{next_argument, no_argument}
 use Rattle.p3_numbers.specs.Choices.{choice_count, choice}
 use Rattle.p3_types.specs.Finds.{are_among, AreDistinct, IsRange, IsPlaceOf, IsNarrowed, IsStretch, IsChoice, IsNumberAt, HasOtherArguments}
-use Rattle.p3_types.specs.NameOrders.{action_names}
 use Rattle.p3_types.specs.declared.finding.Stretch.{Stretch}
 
 -- ---- ranges rise
@@ -167,15 +166,6 @@ module _ (names : List Name) (objects : List ℕ) (range : IsRange names objects
 -- ---- a choice, object by object
 
 module _ (N : Numbers) (ranges : List ℕ) (args : List Name) where
-  pub stretch_all : (stretch : Stretch) → stretch.first ≡ 0 → 0 < stretch.count → stretch.count ≡ choice_count N ranges → IsStretch N ranges args 0 stretch
-  stretch_all stretch first some count = record {
-    some = some;
-    count = count;
-    within = omega (arith, first, count);
-    names = λ rest below. ap (λ n. object_names N (choice N ranges (n + rest))) first ∙ ap (λ n. object_names N (choice N ranges n)) (omega arith);
-    left = refl;
-  }
-
   module _ (place : ℕ) (stretch inner : Stretch) (objects : List ℕ) (arg : Name) (in_ranges : place < length ranges) (in_args : place < length args) (are : objects ≡ range_at N (get_or ranges place 0)) (at : arg ≡ get_or args place arg) where
     ranges_left : drop place ranges ≡ get_or ranges place 0 ∷ drop (place + 1) ranges
     ranges_left = drop_more ranges place 0 in_ranges
@@ -270,15 +260,18 @@ find_by_name seen (first ∷ actions) e (suc k) action at =
     ap (λ t. cond t (Some first) (find (λ (other : Action). same_name other.name.name action.name.name) actions)) (or_parts (same_name first.name.name action.name.name) _ (fresh (first.name.name ∷ seen) actions others k action at)).0
     ∙ find_by_name (first.name.name ∷ seen) actions others k action at
 
+abbrev pub action_name : Action → Name
+action_name action = action.name.name
+
 not_found : (actions : List Action) (word : Name) → has_name (map (λ (action : Action). action.name.name) actions) word ≡ false → find (λ (other : Action). same_name other.name.name word) actions ≡ None
 not_found [] word none = refl
 not_found (first ∷ actions) word none =
     let parts = or_parts (same_name first.name.name word) _ none in
     ap (λ t. cond t (Some first) (find (λ (other : Action). same_name other.name.name word) actions)) parts.0 ∙ not_found actions word parts.1
 
-pub unknown_action : (T : Task) (word : Name) → has_name (action_names T) word ≡ false → action_named T word ≡ None
+pub unknown_action : (T : Task) (actions : List Action) → actions ≡ T.domain.actions → (word : Name) → has_name (map action_name actions) word ≡ false → action_named T word ≡ None
 unfolding action_named
-unknown_action T word none = not_found T.domain.actions word none
+unknown_action T actions same word none = not_found T.domain.actions word (ap (λ all. has_name (map action_name all) word) (sym same) ∙ none)
 
 pub record FoundAction (T : Task) (word : Name) (place : ℕ) : Type 0 where
   pub action : Action
@@ -290,10 +283,10 @@ no_repeats : (T : Task) → WellFormed T → repeated (action_words T.domain.act
 unfolding domain_duplicates
 no_repeats T well = nil_right _ _ (nil_left _ _ (nil_left _ _ well.duplicates))
 
-pub found_action : (T : Task) → WellFormed T → (word : Name) (place : ℕ) → slice_get (action_names T) place ≡ Some word → FoundAction T word place
+pub found_action : (T : Task) → WellFormed T → (actions : List Action) → actions ≡ T.domain.actions → (word : Name) (place : ℕ) → slice_get (map action_name actions) place ≡ Some word → FoundAction T word place
 unfolding action_named
-found_action T well word place there =
-    let (action, at, is) = in_map (λ (action : Action). action.name.name) T.domain.actions place word there in
+found_action T well actions same word place there =
+    let (action, at, is) = in_map action_name T.domain.actions place word (ap (λ all. slice_get (map action_name all) place) (sym same) ∙ there) in
     record {
       action = action;
       at = at;

@@ -1,11 +1,13 @@
-mod ChoiceLemmas
-mod FindLemmas
+pub mod ChoiceLemmas
+pub mod CostLemmas
+pub mod FindLemmas
 mod NameOrderLemmas
 mod NumberLemmas
 mod PlaceLemmas
-mod StepLemmas
+pub mod StepLemmas
 mod StepTableLemmas
 mod TableLemmas
+mod WordLemmas
 pub mod Gives
 pub mod ShortNumbers
 pub mod ShortTasks

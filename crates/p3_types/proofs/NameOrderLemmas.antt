@@ -172,9 +172,6 @@ map_same (x ∷ xs) = ap (λ rest. x ∷ rest) (map_same xs)
 -- ---- halving
 
 module _ (names : List Name) (order : List ℕ) (word : Name) where
-  pub between_all : (high : ℕ) → high ≡ length order → IsBetween names order word 0 high
-  between_all high e = record { bound = omega (arith, e); before = λ k d below. absurd (omega arith); behind = λ k d past within. absurd (omega (arith, e, past, within)) }
-
   abbrev stand : ℕ → ℕ
   stand place = ordering_index (compare (name_at names place) word)
 
@@ -252,9 +249,6 @@ module _ (name word : Name) (place : ℕ) where
 
   pub name_ends : length name ≤ place → place < length word → left place ≡ Less
   name_ends past within = (λ i. compare (drop_all place name past i) (drop_more (str_to_ascii_lowercase word) place 0 (omega (arith, within, length-map word to_ascii_lowercase)) i))
-
-  pub both_end : length name ≤ place → length word ≤ place → left place ≡ Equal
-  both_end past beyond = (λ i. compare (drop_all place name past i) (longer beyond i))
 
   pub bytes_first : place < length name → place < length word → left place ≡ ordering_then (nat_cmp (get_or name place 0) (to_ascii_lowercase (get_or word place 0))) (left (place + 1))
   bytes_first within inside =

@@ -1,6 +1,6 @@
 -- What the ghost fields of a checked task say.
 use Rattle.std.proofs.Common.{◌≡◌, refl, IsTrue, ap, ◌∙◌, [], Option, Some, None, ◌<◌, ℕ, List, length}
-use Rattle.std.specs.Prelude.{is_none, slice_index_or}
+use Rattle.std.specs.Prelude.{is_none, option_map, slice_index_or}
 use Rattle.std.proofs.lemmas.List.{get_or-map}
 use Rattle.p3_tree.proofs.OffenceLemmas.{well_formed_where_no_offence}
 use Rattle.p3_tree.specs.FirstOffence.{first_offence}
@@ -12,6 +12,9 @@ use Rattle.p3_numbers.specs.Places.{IsNumbering}
 use Rattle.p3_numbers.specs.Slots.{name_at}
 use Rattle.p3_numbers.specs.Tasks.{HasNames, IsNumberedTask}
 use Rattle.p3_numbers.specs.declared.task.NumberedTask.{NumberedTask}
+use Rattle.p3_base.specs.declared.refusal.Side.{Side}
+use Rattle.p3_tree.specs.Refusals.First.{refusal_of}
+use Rattle.p3_types.specs.Checks.{offence_refusal}
 use Rattle.p3_types.specs.Tables.{task_over, is_well_formed, greatest_value_of, greatest_values}
 
 none_from : {A : Type 0} (found : Option A) → IsTrue (is_none found) → found ≡ None
@@ -20,6 +23,20 @@ none_from (Some x) holds = absurd (cc)
 
 pub well_formed_from : (T : Task) → IsTrue (is_well_formed T) → WellFormed T
 well_formed_from T holds = (well_formed_where_no_offence T).1 (none_from (first_offence T) holds)
+
+none_test : {A : Type 0} (found : Option A) → found ≡ None → IsTrue (is_none found)
+none_test None none = refl
+none_test (Some x) none = absurd (cc)
+
+pub well_formed_test : (T : Task) → WellFormed T → IsTrue (is_well_formed T)
+well_formed_test T well = none_test (first_offence T) ((well_formed_where_no_offence T).0 well)
+
+unmapped : {A B : Type 0} (f : A → B) (found : Option A) → option_map f found ≡ None → found ≡ None
+unmapped f None none = refl
+unmapped f (Some x) none = absurd (cc)
+
+pub well_formed_unrefused : (side : Side) (T : Task) → offence_refusal side T ≡ None → WellFormed T
+well_formed_unrefused side T none = (well_formed_where_no_offence T).1 (unmapped (refusal_of side) (first_offence T) none)
 
 pub greatest_at : (T : Task) (functions : List Name) (values : List ℕ) (k : ℕ) (d : ℕ) → values ≡ greatest_values T functions → k < length functions → slice_index_or values k d ≡ greatest_value_of T (name_at functions k)
 greatest_at T functions values k d is within = ap (λ (all : List ℕ). slice_index_or all k d) is ∙ get_or-map (greatest_value_of T) functions k [] d within
@@ -35,4 +52,15 @@ numbered_from T X names numbering covers trees = record {
   goal = ap (λ (Y : NumberedTask). Y.goal) trees;
   start = ap (λ (Y : NumberedTask). Y.start) trees;
   values = ap (λ (Y : NumberedTask). Y.values) trees;
+}
+
+pub trees_from : (T : Task) (X : NumberedTask) → IsNumberedTask T X → X ≡ task_over X.numbers T
+trees_from T X is = λ i. record {
+  numbers = X.numbers;
+  actions = is.actions i;
+  domain_constraints = is.domain i;
+  problem_constraints = is.problem i;
+  goal = is.goal i;
+  start = is.start i;
+  values = is.values i;
 }

@@ -13,6 +13,7 @@ use Rattle.p3_numbers.specs.declared.numbers.Numbers.{Numbers}
 use Rattle.p3_numbers.specs.Choices.{choice_count, choice}
 use Rattle.p3_types.specs.declared.finding.Found.{Found}
 use Rattle.p3_types.specs.declared.finding.Found.TheVariants.{Number, UnknownAction, Arguments}
+use Rattle.p3_types.specs.declared.finding.Block.{Block}
 use Rattle.p3_types.specs.declared.finding.Stretch.{Stretch}
 
 -- the step's action exists, and its arguments are not objects of the parameters' types
@@ -70,7 +71,19 @@ pub record IsChoice (N : Numbers) (ranges : List ℕ) (args : List Name) (number
   pub within : number < choice_count N ranges
   pub names : object_names N (choice N ranges number) ≡ args
 
+-- the number of their choice, where they are among the ranges' objects
+abbrev pub IsChoiceOf : Numbers → List ℕ → List Name → Option ℕ → Type 0
+IsChoiceOf N ranges args found = MatchOption found (are_among N ranges args ≡ false) (IsChoice N ranges args)
+
 -- the number of the step of the action at a place with these arguments
 abbrev pub IsNumberAt : Task → ℕ → List Name → Option ℕ → Type 0
 IsNumberAt T place args found = (action : Action) → slice_get T.domain.actions place ≡ Some action
     → MatchOption found (are_arguments T action.params args ≡ false) (HasNumber T (record { action = action.name.name; args = args }))
+
+-- the steps of the action at a place are those of its choices, in order
+pub record IsBlockAt (T : Task) (N : Numbers) (place : ℕ) (block : Block) : Type 0 where
+  pub ranges : All (λ range. IsRange N.objects (range_at N range)) block.ranges.now
+  pub count : block.count ≡ choice_count N block.ranges.now
+  pub small : (number : ℕ) → number < block.count → block.first + number < 20000001
+  pub number : (args : List Name) (number : ℕ) → IsChoice N block.ranges.now args number → IsNumberAt T place args (Some (block.first + number))
+  pub none : (args : List Name) → are_among N block.ranges.now args ≡ false → IsNumberAt T place args None

@@ -1,5 +1,9 @@
+pub mod Checks
+pub mod Costs
 pub mod FirstSteps
 pub mod Finds
 pub mod NameOrders
+pub mod Parts
 pub mod Tables
 pub mod Texts
+pub mod Words

@@ -23,6 +23,7 @@ ghost use Rattle.p3_types.specs.Tables.{
 ghost use Rattle.p3_types.specs.Texts.{HasTexts, has_short_numbers};
 
 use crate::name_order::find_name;
+use crate::parts::{Costs, Orders, Parts};
 use p3_base::{Name, Side};
 use p3_numbers::NumberedTask;
 use p3_tree::Task;
@@ -55,15 +56,52 @@ pub struct Checked {
         ≡ task_over numbered.numbers task } by { Coded-set numbered-code _ _ },
     pub ghost few: { length numbered.numbers.preferences < 2 ^ 32 },
     pub ghost firsts: { first_steps.items ≡ firsts_from 0 (counts_of numbered) },
-    pub ghost name_order: { IsNameOrder numbered.numbers.preferences names_in_order.items } by { Prim.hlevel props },
+    pub ghost name_order: { IsNameOrder
+        numbered.numbers.preferences names_in_order.items } by { Prim.hlevel props },
     pub ghost action_order: { IsNameOrder
         (action_names task) actions_in_order.items } by { Prim.hlevel props },
-    pub ghost object_order: { IsNameOrder numbered.numbers.objects objects_in_order.items } by { Prim.hlevel props },
+    pub ghost object_order: { IsNameOrder
+        numbered.numbers.objects objects_in_order.items } by { Prim.hlevel props },
     pub ghost places: { cost_places ≡ places_of_costs task },
     pub ghost values: { greatest.items ≡ greatest_values task numbered.numbers.functions },
 }
 
 impl Checked {
+    ghost use Rattle.p3_types.specs.Parts.{ArePartsOf};
+
+    /// The task with its parts.
+    pub(crate) fn of(task: Task, side: Side, parts: Parts) -> Checked
+        requires well_formed { WellFormed task }
+        requires texts { HasTexts side task }
+        requires parts { ArePartsOf task parts }
+        ensures task { result.task ≡ task }
+        ensures side { result.side ≡ side }
+    {
+        let Parts {
+            numbered,
+            first_steps,
+            orders,
+            costs,
+        } = parts;
+        let Orders {
+            names,
+            actions,
+            objects,
+        } = orders;
+        let Costs { places, greatest } = costs;
+        Checked {
+            task,
+            side,
+            numbered,
+            first_steps,
+            names_in_order: names,
+            actions_in_order: actions,
+            objects_in_order: objects,
+            cost_places: places,
+            greatest,
+        }
+    }
+
     /// The task.
     pub fn task(&self) -> &Task
         ensures task { result.now ≡ self.now.task }

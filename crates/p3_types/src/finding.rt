@@ -7,12 +7,11 @@ ghost use Rattle.p3_tree.specs.Names.{has_name};
 ghost use Rattle.p3_numbers.specs.Slots.{name_at, range_at};
 ghost use Rattle.p3_numbers.specs.Choices.{choice_count};
 ghost use Rattle.p3_types.specs.Finds.{
-  are_among,
   AreDistinct,
   IsRange,
   IsPlaceOf,
   IsNarrowed,
-  IsChoice,
+  IsChoiceOf,
 };
 ghost use Rattle.p3_types.specs.NameOrders.{IsNameOrder};
 
@@ -39,6 +38,17 @@ pub(crate) struct Stretch {
     pub first: usize,
     /// How many they are.
     pub count: usize,
+}
+
+/// The choices of arguments of an action.
+#[derive(Clone, Copy, Debug)]
+pub(crate) struct Block<'n> {
+    /// The ranges of its parameters.
+    pub ranges: &'n [u32],
+    /// The number of the step of the first choice.
+    pub first: u32,
+    /// How many they are.
+    pub count: u32,
 }
 
 /// The place in a range of the object with that name, in any case of its letters.
@@ -97,9 +107,7 @@ pub(crate) fn choice_number(
         (λ range. IsRange numbers.now.objects (range_at numbers.now range))
         ranges.now }
     requires count { count ≡ choice_count numbers.now ranges.now }
-    ensures { MatchOption result
-        (are_among numbers.now ranges.now args.now ≡ false)
-        (IsChoice numbers.now ranges.now args.now) }
+    ensures { IsChoiceOf numbers.now ranges.now args.now result }
 {
     if count == 0 {
         return None;

@@ -1,15 +1,21 @@
 //! The steps of a checked task.
 
-ghost use Rattle.std.specs.Prelude.{◌≡◌, ◌+◌, ◌-◌, ◌<◌, ◌≤◌, min, length, slice_index_or, IfOk};
+ghost use Rattle.std.specs.Prelude.{◌≡◌, ◌+◌, ◌-◌, ◌<◌, ◌≤◌, [], ◌∷◌, min, length};
+ghost use Rattle.std.specs.Prelude.{slice_index_or, IfOk};
 ghost use Rattle.p3_tree.specs.Limits.{step_count as count_of_steps};
+ghost use Rattle.p3_tree.specs.PlanTexts.{IsPlanText};
 ghost use Rattle.p3_tree.specs.StepNumbers.{HasNumber};
-ghost use Rattle.p3_types.specs.Finds.{IsFound, IsNumberAt};
+ghost use Rattle.p3_tree.specs.declared.task.Step.{Step as PlanStep};
+ghost use Rattle.p3_types.specs.Finds.{IsBlockAt, IsFound, IsNumberAt};
+ghost use Rattle.p3_types.specs.Words.{words_left};
 
-use crate::finding::choice_number;
+use crate::finding::{Block, choice_number};
 use crate::name_order::find_name;
 use crate::steps::{arguments, copied, interval_of};
+use crate::words::{choice_of_words, next_word, pass};
 use crate::{Checked, Found};
 use p3_base::{Name, NoMemory};
+use p3_lexer::Lexer;
 use p3_tree::Step;
 use std::alloc::Global;
 
@@ -55,20 +61,51 @@ impl Checked {
         let action = copied(alloc, &self.task.domain.actions.items()[place].name.name)?;
         Ok(Step { action, args })
     }
+
+    /// The choices of arguments of the action at that place.
+    fn block(&self, place: usize) -> Block<'_>
+        requires few { count_of_steps self.now.task ≤ 20000000 }
+        requires within { place < length self.now.task.domain.actions }
+        ensures { IsBlockAt self.now.task self.now.numbered.numbers place result }
+    {
+        let table = self.table();
+        let first = table[place];
+        let count = table[place + 1] - first;
+        let action = &self.numbered.actions.items()[place];
+        let ranges = action.ranges.items();
+        Block {
+            ranges,
+            first,
+            count,
+        }
+    }
+
     /// The number of the step of the action at that place with these arguments.
     fn number_at(&self, place: usize, args: &[Name]) -> Option<u32>
         requires few { count_of_steps self.now.task ≤ 20000000 }
         requires within { place < length self.now.task.domain.actions }
         ensures { IsNumberAt self.now.task place args.now result }
     {
-        let table = self.table();
-        let first = table[place];
-        let count = table[place + 1] - first;
-        let numbered = &self.numbered.actions.items()[place];
+        let block = self.block(place);
         let order = self.objects_in_order.as_slice();
-        let ranges = numbered.ranges.items();
-        match choice_number(&self.numbered.numbers, order, ranges, args, count) {
-            Some(number) => Some(first + number),
+        let numbers = &self.numbered.numbers;
+        match choice_number(numbers, order, block.ranges, args, block.count) {
+            Some(number) => Some(block.first + number),
+            None => None,
+        }
+    }
+
+    /// The number of the step of the action at that place with the words that come next.
+    fn number_of_words(&self, place: usize, lexer: &mut Lexer<'_>) -> Option<u32>
+        requires few { count_of_steps self.now.task ≤ 20000000 }
+        requires within { place < length self.now.task.domain.actions }
+        ensures { IsNumberAt self.now.task place (words_left lexer.old) result }
+    {
+        let block = self.block(place);
+        let order = self.objects_in_order.as_slice();
+        let numbers = &self.numbered.numbers;
+        match choice_of_words(numbers, order, block.ranges, lexer, block.count) {
+            Some(number) => Some(block.first + number),
             None => None,
         }
     }
@@ -87,5 +124,28 @@ impl Checked {
             Some(number) => Found::Number(number),
             None => Found::Arguments,
         }
+    }
+
+    /// As what the step of a text is found, from its `(` to its `)`: by its number, where it has
+    /// one. It takes no memory.
+    pub fn find_text(&self, text: &[u8]) -> Found
+        requires few { count_of_steps self.now.task ≤ 20000000 }
+        requires short { length text.now ≤ 268435456 }
+        ensures { (step : PlanStep)
+            → IsPlanText text.now (step ∷ []) → IsFound self.now.task step result }
+    {
+        let mut lexer = Lexer::new(text);
+        pass(&mut lexer);
+        let Some(word) = next_word(&mut lexer) else {
+            return Found::UnknownAction;
+        };
+        let actions = self.task.domain.actions.items();
+        let Some(place) = find_name(actions, self.actions_in_order.as_slice(), word) else {
+            return Found::UnknownAction;
+        };
+        let Some(number) = self.number_of_words(place as usize, &mut lexer) else {
+            return Found::Arguments;
+        };
+        Found::Number(number)
     }
 }

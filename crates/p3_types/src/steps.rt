@@ -1,6 +1,6 @@
 //! Steps by number.
 
-ghost use Rattle.std.specs.Prelude.{◌≡◌, ℕ, ◌+◌, ◌*◌, ◌-◌, ◌<◌, ◌≤◌, min, length};
+ghost use Rattle.std.specs.Prelude.{◌≡◌, ℕ, ◌+◌, ◌*◌, ◌/◌, ◌-◌, ◌<◌, ◌≤◌, min, length};
 ghost use Rattle.std.specs.Prelude.{slice_index_or, IfOk};
 ghost use Rattle.std.specs.List.{All};
 ghost use Rattle.p3_numbers.specs.Slots.{range_at, name_at, object_names};
@@ -90,6 +90,15 @@ pub(crate) fn interval_of(firsts: &[u32], number: u32) -> usize
     low
 }
 
+/// The object with which the choice of that number begins, where each begins so many.
+fn first_object(objects: &[u32], number: usize, choices: usize) -> u32
+    requires some { 0 < choices }
+    requires within { number / choices < length objects.now }
+    ensures { result ≡ slice_index_or objects.now (number / choices) 0 }
+{
+    objects[number / choices]
+}
+
 /// The objects of a choice by its number among so many.
 pub(crate) fn arguments(
     alloc: Global,
@@ -111,7 +120,7 @@ pub(crate) fn arguments(
     for range in ranges {
         let objects = objects_of(numbers, *range);
         block /= objects.len();
-        let object = objects[rest / block];
+        let object = first_object(objects, rest, block);
         rest %= block;
         args.push(copied(alloc, &numbers.objects.items()[object as usize])?)?;
     }

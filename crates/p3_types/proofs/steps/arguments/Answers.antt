@@ -11,13 +11,13 @@ nonzero_div-block c =
     let next = next_argument c.args.numbers.now c.args.ranges.now c.objects_of-objects.result.now c.loop-range.range-index c.loop-range.rest c.loop-range.block c.loop-range-test.true c.objects_of-objects.ensures c.loop-range.invariant.block c.loop-range.invariant.within in
     next.some
 
-pub nonzero_div-object : goal.nonzero_div-object
-nonzero_div-object c =
+pub first_object-object-requires-clause-some : goal.first_object-object-requires-clause-some
+first_object-object-requires-clause-some c =
     let next = next_argument c.args.numbers.now c.args.ranges.now c.objects_of-objects.result.now c.loop-range.range-index c.loop-range.rest c.loop-range.block c.loop-range-test.true c.objects_of-objects.ensures c.loop-range.invariant.block c.loop-range.invariant.within in
     next.stretch
 
-pub bounds-objects-rest : goal.bounds-objects-rest
-bounds-objects-rest c =
+pub first_object-object-requires-clause-within : goal.first_object-object-requires-clause-within
+first_object-object-requires-clause-within c =
     let next = next_argument c.args.numbers.now c.args.ranges.now c.objects_of-objects.result.now c.loop-range.range-index c.loop-range.rest c.loop-range.block c.loop-range-test.true c.objects_of-objects.ensures c.loop-range.invariant.block c.loop-range.invariant.within in
     next.digit
 
@@ -31,7 +31,7 @@ bounds-items-object c =
     let N = c.args.numbers.now in
     let next = next_argument N c.args.ranges.now c.objects_of-objects.result.now c.loop-range.range-index c.loop-range.rest c.loop-range.block c.loop-range-test.true c.objects_of-objects.ensures c.loop-range.invariant.block c.loop-range.invariant.within in
     let all : All (λ object. object < length N.objects) c.objects_of-objects.result.now = subst (λ objects. All (λ object. object < length N.objects) objects) (sym c.objects_of-objects.ensures) (c.requires.objects _) in
-    subst (λ (names : List (List ℕ)). get_or c.objects_of-objects.result.now (c.loop-range.rest / (c.loop-range.block / length c.objects_of-objects.result.now)) 0 < length names) (sym c.items.ensures) (all _ 0 next.digit)
+    subst (λ (names : List (List ℕ)). c.first_object-object.result < length names) (sym c.items.ensures) (subst (λ object. object < length N.objects) (sym c.first_object-object.ensures) (all _ 0 next.digit))
 
 pub loop-range-preserved : goal.loop-range-preserved
 loop-range-preserved c =
@@ -39,12 +39,13 @@ loop-range-preserved c =
     let objects = c.objects_of-objects.result.now in
     let rest = c.loop-range.rest in
     let inner = c.loop-range.block / length objects in
-    let object = get_or objects (rest / inner) 0 in
+    let object = c.first_object-object.result in
     let others = object_names N (choice N (drop (c.loop-range.range-index + 1) c.args.ranges.now) (rest % inner)) in
     let next = next_argument N c.args.ranges.now objects c.loop-range.range-index rest c.loop-range.block c.loop-range-test.true c.objects_of-objects.ensures c.loop-range.invariant.block c.loop-range.invariant.within in
     let all : All (λ object. object < length N.objects) objects = subst (λ objects. All (λ object. object < length N.objects) objects) (sym c.objects_of-objects.ensures) (c.requires.objects _) in
-    let name : name_at N.objects object ≡ c.in_ok-copied.field-0 =
-    sym (c.in_ok-copied.ensures ∙ get_or_read N.objects object _ (all _ 0 next.digit) (c.index-items-object.is ∙ ap (λ (names : List (List ℕ)). get_or names object c.index-items-object.result) c.items.ensures) []) in
+    let within : object < length N.objects = subst (λ object. object < length N.objects) (sym c.first_object-object.ensures) (all _ 0 next.digit) in
+    let name : name_at N.objects (get_or objects (rest / inner) 0) ≡ c.in_ok-copied.field-0 =
+    ap (name_at N.objects) (sym c.first_object-object.ensures) ∙ sym (c.in_ok-copied.ensures ∙ get_or_read N.objects object _ within (c.index-items-object.is ∙ ap (λ (names : List (List ℕ)). get_or names object c.index-items-object.result) c.items.ensures) []) in
     record {
       block = next.inner;
       within = next.within;
