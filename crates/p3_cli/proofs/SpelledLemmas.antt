@@ -1,22 +1,26 @@
 -- What two texts spell, and what is refused of them.
-use Rattle.std.proofs.Common.{◌≡◌, ◌∙◌, ℕ, true, false, List, length, refl, sym, ap, subst, inl, inr}
+use Rattle.std.proofs.Common.{◌≡◌, ◌∙◌, ℕ, ◌≤◌, true, false, List, Some, None, option_map, length, refl, sym, ap, subst, inl, inr}
 use Rattle.p3_base.specs.declared.refusal.Refusal.{Refusal}
 use Rattle.p3_base.specs.declared.refusal.Role.TheVariants as role
 use Rattle.p3_base.specs.declared.refusal.Side.TheVariants.{Source}
 use Rattle.p3_tree.specs.Grammar.Halves.{domain_place, problem_place}
-use Rattle.p3_tree.specs.Refusals.First.{HalfText, halves, IsRefusedText, IsReadable, AreReadable}
+use Rattle.p3_tree.specs.FirstOffence.{first_offence}
+use Rattle.p3_tree.specs.Offences.{WellFormed}
+use Rattle.p3_tree.specs.Refusals.First.{HalfText, halves, IsRefusedText, IsReadable, AreReadable, refusal_of}
 use Rattle.p3_tree.specs.Sides.{InDomain, InProblem}
 use Rattle.p3_tree.specs.declared.task.Domain.{Domain}
 use Rattle.p3_tree.specs.declared.task.Problem.{Problem}
 use Rattle.p3_tree.specs.declared.task.Task.{Task}
+use Rattle.p3_tree.proofs.OffenceLemmas.{well_formed_where_no_offence}
 use Rattle.p3_tree.proofs.TextLemmas.{one_task_at_most}
 use Rattle.p3_compile.specs.Tiny.{IsTinyTask, is_tiny_task}
 use Rattle.p3_syntax.specs.Texts.{IsHalfText, IfRefused}
 use Rattle.p3_syntax.specs.First.{IsWithin}
 use Rattle.p3_syntax.specs.declared.error.ReadFail.{ReadFail}
 use Rattle.p3_syntax.specs.declared.error.ReadFail.TheVariants as fail
+use Rattle.p3_types.specs.Texts.{HasTexts}
 use Rattle.p3_cli.specs.Product.{IsRefusedBy, EndsAs}
-use Rattle.p3_cli.specs.Translation.{source_texts, IsSpelled, beyond, Shows, InText, NotTiny, AreAccepted, text_of, refused_in, IsRefusal}
+use Rattle.p3_cli.specs.Translation.{source_texts, IsSpelled, beyond, Shows, InText, Offends, NotTiny, AreAccepted, text_of, refused_in, IsRefusal}
 use Rattle.p3_cli.specs.declared.ending.Ending.{Ending}
 use Rattle.p3_cli.specs.declared.ending.Ending.TheVariants as ending
 
@@ -40,13 +44,26 @@ module _ (d p : List ℕ) where
     };
   }
 
+  pub has_texts : (task : Task) → IsSpelled d p task → length d ≤ 16777216 → length p ≤ 16777216 → HasTexts Source task
+  has_texts task spelled domain_short problem_short =
+      record { domain = d; problem = p; short_domain = domain_short; short_problem = problem_short; readable = spelled.readable; reads = spelled.reads }
+
+  none-some : (refusal : Refusal) → Some refusal ≡ None → ⊥
+  none-some refusal is = absurd (cc)
+
+  no_offence : (T U : Task) → T ≡ U → WellFormed T → (refusal : Refusal) → option_map (refusal_of Source) (first_offence U) ≡ Some refusal → ⊥
+  no_offence T U same well_formed refusal shown =
+      none-some refusal (sym shown ∙ ap (λ task. option_map (refusal_of Source) (first_offence task)) (sym same) ∙ ap (option_map (refusal_of Source)) ((well_formed_where_no_offence T).0 well_formed))
+
   both_tests : (T U : Task) → T ≡ U → is_tiny_task T ≡ true → is_tiny_task U ≡ false → ⊥
   both_tests T U same tiny not_tiny = let e : is_tiny_task T ≡ is_tiny_task U = ap is_tiny_task same in cc
 
-  -- nothing is refused of the texts of a tiny task
-  pub tiny_accepted : (task : Task) → IsSpelled d p task → IsTinyTask task → AreAccepted d p
-  tiny_accepted task spelled tiny refusal (InText _ shown) = spelled.readable refusal shown
-  tiny_accepted task spelled tiny refusal (NotTiny other spells not_tiny) = both_tests task other (one_task_at_most d p task other spelled.reads spells.reads) tiny not_tiny
+  -- nothing is refused of the texts of a tiny task that is well-formed
+  pub tiny_accepted : (task : Task) → IsSpelled d p task → WellFormed task → IsTinyTask task → AreAccepted d p
+  tiny_accepted task spelled well_formed tiny refusal (InText _ shown) = spelled.readable refusal shown
+  tiny_accepted task spelled well_formed tiny refusal (Offends other spells _ shown) =
+      no_offence task other (one_task_at_most d p task other spelled.reads spells.reads) well_formed refusal shown
+  tiny_accepted task spelled well_formed tiny refusal (NotTiny other spells _ not_tiny) = both_tests task other (one_task_at_most d p task other spelled.reads spells.reads) tiny not_tiny
 
   says : (text : List ℕ) (refusal : Refusal) (how : Ending) → Shows d p refusal → text ≡ text_of refusal.pos.role d p → IsRefusedBy (λ end. end ≡ refused_in text refusal) how → IsRefusedBy (IsRefusal d p) how
   says text refusal ending.OutOfMemory shows is told = tt
@@ -70,5 +87,9 @@ module _ (d p : List ℕ) where
   problem_refused fail.NoMemory how first shown stands told = no_memory how told
   problem_refused (fail.Refused refusal) how first shown stands told = says p refusal how (InText refusal (inr (first, inl shown))) (ap (λ of. text_of of d p) (sym stands.file)) told
 
-  pub task_refused : (task : Task) (how : Ending) → IsSpelled d p task → is_tiny_task task ≡ false → IsRefusedBy (λ end. end ≡ refused_in d beyond) how → IsRefusedBy (IsRefusal d p) how
-  task_refused task how spelled not_tiny told = says d beyond how (NotTiny task spelled not_tiny) refl told
+  pub offence_refused : (task : Task) (refusal : Refusal) (how : Ending) → IsSpelled d p task → option_map (refusal_of Source) (first_offence task) ≡ Some refusal
+      → IsRefusedBy (λ end. end ≡ refused_in (text_of refusal.pos.role d p) refusal) how → IsRefusedBy (IsRefusal d p) how
+  offence_refused task refusal how spelled shown told = says (text_of refusal.pos.role d p) refusal how (Offends task spelled refusal shown) refl told
+
+  pub task_refused : (task : Task) (how : Ending) → IsSpelled d p task → WellFormed task → is_tiny_task task ≡ false → IsRefusedBy (λ end. end ≡ refused_in d beyond) how → IsRefusedBy (IsRefusal d p) how
+  task_refused task how spelled well_formed not_tiny told = says d beyond how (NotTiny task spelled well_formed not_tiny) refl told

@@ -1,5 +1,5 @@
 -- What `compile` makes of the texts of a domain and a problem.
-use Rattle.std.specs.Prelude.{ℕ, ◌≡◌, false, List, ◌++◌, codes, length}
+use Rattle.std.specs.Prelude.{ℕ, ◌≡◌, false, List, ◌++◌, codes, length, Some, option_map}
 use Rattle.std.specs.Fmt.{decimal}
 use Rattle.p3_base.specs.declared.refusal.Code.TheVariants.{Construct}
 use Rattle.p3_base.specs.declared.refusal.Refusal.{Refusal}
@@ -8,7 +8,9 @@ use Rattle.p3_base.specs.declared.refusal.Role.TheVariants as role
 use Rattle.p3_base.specs.declared.refusal.Side.TheVariants.{Source}
 use Rattle.p3_tree.specs.Faithful.{Faithful}
 use Rattle.p3_tree.specs.Grammar.Texts.{Reads}
-use Rattle.p3_tree.specs.Refusals.First.{TaskTexts, halves, IsFirstOfTexts, AreReadable}
+use Rattle.p3_tree.specs.FirstOffence.{first_offence}
+use Rattle.p3_tree.specs.Offences.{WellFormed}
+use Rattle.p3_tree.specs.Refusals.First.{TaskTexts, halves, IsFirstOfTexts, AreReadable, refusal_of}
 use Rattle.p3_tree.specs.Refusals.Places.{refusal_at}
 use Rattle.p3_tree.specs.Reports.Refusals.{refusal_line}
 use Rattle.p3_tree.specs.declared.task.Task.{Task}
@@ -34,10 +36,11 @@ pub record IsSpelled (d p : List ℕ) (task : Task) : Type 0 where
 abbrev pub beyond : Refusal
 beyond = refusal_at Construct role.Domain 0 0
 
--- a refusal that the texts show: the first of the texts by themselves, or else of a task that is not tiny
+-- a refusal that the texts show: the first of the texts by themselves, or else of the task that they spell: the first offence of one that is not well-formed, or that it is not tiny
 pub data Shows (d p : List ℕ) : Refusal → Type 0 where
   InText : (refusal : Refusal) → IsFirstOfTexts (halves (source_texts d p)) refusal → Shows d p refusal
-  NotTiny : (task : Task) → IsSpelled d p task → is_tiny_task task ≡ false → Shows d p beyond
+  Offends : (task : Task) → IsSpelled d p task → (refusal : Refusal) → option_map (refusal_of Source) (first_offence task) ≡ Some refusal → Shows d p refusal
+  NotTiny : (task : Task) → IsSpelled d p task → WellFormed task → is_tiny_task task ≡ false → Shows d p beyond
 
 abbrev pub AreAccepted : List ℕ → List ℕ → Type 0
 AreAccepted d p = (refusal : Refusal) → Shows d p refusal → ⊥

@@ -1,7 +1,8 @@
 //! The line that says why and where an input is refused.
 
-ghost use Rattle.std.specs.Prelude.{◌≡◌, ◌++◌, ◌<◌, ◌≤◌, false, length, take, IfOk, OnOk, string_bytes};
+ghost use Rattle.std.specs.Prelude.{◌≡◌, ◌++◌, ◌<◌, ◌≤◌, false, length, take, drop, IfOk, OnOk, string_bytes};
 ghost use Rattle.std.specs.Fmt.{digit_glyph};
+ghost use Rattle.p3_base.specs.Place.{line_of, column_of};
 ghost use Rattle.p3_tree.specs.Reports.Lines.{role_name};
 ghost use Rattle.p3_tree.specs.Reports.Refusals.{
   code_text,
@@ -24,11 +25,10 @@ pub(crate) fn line_of_refusal(
     text: &[u8],
     refusal: &Refusal,
 ) -> Result<Vec<u8>, NoMemory>
-    requires within { refusal.now.pos.offset ≤ length text.now }
-    requires short { length text.now ≤ 268435456 }
+    requires { length text.now ≤ 268435456 }
     ensures { IfOk result (λ line. line.items ≡ refusal_line text.now refusal.now) }
 {
-    let (line, column) = line_column(text, refusal.pos.offset);
+    let (line, column) = place_of(text, refusal.pos.offset);
     let why = code_words(refusal.code);
     let file = role_word(refusal.pos.role);
     let start = head(alloc, why, file, line, column)?;
@@ -36,6 +36,20 @@ pub(crate) fn line_of_refusal(
     push_at_fault(alloc, &mut out, text, refusal)?;
     out.push(b'\n')?;
     Ok(out)
+}
+
+/// The line and column of an offset, or of the text's end where that comes first.
+#[tactic(auto, using(std::proofs::lemmas::List::take_all))]
+fn place_of(text: &[u8], offset: u32) -> (u32, u32)
+    requires { length text.now ≤ 268435456 }
+    ensures line { result.0 ≡ line_of text.now offset }
+    ensures column { result.1 ≡ column_of text.now offset }
+{
+    if offset as usize <= text.len() {
+        line_column(text, offset)
+    } else {
+        line_column(text, text.len() as u32)
+    }
 }
 
 /// What stands before the word.
@@ -52,7 +66,6 @@ fn push_at_fault(
     text: &[u8],
     refusal: &Refusal,
 ) -> Result<(), NoMemory>
-    requires { refusal.now.pos.offset ≤ length text.now }
     ensures { OnOk result (out.new.items ≡ out.old.items ++ shown_at_fault refusal.now.code text.now refusal.now) }
 {
     match refusal.code {
@@ -100,18 +113,31 @@ fn push_word(
     text: &[u8],
     refusal: &Refusal,
 ) -> Result<(), NoMemory>
-    requires { refusal.now.pos.offset ≤ length text.now }
     ensures { OnOk result (out.new.items ≡ out.old.items ++ shown_word text.now refusal.now) }
 {
     if refusal.len == 0 {
         out.extend_from_slice(b"end of text")?;
         return Ok(());
     }
-    let rest = &text[refusal.pos.offset as usize..];
-    let word = first(refusal.len as usize, rest);
+    let word = first(
+        refusal.len as usize,
+        behind(refusal.pos.offset as usize, text),
+    );
     let shown = first(WORD_MAX, word).to_ascii_lowercase(alloc)?;
     out.extend_from_slice(shown.as_slice())?;
     Ok(())
+}
+
+/// The bytes from an offset on; none where the text ends before it.
+#[tactic(auto, using(std::proofs::lemmas::List::drop_all))]
+fn behind(offset: usize, text: &[u8]) -> &[u8]
+    ensures { result.now ≡ drop offset text.now }
+{
+    if offset <= text.len() {
+        &text[offset..]
+    } else {
+        &[]
+    }
 }
 
 /// At most the first `len` bytes.

@@ -4,7 +4,9 @@ ghost use Rattle.std.specs.Prelude.{◌≡◌, ◌≤◌, length, IfOk, IfErr, O
 ghost use Rattle.p3_compile.specs.Tiny.{IsTinyTask};
 ghost use Rattle.p3_syntax.specs.Texts.{IfRefused};
 ghost use Rattle.p3_cli.specs.Product.{IsRefusedBy, EndsAs};
-ghost use Rattle.p3_cli.specs.Translation.{AreAccepted, IsRefusal, IsSpelled, IsTranslation, IsWritten, beyond, refused_in, report_text};
+ghost use Rattle.p3_cli.specs.Translation.{AreAccepted, IsRefusal, IsSpelled, IsTranslation};
+ghost use Rattle.p3_cli.specs.Translation.{IsWritten, beyond, refused_in, report_text};
+ghost use Rattle.p3_cli.specs.Translation.{text_of as text_named};
 
 use crate::Ending;
 use crate::layout::{domain_text, problem_text};
@@ -12,7 +14,8 @@ use crate::refusal::line_of_refusal;
 use p3_base::{Code, List, NoMemory, Pos, Refusal, Role, Side};
 use p3_compile::{compile_small, is_tiny};
 use p3_syntax::{ReadFail, read_domain, read_problem};
-use p3_tree::Task;
+use p3_tree::{Domain, Problem, Task};
+use p3_types::{CheckFail, Checked, check};
 use std::alloc::Global;
 
 /// The two texts that are written, and the report.
@@ -34,23 +37,43 @@ pub(crate) fn translate(alloc: Global, domain: &[u8], problem: &[u8]) -> Result<
     ensures accepted { OnOk result (AreAccepted domain.now problem.now) }
     ensures err { IfErr result (IsRefusedBy (IsRefusal domain.now problem.now)) }
 {
-    let task = match tiny_task(alloc, domain, problem) {
-        Ok(task) => task,
+    let checked = match tiny_task(alloc, domain, problem) {
+        Ok(checked) => checked,
         Err(ending) => return Err(ending),
     };
-    match written(alloc, &task) {
+    match written(alloc, checked.task()) {
         Ok(made) => Ok(made),
         Err(_) => Err(Ending::OutOfMemory),
     }
 }
 
 /// The tiny task that the two texts spell.
-#[tactic(auto, using(crate::proofs::SpelledLemmas::halves_spell))]
-fn tiny_task(alloc: Global, domain: &[u8], problem: &[u8]) -> Result<Task, Ending>
+#[tactic(auto, using(crate::proofs::SpelledLemmas::task_refused))]
+fn tiny_task(alloc: Global, domain: &[u8], problem: &[u8]) -> Result<Checked, Ending>
     requires domain_short { length domain.now ≤ 16777216 }
     requires problem_short { length problem.now ≤ 16777216 }
-    ensures spelled { IfOk result (IsSpelled domain.now problem.now) }
-    ensures tiny { IfOk result IsTinyTask }
+    ensures spelled { IfOk result (λ checked. IsSpelled domain.now problem.now checked.task) }
+    ensures tiny { IfOk result (λ checked. IsTinyTask checked.task) }
+    ensures err { IfErr result (IsRefusedBy (IsRefusal domain.now problem.now)) }
+{
+    let checked = match checked_task(alloc, domain, problem) {
+        Ok(checked) => checked,
+        Err(ending) => return Err(ending),
+    };
+    let task = checked.task();
+    if is_tiny(&task.domain, &task.problem) {
+        Ok(checked)
+    } else {
+        Err(refused_beyond(alloc, domain))
+    }
+}
+
+/// The well-formed task that the two texts spell.
+#[tactic(auto, using(crate::proofs::SpelledLemmas::halves_spell))]
+fn checked_task(alloc: Global, domain: &[u8], problem: &[u8]) -> Result<Checked, Ending>
+    requires domain_short { length domain.now ≤ 16777216 }
+    requires problem_short { length problem.now ≤ 16777216 }
+    ensures spelled { IfOk result (λ checked. IsSpelled domain.now problem.now checked.task) }
     ensures err { IfErr result (IsRefusedBy (IsRefusal domain.now problem.now)) }
 {
     let domain_half = match read_domain(alloc, Side::Source, domain) {
@@ -61,20 +84,60 @@ fn tiny_task(alloc: Global, domain: &[u8], problem: &[u8]) -> Result<Task, Endin
         Ok(half) => half,
         Err(fail) => return Err(not_read(alloc, problem, fail)),
     };
-    if is_tiny(&domain_half, &problem_half) {
-        Ok(Task {
-            domain: domain_half,
-            problem: problem_half,
-        })
-    } else {
-        Err(refused_beyond(alloc, domain))
+    match checked(alloc, domain, problem, domain_half, problem_half) {
+        Ok(checked) => Ok(checked),
+        Err(ending) => Err(ending),
+    }
+}
+
+/// The task of two halves that the texts spell, where it is well-formed.
+#[tactic(auto, using(crate::proofs::SpelledLemmas::has_texts))]
+fn checked(
+    alloc: Global,
+    domain: &[u8],
+    problem: &[u8],
+    domain_half: Domain,
+    problem_half: Problem,
+) -> Result<Checked, Ending>
+    requires domain_short { length domain.now ≤ 16777216 }
+    requires problem_short { length problem.now ≤ 16777216 }
+    requires spelled { IsSpelled domain.now problem.now
+        (record { domain = domain_half; problem = problem_half }) }
+    ensures spelled { IfOk result (λ checked. IsSpelled domain.now problem.now checked.task) }
+    ensures err { IfErr result (IsRefusedBy (IsRefusal domain.now problem.now)) }
+{
+    match check(alloc, Side::Source, domain_half, problem_half) {
+        Ok(checked) => Ok(checked),
+        Err(CheckFail::Refused(refusal)) => Err(refused_offence(alloc, domain, problem, &refusal)),
+        Err(CheckFail::NoMemory) => Err(Ending::OutOfMemory),
+    }
+}
+
+/// The ending of a task's first offence.
+fn refused_offence(alloc: Global, domain: &[u8], problem: &[u8], refusal: &Refusal) -> Ending
+    requires domain_short { length domain.now ≤ 16777216 }
+    requires problem_short { length problem.now ≤ 16777216 }
+    ensures { IsRefusedBy
+        (λ how. how
+        ≡ refused_in (text_named refusal.now.pos.role domain.now problem.now) refusal.now)
+        result }
+{
+    refused(alloc, text_of(refusal.pos.role, domain, problem), refusal)
+}
+
+/// The text of the file that a role names.
+fn text_of<'t>(role: Role, domain: &'t [u8], problem: &'t [u8]) -> &'t [u8]
+    ensures { result.now ≡ text_named role domain.now problem.now }
+{
+    match role {
+        Role::Domain => domain,
+        _ => problem,
     }
 }
 
 /// The ending where a half was not read.
 fn not_read(alloc: Global, text: &[u8], fail: ReadFail) -> Ending
-    requires within { IfRefused fail (λ refusal. refusal.pos.offset ≤ length text.now) }
-    requires short { length text.now ≤ 16777216 }
+    requires { length text.now ≤ 16777216 }
     ensures { EndsAs text.now fail result }
 {
     match fail {
@@ -101,8 +164,7 @@ fn refused_beyond(alloc: Global, text: &[u8]) -> Ending
 
 /// The ending of a refusal.
 fn refused(alloc: Global, text: &[u8], refusal: &Refusal) -> Ending
-    requires within { refusal.now.pos.offset ≤ length text.now }
-    requires short { length text.now ≤ 16777216 }
+    requires { length text.now ≤ 16777216 }
     ensures { IsRefusedBy (λ how. how ≡ refused_in text.now refusal.now) result }
 {
     match line_of_refusal(alloc, text, refusal) {

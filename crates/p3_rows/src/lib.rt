@@ -2,6 +2,8 @@
 #![tactic(auto)]
 
 #[cfg(test)]
+mod offences;
+#[cfg(test)]
 mod outlines;
 #[cfg(test)]
 mod outside;

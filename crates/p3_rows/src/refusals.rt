@@ -5,7 +5,7 @@ use std::process::Abort;
 use std::test::Fail;
 
 /// Whether a run of these texts is refused with that line, and leaves no output.
-fn refuses(
+pub(crate) fn refuses(
     rt: &(impl Abort + AllocGlobal),
     domain: &[u8],
     problem: &[u8],
