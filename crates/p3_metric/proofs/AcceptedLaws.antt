@@ -13,7 +13,7 @@ first_none : {A : Type 0} (o : Option A) (rest : List (Option A)) → first_some
 first_none None rest e = refl
 first_none (Some x) rest e = absurd (cc)
 
-no_product : {A : Type 0} (f : ℕ → A) (found : List ℕ) → option_map f (slice_get found 0) ≡ None → found ≡ []
+pub no_product : {A : Type 0} (f : ℕ → A) (found : List ℕ) → option_map f (slice_get found 0) ≡ None → found ≡ []
 no_product f [] e = refl
 no_product f (at ∷ found) e = absurd (cc)
 

@@ -1,7 +1,7 @@
 -- How the numbers by name change with the entries, and that their sums fit.
 use Rattle.std.proofs.lemmas.Bool.{true≢false}
 use Rattle.std.proofs.Common.{rules, IsSome, ◌↔◌, length, ◌⊎◌, inl, inr, ◌&&◌, ◌≡◌, ◌∙◌, refl, sym, ap, subst, ℕ, ◌+◌, ◌^◌, ◌<◌, ◌≤◌, Bool, true, false, cond, List, [], ◌∷◌, ◌++◌, arith, Option, Some, None, pos, ◌+ℤ◌, ◌*ℤ◌}
-use Rattle.std.specs.Prelude.{ℤ, bytes_eq, unwrap_or}
+use Rattle.std.specs.Prelude.{ℤ, negsuc, nat_lt, bytes_eq, unwrap_or}
 use Rattle.std.specs.Int.RustNames.{unsigned_abs}
 use Rattle.std.proofs.lemmas.Int.{ints, to_z-of_z, fits_signed_from_abs}
 use Rattle.std.specs.Map.{lookup}
@@ -33,6 +33,10 @@ module _ {S : Type 0} (old new : IndexMap (Bor Name) ℤ S) where
   pub number_at_removed : (name : Bor Name) → Updates (λ x y. bytes_eq x.now y.now) old new name None → (other : Name) → number_at new other ≡ changed (number_at old) name.now (pos 0) other
   unfolding number_at
   number_at_removed name u other = ap (λ o. unwrap_or o (pos 0)) (u.0 (key other)) ∙ emptied (bytes_eq name.now other) (get (λ x y. bytes_eq x.now y.now) old (key other))
+
+pub within_is : (bound : ℕ) (z : ℤ) → is_within bound z ≡ nat_lt (unsigned_abs z) bound
+within_is bound (pos n) = grind (arith, ints)
+within_is bound (negsuc n) = grind (arith, ints)
 
 pub abs_sum : (a b : ℤ) → unsigned_abs (a +ℤ b) < unsigned_abs a + unsigned_abs b + 1
 abs_sum a b = grind (arith, ints)
@@ -133,7 +137,7 @@ pub mixed_once : (e f s o given : ℤ) → f ≡ pos 1 → given ≡ o → e +�
 unfolding one
 mixed_once e f s o given one same = λ i. (sym (*ℤ-one e) ∙ ap (λ x. e *ℤ x) (sym one)) i +ℤ (ap (λ x. x *ℤ s) same ∙ *ℤ_comm o s) i
 
-one_times : (x : ℤ) → pos 1 *ℤ x ≡ x
+pub one_times : (x : ℤ) → pos 1 *ℤ x ≡ x
 unfolding one
 one_times x = *ℤ_comm (pos 1) x ∙ *ℤ-one x
 

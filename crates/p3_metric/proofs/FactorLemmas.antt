@@ -23,7 +23,7 @@ any_map : {A B : Type 0} (p : B → Bool) (f : A → B) (xs : List A) → list_a
 any_map p f [] = refl
 any_map p f (x ∷ xs) = ap (λ t. p (f x) || t) (any_map p f xs)
 
-flat_map-map : {A B C : Type 0} (g : B → List C) (f : A → B) (xs : List A) → flat_map g (map f xs) ≡ flat_map (λ x. g (f x)) xs
+pub flat_map-map : {A B C : Type 0} (g : B → List C) (f : A → B) (xs : List A) → flat_map g (map f xs) ≡ flat_map (λ x. g (f x)) xs
 flat_map-map g f [] = refl
 flat_map-map g f (x ∷ xs) = ap (λ t. g (f x) ++ t) (flat_map-map g f xs)
 

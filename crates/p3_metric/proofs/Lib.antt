@@ -1,4 +1,5 @@
 pub mod IntegerLemmas
+pub mod BoundLemmas
 pub mod LinearLaws
 pub mod WeighedLaws
 pub mod MentionLaws
@@ -6,3 +7,17 @@ pub mod AcceptedLaws
 pub mod EntryLemmas
 pub mod NumLemmas
 pub mod FactorLemmas
+pub mod QuantityLemmas
+pub mod FormLemmas
+pub mod EvaluationLemmas
+pub mod FitLemmas
+pub mod StepLemmas
+pub mod CutLaws
+pub mod WordLaws
+pub mod DearLaws
+pub mod MetricLemmas
+pub mod StartLaws
+pub mod WeightLaws
+pub mod ShortLemmas
+pub mod CheapLemmas
+pub mod SignLaws

@@ -130,7 +130,7 @@ module _ (F : Counts → ℕ → ℤ) (additive : IsAdditive F) where
       by z a b c e f g h = omega (arith, ints, e, f, g) ∙ ap (λ n. a +ℤ pos n) (sym h ∙ ap (λ n. w * n) (omega arith))
 
   -- counts and costs apart
-  parts_add : (c : Counts) (u : ℕ) → F c u +ℤ F0 ≡ F c 0 +ℤ F no_counts u
+  pub parts_add : (c : Counts) (u : ℕ) → F c u +ℤ F0 ≡ F c 0 +ℤ F no_counts u
   parts_add c u = (λ i. F (λ name. plus_zero (c name) i) (zero_plus u i) +ℤ F0) ∙ additive c no_counts 0 u
     where
       plus_zero : (n : ℕ) → n ≡ n + 0
@@ -141,7 +141,7 @@ module _ (F : Counts → ℕ → ℤ) (additive : IsAdditive F) where
 
 -- ---- the weights of a task
 
-by_metric : (T : Task) (o : Option Metric) (d : Direction) → ((metric : Metric) → o ≡ Some metric → nonlinear metric.body ≡ []) → IsAdditive (λ c u. signed d (quantity_by T c u o).units)
+pub by_metric : (T : Task) (o : Option Metric) (d : Direction) → ((metric : Metric) → o ≡ Some metric → nonlinear metric.body ≡ []) → IsAdditive (λ c u. signed d (quantity_by T c u o).units)
 by_metric T None Minimize h = λ c d u v. refl
 by_metric T None Maximize h = λ c d u v. refl
 by_metric T (Some metric) Minimize h = (linear T metric.body (h metric refl)).additive

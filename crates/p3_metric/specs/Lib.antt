@@ -1,3 +1,11 @@
 pub mod Weighed
 pub mod Entries
 pub mod Factors
+pub mod Operations
+pub mod Forms
+pub mod Evaluation
+pub mod Cut
+pub mod Start
+pub mod Refused
+pub mod Dear
+pub mod Signs

@@ -1,10 +1,37 @@
 //! Numbers by name, of which all but a few are 0.
 
-ghost use Rattle.std.specs.Prelude.{◌≡◌, ◌^◌, ◌<◌, ℕ, List, pos, ◌+ℤ◌, ◌*ℤ◌, length, true, false, OnOk, IfOk, IfSome, IfNone};
+ghost use Rattle.std.specs.Prelude.{
+  ◌≡◌,
+  ◌^◌,
+  ◌<◌,
+  ℕ,
+  List,
+  pos,
+  ◌+ℤ◌,
+  ◌*ℤ◌,
+  length,
+  true,
+  false,
+  OnOk,
+  IfOk,
+  IfSome,
+  IfNone,
+};
 ghost use Rattle.std.specs.Int.RustNames.{unsigned_abs};
 ghost use Rattle.p3_tree.specs.Refusals.Metric.{is_within};
 ghost use Rattle.p3_tree.specs.Sides.{weight_bound};
-ghost use Rattle.p3_metric.specs.Entries.{AreBelow, AreWithin, IsJudged, IsSomeLarge, changed, mixed, number_at, poured, products};
+ghost use Rattle.p3_metric.specs.Entries.{
+  AreBelow,
+  AreWithin,
+  IsJudged,
+  IsSomeLarge,
+  changed,
+  mixed,
+  number_at,
+  poured,
+  products,
+};
+ghost use Rattle.p3_metric.specs.Forms.{one_each};
 
 use indexmap::IndexMap;
 use p3_base::NoMemory;
@@ -44,6 +71,16 @@ fn add<'t>(entries: &mut Entries<'t>, name: &'t [u8], number: i128) -> Result<bo
     let sum = number_of(entries, name) + number;
     entries.insert(name, sum)?;
     Ok(is_within_bound(sum))
+}
+
+/// The entry of one name, whose number is 1.
+pub(crate) fn one_entry<'t>(alloc: Global, name: &'t [u8]) -> Result<Entries<'t>, NoMemory>
+    ensures { IfOk result (λ entries. (other : List ℕ)
+        → number_at entries other ≡ one_each name.now other) }
+{
+    let mut entries = IndexMap::new(alloc);
+    add(&mut entries, name, 1)?;
+    Ok(entries)
 }
 
 /// The product.

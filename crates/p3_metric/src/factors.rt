@@ -3,7 +3,12 @@
 ghost use Rattle.std.specs.Prelude.{◌≡◌, ◌||◌, if◌then◌else◌};
 ghost use Rattle.std.specs.Option.{option_or};
 ghost use Rattle.std.specs.List.{list_any};
-ghost use Rattle.p3_metric.specs.Factors.{first_product, first_product_in, has_mention, have_two_mentions};
+ghost use Rattle.p3_metric.specs.Factors.{
+  first_product,
+  first_product_in,
+  has_mention,
+  have_two_mentions,
+};
 
 use p3_tree::Num;
 

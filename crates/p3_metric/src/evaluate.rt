@@ -1,0 +1,162 @@
+//! The evaluation of a metric to a linear form, up to the first operation that is too large.
+
+ghost use Rattle.std.specs.Prelude.{◌≡◌, ◌≤◌, true, false, IfOk, IfErr, OnOk, OnErr};
+ghost use Rattle.p3_base.specs.declared.refusal.Code.TheVariants.{CostTooLarge};
+ghost use Rattle.p3_tree.specs.Costs.{cost_places as places_of_costs};
+ghost use Rattle.p3_tree.specs.Refusals.Metric.{operations};
+ghost use Rattle.p3_tree.specs.Refusals.Places.{refusal_at};
+ghost use Rattle.p3_tree.specs.Sides.{InProblem, role_of};
+ghost use Rattle.p3_tree.specs.declared.metric.Num.TheVariants as num;
+ghost use Rattle.p3_metric.specs.Evaluation.{IsEvaluated, IsFailure, IsFit};
+ghost use Rattle.p3_metric.specs.declared.error.MetricFail.TheVariants as fail;
+
+use crate::MetricFail;
+use crate::leaves::{constant, count, total_cost};
+use crate::linear::{Linear, Measured, minus, negated, plus, product};
+use p3_base::{Code, Pos, Refusal, Role, Side};
+use p3_tree::{Num, Numeral, Ref, Task};
+use std::alloc::Global;
+
+/// Evaluates expressions over the counts and the total cost of a task.
+#[derive(Drop)]
+pub(crate) struct Evaluator<'t> {
+    pub(crate) alloc: Global,
+    /// The task whose metric is evaluated.
+    pub(crate) task: &'t Task,
+    /// The side of the task.
+    pub(crate) side: Side,
+    /// The text that the metric stands in.
+    pub(crate) role: Role,
+    /// The decimal places of the task's costs.
+    pub(crate) cost_places: u32,
+    ghost sided: { role ≡ role_of side InProblem },
+    ghost counted: { cost_places ≡ places_of_costs task.now },
+}
+
+/// The form where it is small, else the refusal.
+fn accepted<'t>(measured: Measured<'t>, refusal: Refusal) -> Result<Linear<'t>, MetricFail>
+    ensures form { IfOk result (λ form. form ≡ measured.entry.form) }
+    ensures small { OnOk result (measured.entry.small ≡ true) }
+    ensures refusal { IfErr result (λ error. error ≡ fail.Refused refusal) }
+    ensures large { OnErr result (measured.entry.small ≡ false) }
+{
+    let Measured { form, small } = measured;
+    if small {
+        Ok(form)
+    } else {
+        Err(MetricFail::Refused(refusal))
+    }
+}
+
+impl<'t> Evaluator<'t> {
+    /// The refusal of an operation that is too large, at its operator.
+    fn too_large(&self, at: u32) -> Refusal
+        ensures { result ≡ refusal_at CostTooLarge self.now.role at 1 }
+    {
+        Refusal {
+            code: Code::CostTooLarge,
+            pos: Pos {
+                role: self.role,
+                offset: at,
+            },
+            len: 1,
+        }
+    }
+
+    /// The form of the expression, or the first operation that is too large, at its operator.
+    #[cycle(evaluate)]
+    pub(crate) fn evaluate(&self, tree: &'t Num) -> Result<Linear<'t>, MetricFail>
+        requires { IsFit self.now.task.now tree.now }
+        ensures form { IfOk result (IsEvaluated self.now.task.now tree.now) }
+        ensures fails { IfErr result
+            (IsFailure self.now.task.now self.now.role (operations tree.now)) }
+    {
+        match tree {
+            Num::Number(numeral) => Ok(self.number(*numeral)),
+            Num::TotalCost(at) => Ok(self.cost(*at)),
+            Num::Violated(name) => self.violated(name),
+            Num::Neg(at, part) => self.negation(*at, part.get()),
+            Num::Sub(at, first, second) => {
+                let minuend = self.evaluate(first.get())?;
+                let subtrahend = self.evaluate(second.get())?;
+                let measured = minus(self.alloc, minuend, subtrahend)?;
+                accepted(measured, self.too_large(*at))
+            }
+            Num::Sum(at, parts) => self.sum(*at, parts.items()),
+            Num::Product(at, parts) => self.product(*at, parts.items()),
+        }
+    }
+
+    /// The form of a number.
+    fn number(&self, numeral: Numeral) -> Linear<'t>
+        requires { IsFit self.now.task.now (num.Number numeral) }
+        ensures { IsEvaluated self.now.task.now (num.Number numeral) result }
+    {
+        constant(self.alloc, numeral.digits, numeral.places)
+    }
+
+    /// The form of the total cost.
+    fn cost(&self, at: u32) -> Linear<'t>
+        requires { IsFit self.now.task.now (num.TotalCost at) }
+        ensures { IsEvaluated self.now.task.now (num.TotalCost at) result }
+    {
+        total_cost(self.alloc, self.cost_places)
+    }
+
+    /// The form of a count.
+    fn violated(&self, name: &'t Ref) -> Result<Linear<'t>, MetricFail>
+        ensures form { IfOk result (IsEvaluated self.now.task.now (num.Violated name.now)) }
+        ensures fails { IfErr result
+            (IsFailure self.now.task.now self.now.role (operations (num.Violated name.now))) }
+    {
+        let form = count(self.alloc, name.name.bytes())?;
+        Ok(form)
+    }
+
+    /// The form of a negation.
+    #[cycle(evaluate)]
+    fn negation(&self, at: u32, part: &'t Num) -> Result<Linear<'t>, MetricFail>
+        requires { IsFit self.now.task.now (num.Neg at part.now) }
+        ensures form { IfOk result (IsEvaluated self.now.task.now (num.Neg at part.now)) }
+        ensures fails { IfErr result
+            (IsFailure self.now.task.now self.now.role (operations (num.Neg at part.now))) }
+    {
+        let form = self.evaluate(part)?;
+        let measured = negated(self.alloc, form)?;
+        accepted(measured, self.too_large(at))
+    }
+
+    /// The form of a sum.
+    #[cycle(evaluate)]
+    fn sum(&self, at: u32, parts: &'t [Num]) -> Result<Linear<'t>, MetricFail>
+        requires { IsFit self.now.task.now (num.Sum at parts.now) }
+        ensures form { IfOk result (IsEvaluated self.now.task.now (num.Sum at parts.now)) }
+        ensures fails { IfErr result
+            (IsFailure self.now.task.now self.now.role (operations (num.Sum at parts.now))) }
+    {
+        let mut sum = constant(self.alloc, 0, 0);
+        for part in parts {
+            let form = self.evaluate(part)?;
+            let measured = plus(self.alloc, sum, form)?;
+            sum = accepted(measured, self.too_large(at))?;
+        }
+        Ok(sum)
+    }
+
+    /// The form of a product.
+    #[cycle(evaluate)]
+    fn product(&self, at: u32, parts: &'t [Num]) -> Result<Linear<'t>, MetricFail>
+        requires { IsFit self.now.task.now (num.Product at parts.now) }
+        ensures form { IfOk result (IsEvaluated self.now.task.now (num.Product at parts.now)) }
+        ensures fails { IfErr result
+            (IsFailure self.now.task.now self.now.role (operations (num.Product at parts.now))) }
+    {
+        let mut done = constant(self.alloc, 1, 0);
+        for part in parts {
+            let form = self.evaluate(part)?;
+            let measured = product(self.alloc, done, form)?;
+            done = accepted(measured, self.too_large(at))?;
+        }
+        Ok(done)
+    }
+}
