@@ -1,5 +1,5 @@
 -- Changes that stand for the literals of an effect.
-use Rattle.std.proofs.Common.{◌≡◌, ◌∙◌, ℕ, ◌+◌, ◌<◌, ◌≤◌, ◌⊎◌, inl, inr, Bool, true, false, ◌&&◌, List, [], ◌∷◌, ◌++◌, map, length, take, get_or, slice_get, refl, sym, ap, subst, append_assoc, true≢false}
+use Rattle.std.proofs.Common.{◌≡◌, ◌∙◌, ℕ, ◌+◌, ◌<◌, ◌≤◌, inl, inr, Bool, true, false, ◌&&◌, List, [], ◌∷◌, ◌++◌, map, length, take, get_or, refl, sym, ap, subst, append_assoc, true≢false}
 use Rattle.std.specs.Prelude.{flat_map}
 use Rattle.std.specs.List.{list_all}
 use Rattle.std.proofs.Math.Bool.{and-true, and-false}
@@ -8,14 +8,13 @@ use Rattle.std.proofs.lemmas.List.{append-nil}
 use Rattle.std.proofs.lemmas.List.Folds.{flat_map-map, list_all-append}
 use mathlib.Core.Former.{Count}
 use denote.Hole.Carrier.{hidden}
-use Rattle.p3_tree.specs.States.{State}
 use Rattle.p3_formula.specs.Forms.{truth}
 use Rattle.p3_formula.specs.Nodes.{form_of}
 use Rattle.p3_formula.specs.Simplified.{constant}
 use Rattle.p3_formula.specs.declared.form.Change.{Change}
 use Rattle.p3_formula.proofs.NodeLemmas.{form-grows}
 use Rattle.p3_numbers.specs.Conditions.{met}
-use Rattle.p3_numbers.specs.Effects.{PlacedCondition, NumberedLiteral, under, numbered_literals}
+use Rattle.p3_numbers.specs.Effects.{NumberedLiteral, under, numbered_literals}
 use Rattle.p3_numbers.specs.Folds.{fold_effect, fold_effects}
 use Rattle.p3_numbers.specs.Slots.{Slots, bound}
 use Rattle.p3_numbers.specs.declared.condition.Argument.{Argument}
@@ -31,7 +30,6 @@ use Rattle.p3_expansion.specs.Atoms.{GroundAtom, atom_at, Keeps}
 use Rattle.p3_expansion.specs.Changes.{effect_atoms_layer, effect_atoms, both, conditions_meaning, GuardedLiteral, guarded, guarded_literals, ChangeStands, IsIdle, ChangesStand, Guards, ChangesUnder, AddsChange}
 use Rattle.p3_expansion.specs.Expansions.{Stands, Grows, Means, Expands, IsJoined}
 use Rattle.p3_expansion.specs.Meanings.{Meaning, condition_atoms, condition_meaning}
-use Rattle.p3_expansion.specs.Statics.{IsSettled}
 use Rattle.p3_expansion.specs.declared.effect.Guard.{Guard}
 use Rattle.p3_expansion.specs.declared.statics.Statics.{Statics}
 use Rattle.p3_expansion.specs.declared.work.Work.{Work}
@@ -47,7 +45,7 @@ module _ {A : Type 0} (layer : NumberedEffect-F A → A) where
   row_effects end_of-NumberedEffect = refl
   row_effects (more_of-NumberedEffect part rest) = λ i. fold_effect layer part ∷ row_effects rest i
 
-  hidden_effects : (parts : List NumberedEffect) → fold_effects layer (hidden-the_row-NumberedEffect-0 parts) ≡ map (fold_effect layer) parts
+  pub hidden_effects : (parts : List NumberedEffect) → fold_effects layer (hidden-the_row-NumberedEffect-0 parts) ≡ map (fold_effect layer) parts
   hidden_effects parts = row_effects (hidden-the_row-NumberedEffect-0 parts) ∙ ap (map (fold_effect layer)) (items_hidden-the_row-NumberedEffect-0 parts)
 
 all-assoc : (a b c : Bool) → (a && (b && c)) ≡ ((a && b) && c)

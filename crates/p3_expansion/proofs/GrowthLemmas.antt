@@ -1,5 +1,5 @@
 -- Atoms and nodes keep their numbers.
-use Rattle.std.proofs.Common.{◌≡◌, ◌∙◌, ℕ, ◌≤◌, Bool, true, false, if◌then◌else◌, List, [], ◌∷◌, ◌++◌, length, slice_get, Some, refl, sym, subst, arith, zero, suc, length-append}
+use Rattle.std.proofs.Common.{◌≡◌, ◌∙◌, ℕ, Bool, true, false, if◌then◌else◌, List, [], ◌∷◌, ◌++◌, slice_get, Some, refl, sym, subst, arith, zero, suc, length-append}
 use Rattle.std.specs.Prelude.{bytes_eq}
 use Rattle.std.specs.List.{list_any, list_all}
 use Rattle.std.proofs.lemmas.Bool.{and_from}
@@ -17,7 +17,7 @@ Covers whole part = (passes : GroundAtom → Bool) → list_all passes whole ≡
 keeps-refl : (atoms : List GroundAtom) → Keeps atoms atoms
 keeps-refl atoms = record { longer = omega arith; kept = λ k atom here. here }
 
-keeps-trans : (first second third : List GroundAtom) → Keeps first second → Keeps second third → Keeps first third
+pub keeps-trans : (first second third : List GroundAtom) → Keeps first second → Keeps second third → Keeps first third
 keeps-trans first second third a b = record { longer = omega (arith, a.longer, b.longer); kept = λ k atom here. b.kept k atom (a.kept k atom here) }
 
 get-append : (xs ys : List GroundAtom) (k : ℕ) (x : GroundAtom) → slice_get xs k ≡ Some x → slice_get (xs ++ ys) k ≡ Some x

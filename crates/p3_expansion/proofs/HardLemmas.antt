@@ -1,5 +1,5 @@
 -- What the hard part of a goal means that is built of given parts.
-use Rattle.std.proofs.Common.{◌≡◌, ◌∙◌, ℕ, true, List, [], ◌∷◌, map, refl, ap}
+use Rattle.std.proofs.Common.{◌≡◌, ◌∙◌, ℕ, true, List, ◌∷◌, map, refl, ap}
 use Rattle.std.specs.Prelude.{flat_map}
 use Rattle.std.proofs.lemmas.List.Folds.{flat_map-map}
 use mathlib.Core.Former.{Count}
@@ -36,11 +36,11 @@ module _ (N : Numbers) (slots : Slots) where
   unfolding hard_met
   hard-Soft preference s = refl
 
-  atoms-Both : (parts : List Goal) → hard_atoms N slots (Both parts) ≡ flat_map (hard_atoms N slots) parts
+  pub atoms-Both : (parts : List Goal) → hard_atoms N slots (Both parts) ≡ flat_map (hard_atoms N slots) parts
   unfolding hard_atoms
   atoms-Both parts = ap (flat_map (λ part. part slots)) (hidden_goals (hard_atoms_layer N) parts) ∙ flat_map-map (λ part. part slots) (fold_goal (hard_atoms_layer N)) parts
 
-  atoms-Each : (ranges : List ℕ) (body : Goal) → hard_atoms N slots (Each ranges body) ≡ flat_map (λ inner. hard_atoms N inner body) (bound N slots ranges)
+  pub atoms-Each : (ranges : List ℕ) (body : Goal) → hard_atoms N slots (Each ranges body) ≡ flat_map (λ inner. hard_atoms N inner body) (bound N slots ranges)
   unfolding hard_atoms hidden-the_row-Goal-1 hidden
   atoms-Each ranges body = refl
 

@@ -8,3 +8,14 @@ pub mod HardLemmas
 pub mod WalkLemmas
 pub mod PreferenceLemmas
 pub mod EffectLemmas
+pub mod OperatorLemmas
+pub mod InstanceLemmas
+pub mod TaskLemmas
+pub mod NameLemmas
+pub mod NamedAtoms
+pub mod StartLemmas
+pub mod BoundLemmas
+pub mod StaticLemmas
+pub mod NextLemmas
+pub mod NamedReads
+pub mod NamedGoalLemmas

@@ -1,5 +1,5 @@
 -- What a condition means that is built of given parts.
-use Rattle.std.proofs.Common.{◌≡◌, ◌∙◌, ℕ, ◌+◌, ◌<◌, ◌==◌, Bool, true, false, not, ◌||◌, List, [], ◌∷◌, ◌++◌, map, length, take, get_or, refl, sym, ap, subst, arith, zero, suc}
+use Rattle.std.proofs.Common.{◌≡◌, ◌∙◌, ℕ, ◌+◌, ◌<◌, ◌==◌, Bool, true, false, not, ◌||◌, List, [], ◌∷◌, ◌++◌, map, length, take, get_or, refl, sym, ap, arith, zero, suc}
 use Rattle.std.specs.Prelude.{flat_map}
 use Rattle.std.specs.List.{list_any, list_all}
 use Rattle.std.proofs.Math.Bool.{or-false}
@@ -70,7 +70,7 @@ module _ {A : Type 0} (layer : Condition-F A → A) where
   row_conditions end_of-Condition = refl
   row_conditions (more_of-Condition part rest) = λ i. fold_condition layer part ∷ row_conditions rest i
 
-  hidden_conditions : (parts : List Condition) → fold_conditions layer (hidden-the_row-Condition-0 parts) ≡ map (fold_condition layer) parts
+  pub hidden_conditions : (parts : List Condition) → fold_conditions layer (hidden-the_row-Condition-0 parts) ≡ map (fold_condition layer) parts
   hidden_conditions parts = row_conditions (hidden-the_row-Condition-0 parts) ∙ ap (map (fold_condition layer)) (items_hidden-the_row-Condition-0 parts)
 
 module _ (N : Numbers) (slots : Slots) where
@@ -82,27 +82,27 @@ module _ (N : Numbers) (slots : Slots) where
   unfolding met
   meaning-Equal left right s = refl
 
-  atoms-And : (parts : List Condition) → condition_atoms N slots (And parts) ≡ flat_map (condition_atoms N slots) parts
+  pub atoms-And : (parts : List Condition) → condition_atoms N slots (And parts) ≡ flat_map (condition_atoms N slots) parts
   unfolding condition_atoms
   atoms-And parts = ap (flat_map (λ part. part slots)) (hidden_conditions (atoms_layer N) parts) ∙ flat_map-map (λ part. part slots) (fold_condition (atoms_layer N)) parts
 
-  atoms-Or : (parts : List Condition) → condition_atoms N slots (Or parts) ≡ flat_map (condition_atoms N slots) parts
+  pub atoms-Or : (parts : List Condition) → condition_atoms N slots (Or parts) ≡ flat_map (condition_atoms N slots) parts
   unfolding condition_atoms
   atoms-Or parts = ap (flat_map (λ part. part slots)) (hidden_conditions (atoms_layer N) parts) ∙ flat_map-map (λ part. part slots) (fold_condition (atoms_layer N)) parts
 
-  atoms-Not : (part : Condition) → condition_atoms N slots (Not part) ≡ condition_atoms N slots part
+  pub atoms-Not : (part : Condition) → condition_atoms N slots (Not part) ≡ condition_atoms N slots part
   unfolding condition_atoms hidden-the_row-Condition-1 hidden
   atoms-Not part = refl
 
-  atoms-Imply : (first second : Condition) → condition_atoms N slots (Imply first second) ≡ condition_atoms N slots first ++ condition_atoms N slots second
+  pub atoms-Imply : (first second : Condition) → condition_atoms N slots (Imply first second) ≡ condition_atoms N slots first ++ condition_atoms N slots second
   unfolding condition_atoms hidden-the_row-Condition-1 hidden
   atoms-Imply first second = refl
 
-  atoms-Exists : (ranges : List ℕ) (body : Condition) → condition_atoms N slots (Exists ranges body) ≡ flat_map (λ inner. condition_atoms N inner body) (bound N slots ranges)
+  pub atoms-Exists : (ranges : List ℕ) (body : Condition) → condition_atoms N slots (Exists ranges body) ≡ flat_map (λ inner. condition_atoms N inner body) (bound N slots ranges)
   unfolding condition_atoms hidden-the_row-Condition-1 hidden
   atoms-Exists ranges body = refl
 
-  atoms-Forall : (ranges : List ℕ) (body : Condition) → condition_atoms N slots (Forall ranges body) ≡ flat_map (λ inner. condition_atoms N inner body) (bound N slots ranges)
+  pub atoms-Forall : (ranges : List ℕ) (body : Condition) → condition_atoms N slots (Forall ranges body) ≡ flat_map (λ inner. condition_atoms N inner body) (bound N slots ranges)
   unfolding condition_atoms hidden-the_row-Condition-1 hidden
   atoms-Forall ranges body = refl
 

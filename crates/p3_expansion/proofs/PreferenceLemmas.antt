@@ -1,29 +1,28 @@
 -- The preferences of a goal that is built of given parts.
 use Rattle.std.proofs.Common.{◌≡◌, ◌∙◌, ℕ, List, [], ◌∷◌, ◌++◌, refl, sym, ap, subst}
 use Rattle.std.specs.Prelude.{flat_map}
-use Rattle.std.proofs.lemmas.List.Folds.{flat_map-map}
-use denote.Hole.Carrier.{hidden}
-use Rattle.p3_formula.specs.declared.form.Form.{Form}
+use Rattle.std.proofs.lemmas.List.{append-nil}
 use Rattle.p3_formula.specs.declared.modal.GroundPref.{GroundPref}
-use Rattle.p3_numbers.specs.Folds.{fold_goal}
 use Rattle.p3_numbers.specs.Goals.{PlacedPreference, preferences}
 use Rattle.p3_numbers.specs.Slots.{Slots, bound}
 use Rattle.p3_numbers.specs.declared.condition.Condition.{Condition}
 use Rattle.p3_numbers.specs.declared.goal.Goal.{Goal}
-use Rattle.p3_numbers.specs.declared.goal.Goal.TheBlock.{hidden-the_row-Goal-1}
 use Rattle.p3_numbers.specs.declared.goal.Goal.TheVariants.{Plain, Both, Each, Soft}
 use Rattle.p3_numbers.specs.declared.goal.Preference.{Preference}
 use Rattle.p3_numbers.specs.declared.numbers.Numbers.{Numbers}
+use Rattle.p3_numbers.proofs.GoalLemmas.{preferences-Both, preferences-Each}
 use Rattle.p3_expansion.specs.Atoms.{GroundAtom, Keeps}
 use Rattle.p3_expansion.specs.Forms.{Makes}
 use Rattle.p3_expansion.specs.Meanings.{condition_atoms, condition_meaning}
-use Rattle.p3_expansion.specs.Preferences.{preference_atoms_layer, preference_atoms, PreferenceStands, PreferencesStand}
+use Rattle.p3_expansion.specs.Preferences.{preference_atoms, PreferenceStands, PreferencesStand}
 use Rattle.p3_expansion.specs.Walks.{Pushes}
 use Rattle.p3_expansion.specs.declared.statics.Statics.{Statics}
 use Rattle.p3_expansion.specs.declared.work.Work.{Work}
 use Rattle.p3_expansion.proofs.ExpansionLemmas.{stands-grows}
-use Rattle.p3_expansion.proofs.HardLemmas.{hidden_goals}
-use Rattle.p3_expansion.proofs.WalkLemmas.{pushes-by, zip-weaker, zip-push}
+use Rattle.p3_expansion.proofs.WalkLemmas.{flat-flat, pushes-by, zip-weaker, zip-push}
+
+abbrev placed-atoms : Numbers → PlacedPreference → List GroundAtom
+placed-atoms N placed = condition_atoms N placed.slots placed.body
 
 module _ (N : Numbers) (slots : Slots) where
   pub preferences-Plain : (condition : Condition) → preferences N slots (Plain condition) ≡ []
@@ -31,27 +30,27 @@ module _ (N : Numbers) (slots : Slots) where
   preferences-Plain condition = refl
 
   pub atoms-Plain : (condition : Condition) → preference_atoms N slots (Plain condition) ≡ []
-  unfolding preference_atoms
+  unfolding preference_atoms preferences
   atoms-Plain condition = refl
 
   preferences-Soft : (preference : Preference) → preferences N slots (Soft preference) ≡ record { at = preference.at; name = preference.name; body = preference.body; slots = slots } ∷ []
   unfolding preferences
   preferences-Soft preference = refl
 
-  atoms-Soft : (preference : Preference) → preference_atoms N slots (Soft preference) ≡ condition_atoms N slots preference.body
+  pub atoms-Soft : (preference : Preference) → preference_atoms N slots (Soft preference) ≡ condition_atoms N slots preference.body
   unfolding preference_atoms
-  atoms-Soft preference = refl
+  atoms-Soft preference = ap (flat_map (placed-atoms N)) (preferences-Soft preference) ∙ append-nil (condition_atoms N slots preference.body)
 
   pub atoms-Both : (parts : List Goal) → preference_atoms N slots (Both parts) ≡ flat_map (preference_atoms N slots) parts
   unfolding preference_atoms
-  atoms-Both parts = ap (flat_map (λ part. part slots)) (hidden_goals (preference_atoms_layer N) parts) ∙ flat_map-map (λ part. part slots) (fold_goal (preference_atoms_layer N)) parts
+  atoms-Both parts = ap (flat_map (placed-atoms N)) (preferences-Both N slots parts) ∙ flat-flat (placed-atoms N) (preferences N slots) parts
 
   pub atoms-Each : (ranges : List ℕ) (body : Goal) → preference_atoms N slots (Each ranges body) ≡ flat_map (λ inner. preference_atoms N inner body) (bound N slots ranges)
-  unfolding preference_atoms hidden-the_row-Goal-1 hidden
-  atoms-Each ranges body = refl
+  unfolding preference_atoms
+  atoms-Each ranges body = ap (flat_map (placed-atoms N)) (preferences-Each N slots ranges body) ∙ flat-flat (placed-atoms N) (λ inner. preferences N inner body) (bound N slots ranges)
 
   module _ (S : Statics) where
-    stand-keeps : (old new : List GroundAtom) → Keeps old new → (meant : List PlacedPreference) (made : List GroundPref) → PreferencesStand N S old meant made → PreferencesStand N S new meant made
+    pub stand-keeps : (old new : List GroundAtom) → Keeps old new → (meant : List PlacedPreference) (made : List GroundPref) → PreferencesStand N S old meant made → PreferencesStand N S new meant made
     stand-keeps old new keeps meant made stand =
         zip-weaker (PreferenceStands N S old) (PreferenceStands N S new)
         (λ m a one. record { name = one.name; body = stands-grows N S old new (condition_meaning N m.slots m.body) a.body keeps one.body; tidy = one.tidy }) meant made stand

@@ -1,5 +1,5 @@
 -- Lists that are made of what is meant, one part after another.
-use Rattle.std.proofs.Common.{◌≡◌, ◌∙◌, ℕ, ◌+◌, ◌<◌, ◌≤◌, List, [], ◌∷◌, ◌++◌, length, take, get_or, true, sym, ap, subst, append_assoc, arith, zero, suc}
+use Rattle.std.proofs.Common.{◌≡◌, ◌∙◌, ℕ, ◌+◌, ◌<◌, ◌≤◌, Bool, true, List, [], ◌∷◌, ◌++◌, length, take, get_or, refl, sym, ap, subst, append_assoc, arith, zero, suc}
 use Rattle.std.specs.Prelude.{flat_map}
 use Rattle.std.specs.List.{list_all, AllZip}
 use Rattle.std.proofs.lemmas.Bool.{and_parts}
@@ -19,6 +19,10 @@ covers-flat reads (other ∷ parts) zero part within is passes all =
 covers-flat reads (other ∷ parts) (suc i) part within is passes all =
     covers-flat reads parts i part (omega arith) is passes (and_parts (list_all passes (reads other)) _ (sym (list_all-append passes (reads other) (flat_map reads parts)) ∙ all)).1
 
+pub flat-flat : {A B C : Type 0} (f : B → List C) (g : A → List B) (xs : List A) → flat_map f (flat_map g xs) ≡ flat_map (λ x. flat_map f (g x)) xs
+flat-flat f g [] = refl
+flat-flat f g (x ∷ xs) = flat_map-append f (g x) (flat_map g xs) ∙ ap (λ rest. flat_map f (g x) ++ rest) (flat-flat f g xs)
+
 -- relations that hold entry by entry
 pub zip-weaker : {M A : Type 0} (R Q : M → A → Type 0) → ((m : M) (a : A) → R m a → Q m a) → (ms : List M) (made : List A) → AllZip R ms made → AllZip Q ms made
 zip-weaker R Q weaker [] [] all = all
@@ -32,6 +36,12 @@ zip-push R [] (b ∷ made) m a all one = absurd all
 zip-push R (n ∷ ms) [] m a all one = absurd all
 zip-push R (n ∷ ms) (b ∷ made) m a all one = (all.0, zip-push R ms made m a all.1 one)
 
+pub zip-append : {M A : Type 0} (R : M → A → Type 0) (ms : List M) (made : List A) (more : List M) (others : List A) → AllZip R ms made → AllZip R more others → AllZip R (ms ++ more) (made ++ others)
+zip-append R [] [] more others first second = second
+zip-append R [] (b ∷ made) more others first second = absurd first
+zip-append R (n ∷ ms) [] more others first second = absurd first
+zip-append R (n ∷ ms) (b ∷ made) more others first second = (first.0, zip-append R ms made more others first.1 second)
+
 module _ {M A : Type 0} (Stand : List GroundAtom → List M → List A → Type 0) where
   pub pushes-none : (reads : List GroundAtom) (work : Work) (items : List A) → Pushes Stand reads work work [] items items
   pushes-none reads work items = record { grows = grows-refl reads work; made = λ those stand. subst (λ all. Stand work.atoms all items) (sym (append-nil those)) stand }
@@ -44,6 +54,19 @@ module _ {M A : Type 0} (Stand : List GroundAtom → List M → List A → Type 
     grows = grows-trans reads a b c first.grows (grows-wider reads part b c covers second.grows);
     made = λ those stand. subst (λ all. Stand c.atoms all r) (append_assoc those xs ys) (second.made (those ++ xs) (first.made those stand));
   }
+
+  -- two stretches, whose atoms are those of what is meant
+  pub pushes-join : (reads : M → List GroundAtom) (a b c : Work) (xs ys : List M) (p q r : List A) → Pushes Stand (flat_map reads xs) a b xs p q → Pushes Stand (flat_map reads ys) b c ys q r → Pushes Stand (flat_map reads (xs ++ ys)) a c (xs ++ ys) p r
+  pushes-join reads a b c xs ys p q r first second = record {
+    grows = grows-trans all a b c (grows-wider all (flat_map reads xs) a b (λ passes those. (split passes those).0) first.grows) (grows-wider all (flat_map reads ys) b c (λ passes those. (split passes those).1) second.grows);
+    made = λ those stand. subst (λ meant. Stand c.atoms meant r) (append_assoc those xs ys) (second.made (those ++ xs) (first.made those stand));
+  }
+    where
+      all : List GroundAtom
+      all = flat_map reads (xs ++ ys)
+
+      split : (passes : GroundAtom → Bool) → list_all passes all ≡ true → (list_all passes (flat_map reads xs) ≡ true) × (list_all passes (flat_map reads ys) ≡ true)
+      split passes those = and_parts (list_all passes (flat_map reads xs)) _ (sym (ap (list_all passes) (flat_map-append reads xs ys) ∙ list_all-append passes (flat_map reads xs) (flat_map reads ys)) ∙ those)
 
   module _ {B : Type 0} (meant : B → List M) (reads : B → List GroundAtom) (parts : List B) where
     pub pushes-part : (a b c : Work) (p q r : List A) (i : ℕ) (part : B) → i < length parts → part ≡ get_or parts i part → Pushes Stand (flat_map reads parts) a b (flat_map meant (take i parts)) p q → Pushes Stand (reads part) b c (meant part) q r

@@ -1,5 +1,5 @@
 -- Ground atoms: a predicate and its objects, as numbers.
-use Rattle.std.specs.Prelude.{◌≡◌, ℕ, ◌≤◌, Bool, true, List, [], ◌∷◌, ◌++◌, length, slice_get, Some, bytes_eq, if◌then◌else◌}
+use Rattle.std.specs.Prelude.{◌≡◌, ℕ, ◌≤◌, nat_lt, Bool, true, false, ◌&&◌, List, [], ◌∷◌, ◌++◌, length, slice_get, Some, bytes_eq, if◌then◌else◌}
 use Rattle.std.specs.List.{list_any, list_all}
 use Rattle.p3_tree.specs.declared.state.Fact.{Fact}
 use Rattle.p3_numbers.specs.Slots.{Slots, values_of, name_at, object_names}
@@ -18,6 +18,14 @@ atom_at slots predicate args = predicate ∷ values_of slots args
 abbrev pub fact_of : Numbers → GroundAtom → Fact
 fact_of N [] = record { name = []; args = [] }
 fact_of N (predicate ∷ objects) = record { name = name_at N.predicates predicate; args = object_names N objects }
+
+-- its predicate and its objects have names
+abbrev pub is_named : Numbers → GroundAtom → Bool
+is_named N [] = false
+is_named N (predicate ∷ objects) = nat_lt predicate (length N.predicates) && list_all (λ object. nat_lt object (length N.objects)) objects
+
+abbrev pub are_named : Numbers → List GroundAtom → Bool
+are_named N atoms = list_all (is_named N) atoms
 
 -- ---- lists of atoms, in which an atom's number is its place
 

@@ -1,5 +1,5 @@
 -- What it is that a form or a numbered node stands for a meaning, in the states that keep what no step changes.
-use Rattle.std.specs.Prelude.{◌≡◌, ℕ, ◌<◌, Bool, true, not, List, [], ◌∷◌, ◌++◌, length, map, slice_get, Some, All}
+use Rattle.std.specs.Prelude.{◌≡◌, ℕ, ◌<◌, Bool, true, not, List, length, map, slice_get, Some, All}
 use Rattle.std.specs.List.{list_all}
 use Rattle.p3_tree.specs.States.{State, has_fact}
 use Rattle.p3_formula.specs.Forms.{truth, is_set, has_atoms}

@@ -7,3 +7,10 @@ pub mod Hard
 pub mod Walks
 pub mod Preferences
 pub mod Changes
+pub mod Operators
+pub mod Instances
+pub mod TaskConstraints
+pub mod NextStates
+pub mod Bounds
+pub mod NamedReads
+pub mod NamedGoals

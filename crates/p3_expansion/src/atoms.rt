@@ -1,6 +1,6 @@
 //! Ground atoms by number.
 
-ghost use Rattle.std.specs.Prelude.{◌≡◌, ◌<◌, [], length, slice_get, Some, OnOk, OnErr, IfOk, bytes_eq};
+ghost use Rattle.std.specs.Prelude.{◌≡◌, ◌<◌, ◌≤◌, [], length, slice_get, Some, OnOk, OnErr, IfOk, IfSome, IfNone, bytes_eq};
 ghost use Rattle.std.specs.List.{list_any};
 ghost use Rattle.p3_expansion.specs.Atoms.{AreDistinct, with_atom};
 
@@ -48,6 +48,17 @@ impl Atoms {
         ensures { result ≡ list_any (bytes_eq atom.now) self.now }
     {
         self.words.contains(atom)
+    }
+
+    /// The atom of the number.
+    pub fn get(&self, number: usize) -> Option<&[u32]>
+        ensures stored { IfSome result (λ atom. slice_get self.now number ≡ Some atom.now) }
+        ensures none { IfNone result (length self.now ≤ number) }
+    {
+        match self.words.get_index(number) {
+            Some(atom) => Some(atom.as_slice()),
+            None => None,
+        }
     }
 
     /// The number of the atom, which goes last if it is new.

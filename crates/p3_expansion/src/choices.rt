@@ -9,7 +9,7 @@ use p3_base::NoMemory;
 use p3_numbers::Numbers;
 
 /// The objects of a range.
-fn objects_of(numbers: &Numbers, range: u32) -> &[u32]
+pub fn objects_of(numbers: &Numbers, range: u32) -> &[u32]
     ensures { result.now ≡ range_at numbers.now range }
 {
     match numbers.ranges.get(range as usize) {
@@ -19,7 +19,7 @@ fn objects_of(numbers: &Numbers, range: u32) -> &[u32]
 }
 
 /// The object at a place.
-fn object_at(objects: &[u32], place: usize) -> u32
+pub fn object_at(objects: &[u32], place: usize) -> u32
     ensures { result ≡ slice_index_or objects.now place 0 }
 {
     match objects.get(place) {
@@ -41,7 +41,7 @@ fn has_empty(numbers: &Numbers, ranges: &[u32]) -> bool
 }
 
 /// How many choices there are.
-pub(crate) fn choice_count(numbers: &Numbers, ranges: &[u32]) -> Result<usize, NoMemory>
+pub fn choice_count(numbers: &Numbers, ranges: &[u32]) -> Result<usize, NoMemory>
     ensures { IfOk result (λ count. count ≡ count_of numbers.now ranges.now) }
 {
     if has_empty(numbers, ranges) {
@@ -82,7 +82,7 @@ fn push_choice(
 }
 
 /// Puts the objects of the choice of that number behind the first objects in the slots.
-pub(crate) fn place_choice(
+pub fn place_choice(
     slots: &mut Vec<u32>,
     first: usize,
     numbers: &Numbers,

@@ -1,14 +1,23 @@
 //! What no step changes.
 
-ghost use Rattle.std.specs.Prelude.{◌≡◌, length, nat_lt, false, [], replicate, OnOk, OnErr, IfOk, bytes_eq};
+ghost use Rattle.std.specs.Prelude.{◌≡◌, length, nat_lt, IfOk};
 ghost use Rattle.std.specs.List.{list_all};
-ghost use Rattle.p3_expansion.specs.Atoms.{with_atom};
-ghost use Rattle.p3_expansion.specs.Statics.{is_static as unchanged, is_decided as decided_by};
+ghost use Rattle.p3_tree.specs.Offences.{WellFormed};
+ghost use Rattle.p3_tree.specs.declared.task.Task.{Task};
+ghost use Rattle.p3_numbers.specs.Tasks.{IsNumberedTask};
+ghost use Rattle.p3_expansion.specs.Statics.{
+  AreStatics,
+  TellStatics,
+  is_decided as decided_by,
+  is_static as unchanged,
+};
 
 use crate::Atoms;
+use crate::changed::changed_bits;
+use crate::start::start_atoms;
 use p3_base::NoMemory;
 use p3_formula::Bits;
-use p3_numbers::Numbers;
+use p3_numbers::{NumberedTask, Numbers};
 use std::alloc::Global;
 
 /// Which predicates effects name, and the atoms that hold at the start.
@@ -21,25 +30,15 @@ pub struct Statics {
 }
 
 impl Statics {
-    /// So many predicates that no effect names, and no atom.
-    pub fn new(alloc: Global, predicates: usize) -> Result<Statics, NoMemory>
-        ensures changed { IfOk result (λ statics. statics.changed ≡ replicate predicates false) }
-        ensures facts { IfOk result (λ statics. statics.facts ≡ []) }
+    /// What no step of a task changes.
+    pub fn of(alloc: Global, task: &NumberedTask) -> Result<Statics, NoMemory>
+        ensures are { IfOk result (λ statics. AreStatics task.now statics) }
+        ensures tell { IfOk result (λ statics. (T : Task) → WellFormed T → IsNumberedTask T task.now
+            → TellStatics T task.now.numbers statics) }
     {
-        let changed = Bits::new(alloc, predicates)?;
-        Ok(Statics {
-            changed,
-            facts: Atoms::new(alloc),
-        })
-    }
-
-    /// The atom holds at the start.
-    pub fn add_fact(&mut self, alloc: Global, atom: &[u32]) -> Result<(), NoMemory>
-        ensures facts { OnOk result (self.new.facts ≡ with_atom self.old.facts atom.now) }
-        ensures changed { self.new.changed ≡ self.old.changed }
-    {
-        self.facts.number_of(alloc, atom)?;
-        Ok(())
+        let changed = changed_bits(alloc, task)?;
+        let facts = start_atoms(alloc, task)?;
+        Ok(Statics { changed, facts })
     }
 
     /// Whether the predicate has a name and no effect names it.

@@ -175,14 +175,14 @@ fn value_of(slots: &[u32], argument: Argument) -> u32
 }
 
 /// Whether two arguments mean the same object.
-pub(crate) fn are_same(slots: &[u32], left: Argument, right: Argument) -> bool
+pub fn are_same(slots: &[u32], left: Argument, right: Argument) -> bool
     ensures { result ≡ (meaning_of slots.now left == meaning_of slots.now right) }
 {
     value_of(slots, left) == value_of(slots, right)
 }
 
 /// Puts a predicate and what its arguments mean in the place of the words.
-fn spell(
+pub fn spell(
     words: &mut Vec<u32>,
     slots: &[u32],
     predicate: u32,

@@ -1,6 +1,5 @@
-use Rattle.std.proofs.Common.{rules, ◌≡◌, ◌∙◌, ◌*◌, ◌+◌, length, drop, sym, ap, arith}
-use Rattle.p3_numbers.specs.Choices.{choice_count}
-use Rattle.p3_expansion.proofs.ChoiceLemmas.{count-next, count-end, product-next}
+use Rattle.std.proofs.Common.{rules, ◌≡◌, ◌∙◌, ◌*◌, length, sym, ap, arith}
+use Rattle.p3_expansion.proofs.ChoiceLemmas.{count-end, product-next}
 use Rattle.p3_expansion.proofs.choices.choice_count.Goals as goal
 
 pub loop-range-preserved : goal.loop-range-preserved
