@@ -1,0 +1,3 @@
+pub mod PossibleLemmas
+pub mod PossibleLaws
+pub mod StretchLemmas

@@ -1,0 +1,84 @@
+//! The steps of all actions.
+
+ghost use Rattle.std.specs.Prelude.{◌≡◌, ◌+◌, ◌≤◌, IfOk, OnOk};
+ghost use Rattle.p3_numbers.specs.Choices.{choice_count as count_of};
+ghost use Rattle.p3_expansion.specs.Walks.{Pushes};
+ghost use Rattle.p3_steps.specs.Steps.{
+  MakesSteps,
+  StepsAreMade,
+  action_steps,
+  all_atoms,
+  count_of_steps,
+};
+
+use crate::made::step_at;
+use p3_base::{List, NoMemory};
+use p3_candidates::candidates;
+use p3_costs::Costs;
+use p3_expansion::{Statics, Work, choice_count, place_choice};
+use p3_formula::GroundStep;
+use p3_numbers::{NumberedAction, NumberedTask};
+
+/// Puts the steps of an action that may begin behind those made; their numbers follow on those of
+/// so many steps.
+fn push_action_steps(
+    task: &NumberedTask,
+    statics: &Statics,
+    costs: &Costs,
+    work: &mut Work,
+    action: &NumberedAction,
+    first: u32,
+    made: &mut List<GroundStep>,
+) -> Result<(), NoMemory>
+    requires few { first + count_of task.now.numbers action.now.ranges ≤ 20000000 }
+    requires values { costs.now.values.now ≡ task.now.values }
+    ensures { OnOk result (Pushes (StepsAreMade task.now statics.now costs.now.places)
+        (all_atoms task.now.numbers (action_steps task.now.numbers statics.now action.now first))
+        work.old work.new
+        (action_steps task.now.numbers statics.now action.now first) made.old made.new) }
+{
+    let numbers = &task.numbers;
+    let ranges = action.ranges.items();
+    let kept = candidates(work.alloc, numbers, statics, ranges, &action.pre)?;
+    let count = choice_count(numbers, ranges)?;
+    let mut words = Vec::new(work.alloc);
+    let mut slots = Vec::new(work.alloc);
+    for choice in kept.as_slice() {
+        place_choice(&mut slots, 0, numbers, ranges, count, *choice as usize)?;
+        let step = step_at(
+            task,
+            statics,
+            costs,
+            work,
+            &mut words,
+            slots.as_slice(),
+            action,
+            first,
+            *choice,
+        )?;
+        made.push(step)?;
+    }
+    Ok(())
+}
+
+/// The steps of a numbered task that may begin in some state that keeps what no step changes, each
+/// with its number among all steps, rising. Nothing of a step that is left out is expanded.
+pub fn steps(
+    task: &NumberedTask,
+    statics: &Statics,
+    costs: &Costs,
+    work: &mut Work,
+) -> Result<List<GroundStep>, NoMemory>
+    requires few { count_of_steps task.now.numbers task.now.actions ≤ 20000000 }
+    requires values { costs.now.values.now ≡ task.now.values }
+    ensures { IfOk result
+        (MakesSteps task.now statics.now costs.now.places work.old work.new) }
+{
+    let mut made = List::new(work.alloc);
+    let mut first = 0u32;
+    for action in task.actions.items() {
+        push_action_steps(task, statics, costs, work, action, first, &mut made)?;
+        first += choice_count(&task.numbers, action.ranges.items())? as u32;
+    }
+    Ok(made)
+}

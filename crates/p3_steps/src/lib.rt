@@ -1,0 +1,7 @@
+//! The steps of a numbered task that may begin, as ground steps.
+#![tactic(auto)]
+
+mod actions;
+mod made;
+
+pub use actions::steps;

@@ -1,0 +1,45 @@
+//! One step of a numbered task as a ground step.
+
+ghost use Rattle.std.specs.Prelude.{◌≡◌, ◌+◌, ◌≤◌, IfOk};
+ghost use Rattle.p3_numbers.specs.Choices.{choice as objects_of_choice};
+ghost use Rattle.p3_steps.specs.Steps.{MakesStep, planned_step};
+
+use p3_base::{List, NoMemory};
+use p3_costs::Costs;
+use p3_expansion::{Statics, Work, changes, hard_form, push_preferences};
+use p3_formula::GroundStep;
+use p3_numbers::{NumberedAction, NumberedTask};
+
+/// The ground step of an action at the objects in the slots, which are those of the choice of that
+/// number. Its number follows on those of so many steps.
+pub(crate) fn step_at(
+    task: &NumberedTask,
+    statics: &Statics,
+    costs: &Costs,
+    work: &mut Work,
+    words: &mut Vec<u32>,
+    slots: &[u32],
+    action: &NumberedAction,
+    first: u32,
+    choice: u32,
+) -> Result<GroundStep, NoMemory>
+    requires slots { slots.now ≡ objects_of_choice task.now.numbers action.now.ranges choice }
+    requires few { first + choice ≤ 20000000 }
+    requires values { costs.now.values.now ≡ task.now.values }
+    ensures { IfOk result (MakesStep task.now statics.now costs.now.places
+        (planned_step action.now first choice) work.old work.new) }
+{
+    let numbers = &task.numbers;
+    let pre = hard_form(numbers, statics, work, slots, &action.pre)?;
+    let mut prefs = List::new(work.alloc);
+    push_preferences(numbers, statics, work, slots, &action.pre, &mut prefs)?;
+    let effects = changes(numbers, statics, work, slots, &action.effect)?;
+    let cost = costs.cost(words, slots, &action.effect)?;
+    Ok(GroundStep {
+        number: first + choice,
+        pre,
+        prefs,
+        effects,
+        cost,
+    })
+}
