@@ -11,3 +11,15 @@ pub mod MayGrows
 pub mod MayFitLaws
 pub mod Pruning
 pub mod Worked
+pub mod KnownNames
+pub mod OwnAtoms
+pub mod StepParts
+pub mod PrunedSparse
+pub mod GroundingLaws
+pub mod StepConjuncts
+pub mod PlannedSteps
+pub mod ExpandedLaws
+pub mod PutTogether
+pub mod StepChoices
+pub mod WholeLaws
+pub mod InitialLemmas

@@ -4,3 +4,9 @@ pub mod Sparse
 pub mod Pruned
 pub mod PlansByNumber
 pub mod Worked
+pub mod Expanded
+pub mod StepParts
+pub mod Grounding
+pub mod Planned
+pub mod Whole
+pub mod Rests

@@ -1,0 +1,55 @@
+-- What is put together of the steps that may begin is a grounding, without the steps that fit over no closed set of atoms.
+use Rattle.std.proofs.Common.{◌≡◌, ℕ, Bool, true, false, List, None, refl, sym, subst, true≢false}
+use Rattle.std.specs.Prelude.{IsSome}
+use Rattle.std.proofs.lemmas.List.Elements.{All-weaker}
+use Rattle.p3_tree.specs.Plans.{Reached}
+use Rattle.p3_tree.specs.States.{State}
+use Rattle.p3_tree.specs.declared.state.Fact.{Fact}
+use Rattle.p3_tree.specs.declared.task.Step.{Step}
+use Rattle.p3_tree.specs.declared.task.Task.{Task}
+use Rattle.p3_tree.proofs.StepNumberLaws.{steps_have_numbers}
+use Rattle.p3_formula.specs.GroundPlans.{step_of}
+use Rattle.p3_formula.specs.declared.task.GroundTask.{GroundTask}
+use Rattle.p3_numbers.specs.Tasks.{numbered_action}
+use Rattle.p3_numbers.specs.declared.task.NumberedTask.{NumberedTask}
+use Rattle.p3_expansion.specs.declared.statics.Statics.{Statics}
+use Rattle.p3_candidates.specs.Possible.{may_begin}
+use Rattle.p3_ground.specs.Expanded.{IsStepAt, OfExpanded, StandsWithLittle, choice_of, facts_of}
+use Rattle.p3_ground.specs.Grounding.{KeepsWhatMayBegin, LeavesOutWhatNeverBegins, MayBegin, IsGroundingOverReached}
+use Rattle.p3_ground.specs.Sparse.{AtItsStep, HasPossibleConjuncts, StepsHavePossibleConjuncts}
+use Rattle.p3_ground.specs.StandsFor.{can_begin}
+use Rattle.p3_ground.specs.StepParts.{IsKnownWhole, IsSomeChoice}
+use Rattle.p3_ground.proofs.PrunedSparse.{pruned-sparse}
+use Rattle.p3_ground.proofs.Pruning.{pruned_stands}
+use Rattle.p3_ground.proofs.PutTogether.{what-is-put-together-stands}
+use Rattle.p3_ground.proofs.StepChoices.{numbers-are-choices}
+use Rattle.p3_ground.proofs.StepConjuncts.{wants-what-is-possible}
+use Rattle.p3_ground.proofs.StepParts.{never-begins}
+
+module _ (T : Task) (X : NumberedTask) (S : Statics) (G : GroundTask) (whole : IsKnownWhole T X S) (keeps : KeepsWhatMayBegin T X S G) where
+  unfit : (number : ℕ) (step : Step) → IsSomeChoice T X.numbers number step → step_of G number ≡ None → (s : State) → Reached T s → can_begin T s step ≡ false
+  unfit number step chosen none s reached = by (may_begin X.numbers S (choice_of X.numbers chosen.action chosen.rest) (numbered_action X.numbers chosen.action).pre) refl
+    where
+      by : (may : Bool) → may_begin X.numbers S (choice_of X.numbers chosen.action chosen.rest) (numbered_action X.numbers chosen.action).pre ≡ may → can_begin T s step ≡ false
+      by true may =
+          let there : IsSome (step_of G number) = subst (λ n. IsSome (step_of G n)) chosen.number_is (keeps chosen.place chosen.rest chosen.action chosen.here chosen.within may) in
+          absurd (true≢false (sym (subst (λ o. IsSome o) none there)))
+      by false cannot =
+          never-begins T X S chosen.action (choice_of X.numbers chosen.action chosen.rest) step whole (subst (IsStepAt T X.numbers chosen.action (choice_of X.numbers chosen.action chosen.rest)) (sym chosen.step_is) chosen.is.at) cannot s reached
+
+pub leaves-out-what-never-begins : LeavesOutWhatNeverBegins
+leaves-out-what-never-begins T X S G whole keeps number step has none s reached = unfit T X S G whole keeps number step (numbers-are-choices T X number step whole.well whole.numbered has) none s reached
+
+pub is-grounding : OfExpanded IsGroundingOverReached
+is-grounding T X S atoms ex G set together may closed least =
+    let facts : List Fact = facts_of X.numbers atoms in
+    let little : StandsWithLittle T facts G = what-is-put-together-stands T X S atoms ex G together in
+    let whole : IsKnownWhole T X S = record { well = ex.well; numbered = ex.numbered; statics = ex.statics } in
+    let conjuncts : StepsHavePossibleConjuncts T G =
+    All-weaker (MayBegin T X S) (AtItsStep T (λ step made. HasPossibleConjuncts T step)) (λ made one. record { step = one.step; number = one.number; says = wants-what-is-possible T X S one.action one.slots one.step whole one.at one.may }) G.steps may
+    in
+    record {
+      atoms = facts;
+      stands = pruned_stands T facts G little.stands (steps_have_numbers T ex.well) set closed;
+      sparse = pruned-sparse T facts G set little.changes little.constraints conjuncts closed least;
+    }
