@@ -22,8 +22,12 @@ use Rattle.p3_numbers.specs.declared.task.NumberedTask.{NumberedTask}
 use Rattle.p3_expansion.specs.Atoms.{GroundAtom, fact_of, is_named, are_named, AreDistinct}
 use Rattle.p3_expansion.specs.Changes.{ChangesStand, always, guarded_literals}
 use Rattle.p3_expansion.specs.Expansions.{Tells}
-use Rattle.p3_expansion.specs.Statics.{IsSettled, AreStatics, start_bits}
+use Rattle.p3_expansion.specs.Statics.{IsSettled, AreStatics, start_bits, TellStatics}
 use Rattle.p3_expansion.specs.declared.statics.Statics.{Statics}
+
+-- of each well-formed task that has these numbered trees, what no step changes is told
+abbrev pub TellStaticsOf : NumberedTask → Statics → Type 0
+TellStaticsOf X S = (T : Task) → WellFormed T → IsNumberedTask T X → TellStatics T X.numbers S
 
 -- the bits of atoms at the start tell the initial state
 abbrev pub StartIsTold : Type 0

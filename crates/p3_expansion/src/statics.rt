@@ -2,12 +2,9 @@
 
 ghost use Rattle.std.specs.Prelude.{◌≡◌, length, nat_lt, IfOk};
 ghost use Rattle.std.specs.List.{list_all};
-ghost use Rattle.p3_tree.specs.Offences.{WellFormed};
-ghost use Rattle.p3_tree.specs.declared.task.Task.{Task};
-ghost use Rattle.p3_numbers.specs.Tasks.{IsNumberedTask};
+ghost use Rattle.p3_expansion.specs.NextStates.{TellStaticsOf};
 ghost use Rattle.p3_expansion.specs.Statics.{
   AreStatics,
-  TellStatics,
   is_decided as decided_by,
   is_static as unchanged,
 };
@@ -33,8 +30,7 @@ impl Statics {
     /// What no step of a task changes.
     pub fn of(alloc: Global, task: &NumberedTask) -> Result<Statics, NoMemory>
         ensures are { IfOk result (λ statics. AreStatics task.now statics) }
-        ensures tell { IfOk result (λ statics. (T : Task) → WellFormed T → IsNumberedTask T task.now
-            → TellStatics T task.now.numbers statics) }
+        ensures tell { IfOk result (TellStaticsOf task.now) }
     {
         let changed = changed_bits(alloc, task)?;
         let facts = start_atoms(alloc, task)?;

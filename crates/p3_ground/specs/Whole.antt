@@ -1,5 +1,5 @@
 -- What grounding answers, and what it makes before the steps that never fit are left out.
-use Rattle.std.specs.Prelude.{◌≡◌, ℕ, ◌≤◌, List, [], length, Some}
+use Rattle.std.specs.Prelude.{◌≡◌, ℕ, ◌≤◌, List, [], length, None, Some}
 use Rattle.std.specs.List.{All}
 use Rattle.p3_base.specs.declared.refusal.Side.{Side}
 use Rattle.p3_tree.specs.Refusals.Counts.{size_refusals}
@@ -20,6 +20,10 @@ use Rattle.p3_ground.specs.Grounding.{MayBegin}
 use Rattle.p3_ground.specs.declared.error.GroundFail.{GroundFail}
 use Rattle.p3_ground.specs.declared.error.GroundFail.TheVariants.{Refused, NoMemory}
 use Rattle.p3_ground.specs.declared.parts.Parts.{Parts}
+
+-- no limit is passed by the sizes of the task
+abbrev pub IsWithinLimits : Side → Task → Type 0
+IsWithinLimits side T = first_some (size_refusals side T) ≡ None
 
 -- a refused task passes this limit first
 abbrev pub IsFailOf : Side → Task → GroundFail → Type 0

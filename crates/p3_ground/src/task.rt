@@ -1,15 +1,13 @@
 //! From a checked task to its ground task.
 
-ghost use Rattle.std.specs.Prelude.{◌≡◌, ◌++◌, ◌∷◌, [], false, drop as drop_first, None, if◌then◌else◌};
+ghost use Rattle.std.specs.Prelude.{◌≡◌, ◌++◌, ◌∷◌, [], false, drop as drop_first, if◌then◌else◌};
 ghost use Rattle.std.specs.Prelude.{slice_index_or, IfOk, IfErr, OnOk};
-ghost use Rattle.p3_tree.specs.Refusals.Counts.{size_refusals};
-ghost use Rattle.p3_tree.specs.Refusals.Places.{first_some};
 ghost use Rattle.p3_reach.specs.Closed.{steps_that_may};
 ghost use Rattle.p3_formula.specs.Forms.{State};
 ghost use Rattle.p3_ground.specs.Pruned.{pruned, steps_over};
 ghost use Rattle.p3_ground.specs.Rests.{joined_of};
 ghost use Rattle.p3_ground.specs.Sparse.{IsGroundingOf};
-ghost use Rattle.p3_ground.specs.Whole.{IsFailOf, IsWhole};
+ghost use Rattle.p3_ground.specs.Whole.{IsFailOf, IsWhole, IsWithinLimits};
 
 use crate::error::GroundFail;
 use crate::rest::{Rest, Taken};
@@ -138,7 +136,7 @@ fn without_unfit(alloc: Global, task: GroundTask, checked: &Checked) -> Result<G
 /// cost is 10^18 units or more is refused by its metric before it comes here.
 pub fn ground(alloc: Global, task: &Checked) -> Result<GroundTask, GroundFail>
     ensures grounding { IfOk result (IsGroundingOf task.now.task) }
-    ensures accepted { OnOk result (first_some (size_refusals task.now.side task.now.task) ≡ None) }
+    ensures accepted { OnOk result (IsWithinLimits task.now.side task.now.task) }
     ensures refused { IfErr result (IsFailOf task.now.side task.now.task) }
 {
     if let Some(refusal) = size_refusal(task.side(), task.task(), task.numbered())? {
