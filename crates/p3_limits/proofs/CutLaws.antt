@@ -34,7 +34,7 @@ pub cut-plus_right : (a b : ℕ) → cut (a + cut b) ≡ cut (a + b)
 unfolding cut
 cut-plus_right a b = omega arith
 
-cut-times : (a b : ℕ) → cut (cut a * b) ≡ cut (a * b)
+pub cut-times : (a b : ℕ) → cut (cut a * b) ≡ cut (a * b)
 unfolding cut
 cut-times a b = min-times (2 ^ 64 - 1) a b
 

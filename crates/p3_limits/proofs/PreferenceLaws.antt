@@ -95,7 +95,7 @@ length-tuples T start (variable ∷ variables) =
     length-tuples T (start * length (objects T variable.types)) variables ∙ regrouped
     ∙ ap (λ n. start * n) (sym (length-begun (tuples T variables) (objects T variable.types)))
 
-length-bind : (T : Task) (env : Environment) (variables : List Typed) → length (bind T env variables) ≡ binding_count T variables
+pub length-bind : (T : Task) (env : Environment) (variables : List Typed) → length (bind T env variables) ≡ binding_count T variables
 unfolding bind binding_count
 length-bind T env variables =
     let once : 1 * length (tuples T variables) ≡ length (tuples T variables) = omega arith in

@@ -6,17 +6,17 @@ ghost use Rattle.p3_limits.specs.Cuts.{cut, cut_choices};
 
 use p3_numbers::Numbers;
 
-/// The sum, cut.
+/// The sum, `u64::MAX` where it is more.
 #[tactic(auto, unfolding(crate::specs::Cuts::cut))]
-pub(crate) fn cut_sum(first: u64, second: u64) -> u64
+pub fn cut_sum(first: u64, second: u64) -> u64
     ensures { result ≡ cut (first + second) }
 {
     first.saturating_add(second)
 }
 
-/// The product, cut.
+/// The product, `u64::MAX` where it is more.
 #[tactic(auto, unfolding(crate::specs::Cuts::cut))]
-pub(crate) fn cut_product(first: u64, second: u64) -> u64
+pub fn cut_product(first: u64, second: u64) -> u64
     ensures { result ≡ cut (first * second) }
 {
     first.saturating_mul(second)
@@ -32,8 +32,9 @@ fn range_len(numbers: &Numbers, range: u32) -> u64
     }
 }
 
-/// How many choices there are of one object of each range, cut. It takes no memory.
-pub(crate) fn choice_count(numbers: &Numbers, ranges: &[u32]) -> u64
+/// How many choices there are of one object of each range, `u64::MAX` where a product on the way is
+/// more. It takes no memory.
+pub fn choice_count(numbers: &Numbers, ranges: &[u32]) -> u64
     ensures { result ≡ cut_choices numbers.now ranges.now }
 {
     let mut count = 1;

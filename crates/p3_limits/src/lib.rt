@@ -12,4 +12,6 @@ mod sizes;
 mod steps;
 mod words;
 
+pub use choices::{choice_count, cut_product, cut_sum};
 pub use refusal::size_refusal;
+pub use words::{domain_role, name_len, problem_role, refusal_at};

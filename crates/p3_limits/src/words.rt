@@ -8,7 +8,7 @@ use p3_base::{Code, Name, NoMemory, Pos, Refusal, Role, Side};
 use p3_tree::Ref;
 
 /// The domain of the side.
-pub(crate) fn domain_role(side: Side) -> Role
+pub fn domain_role(side: Side) -> Role
     ensures { result ≡ role_of side InDomain }
 {
     match side {
@@ -18,7 +18,7 @@ pub(crate) fn domain_role(side: Side) -> Role
 }
 
 /// The problem of the side.
-pub(crate) fn problem_role(side: Side) -> Role
+pub fn problem_role(side: Side) -> Role
     ensures { result ≡ role_of side InProblem }
 {
     match side {
@@ -38,7 +38,7 @@ pub(crate) fn size_limit(side: Side) -> u64
 }
 
 /// The refusal at a word of so many bytes.
-pub(crate) fn refusal_at(code: Code, role: Role, at: u32, len: u32) -> Refusal
+pub fn refusal_at(code: Code, role: Role, at: u32, len: u32) -> Refusal
     ensures { result ≡ places.refusal_at code role at len }
 {
     Refusal {
@@ -49,7 +49,11 @@ pub(crate) fn refusal_at(code: Code, role: Role, at: u32, len: u32) -> Refusal
 }
 
 /// How many bytes a name has.
-fn name_len(name: &Name) -> Result<u32, NoMemory>
+///
+/// # Errors
+///
+/// Want of memory, for 2 ^ 32 bytes or more.
+pub fn name_len(name: &Name) -> Result<u32, NoMemory>
     ensures { IfOk result (λ len. len ≡ length name.now) }
 {
     match u32::try_from(name.bytes().len()) {

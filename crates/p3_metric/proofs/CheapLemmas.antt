@@ -19,7 +19,7 @@ use Rattle.p3_metric.specs.Refused.{HasShortStart, dear_amount_of, dear_value_of
 
 -- ---- the first of them
 
-first_none : {A : Type 0} (a b : Option A) → option_or a b ≡ None → (a ≡ None) × (b ≡ None)
+pub first_none : {A : Type 0} (a b : Option A) → option_or a b ≡ None → (a ≡ None) × (b ≡ None)
 first_none None b e = (refl, e)
 first_none (Some x) b e = absurd (cc)
 

@@ -21,3 +21,9 @@ pub mod WeightLaws
 pub mod ShortLemmas
 pub mod CheapLemmas
 pub mod SignLaws
+pub mod ShortNames
+pub mod ShareLaws
+pub mod IncreaseLaws
+pub mod NameWeightLaws
+pub mod ActionLaws
+pub mod PlacesLaws

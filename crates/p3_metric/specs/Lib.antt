@@ -9,3 +9,4 @@ pub mod Start
 pub mod Refused
 pub mod Dear
 pub mod Signs
+pub mod Bounds

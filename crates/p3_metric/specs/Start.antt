@@ -1,16 +1,14 @@
 -- The total cost at the start, as it is found entry by entry, and cut at the greatest number of 64 bits.
-use Rattle.std.specs.Prelude.{ℕ, min, List, [], filter_map, slice_get, Option, option_map}
+use Rattle.std.specs.Prelude.{ℕ, List, [], filter_map, slice_get, Option, option_map}
+use Rattle.p3_limits.specs.Cuts.{cut}
 use Rattle.p3_tree.specs.Costs.{entry_value}
 use Rattle.p3_tree.specs.Names.{total_cost}
 use Rattle.p3_tree.specs.declared.task.Init.{Init}
 use Rattle.p3_tree.specs.declared.task.Task.{Task}
 
-abbrev pub cut_units : ℕ → ℕ
-cut_units units = min units 18446744073709551615
-
 -- what an entry gives to the total cost, and the first value that entries give to it
 unfoldable pub start_of_entry : Task → Init → Option ℕ
-start_of_entry T entry = option_map cut_units (entry_value T total_cost [] entry)
+start_of_entry T entry = option_map cut (entry_value T total_cost [] entry)
 
 unfoldable pub start_in : Task → List Init → Option ℕ
-start_in T entries = option_map cut_units (slice_get (filter_map (entry_value T total_cost []) entries) 0)
+start_in T entries = option_map cut (slice_get (filter_map (entry_value T total_cost []) entries) 0)

@@ -5,9 +5,9 @@ ghost use Rattle.p3_tree.specs.Costs.{cost_places as places_of_costs};
 
 use crate::MetricFail;
 use crate::evaluate::Evaluator;
-use crate::words::problem_role;
 use p3_base::{Boxed, Code, Direction, List, Name, NoMemory, Refusal, Side};
 use p3_formula::Weights;
+use p3_limits::problem_role;
 use p3_tree::{Constraint, Domain, Metric, Num, Numeral, Part, PreGoal, Problem, Ref, Task};
 use std::alloc::Global;
 use std::test::Fail;

@@ -1,11 +1,38 @@
 //! The decimal places of metrics.
 
-ghost use Rattle.std.specs.Prelude.{◌≡◌, max};
+ghost use Rattle.std.specs.Prelude.{◌≡◌, ◌≤◌, max, None};
 ghost use Rattle.p3_tree.specs.Costs.{cost_places as places_of_costs};
+ghost use Rattle.p3_tree.specs.Metrics.{metric_places as places_of_metric};
+ghost use Rattle.p3_tree.specs.Refusals.Metric.{metric_refusals};
+ghost use Rattle.p3_tree.specs.Refusals.Places.{first_some};
 ghost use Rattle.p3_metric.specs.Cut.{cut, cut_most, cut_places, cut_total};
 
 use crate::evaluate::Evaluator;
-use p3_tree::{Num, Numeral};
+use p3_tree::{Num, Numeral, Task};
+use p3_types::Checked;
+
+/// Counts the decimal places of expressions over the counts and the total cost of a task.
+#[derive(Drop)]
+pub(crate) struct PlaceCount<'t> {
+    task: &'t Task,
+    /// The decimal places of the task's costs.
+    cost_places: u32,
+    ghost counted: { cost_places ≡ places_of_costs task.now },
+}
+
+/// How many decimal places the metric has, 0 without a metric: a value and a loss are numbers of
+/// units of the last of them.
+pub fn metric_places(task: &Checked) -> u32
+    requires { first_some (metric_refusals task.now.side task.now.task) ≡ None }
+    ensures places { result ≡ places_of_metric task.now.task }
+    ensures few { result ≤ 6 }
+{
+    let count = PlaceCount {
+        task: task.task(),
+        cost_places: task.cost_places(),
+    };
+    count.metric_places()
+}
 
 /// The decimal places of a number.
 fn number_places(numeral: Numeral) -> u32
@@ -22,6 +49,29 @@ fn larger(first: u32, second: u32) -> u32
 }
 
 impl<'t> Evaluator<'t> {
+    /// The decimal places of the expression, or `u32::MAX` where they are more.
+    pub(crate) fn places(&self, tree: &Num) -> u32
+        ensures { result ≡ cut_places self.now.task.now tree.now }
+    {
+        let count = PlaceCount {
+            task: self.task,
+            cost_places: self.cost_places,
+        };
+        count.places(tree)
+    }
+}
+
+impl<'t> PlaceCount<'t> {
+    /// The decimal places of the metric, or `u32::MAX` where they are more.
+    fn metric_places(&self) -> u32
+        ensures { result ≡ cut (places_of_metric self.now.task.now) }
+    {
+        match &self.task.problem.metric {
+            None => 0,
+            Some(metric) => self.places(&metric.body),
+        }
+    }
+
     /// The decimal places of the total cost.
     fn total_places(&self) -> u32
         ensures { result ≡ cut (places_of_costs self.now.task.now) }
@@ -32,7 +82,7 @@ impl<'t> Evaluator<'t> {
     /// The decimal places of the expression, or `u32::MAX` where they are more.
     #[cycle(places)]
     #[tactic(auto, using(crate::proofs::CutLaws::cut_laws))]
-    pub(crate) fn places(&self, tree: &Num) -> u32
+    fn places(&self, tree: &Num) -> u32
         ensures { result ≡ cut_places self.now.task.now tree.now }
     {
         match tree {

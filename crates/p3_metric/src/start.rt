@@ -4,9 +4,11 @@ ghost use Rattle.std.specs.Prelude.{◌≡◌, ◌&&◌, [], if◌then◌else◌
 ghost use Rattle.p3_tree.specs.Costs.{cost_units, initial_cost};
 ghost use Rattle.p3_tree.specs.Names.{same_name, same_names, total_cost};
 ghost use Rattle.p3_tree.specs.States.{meanings};
-ghost use Rattle.p3_metric.specs.Start.{cut_units, start_in, start_of_entry};
+ghost use Rattle.p3_limits.specs.Cuts.{cut};
+ghost use Rattle.p3_metric.specs.Start.{start_in, start_of_entry};
 
 use crate::evaluate::Evaluator;
+use crate::units::units_at;
 use p3_tree::{Init, Numeral, Term};
 
 /// Whether the name is that of the total cost.
@@ -27,11 +29,9 @@ fn has_no_arguments(args: &[Term]) -> bool
 impl<'t> Evaluator<'t> {
     /// A cost in units, or `u64::MAX` where it is more.
     fn units(&self, numeral: Numeral) -> u64
-        ensures { result ≡ cut_units (cost_units self.now.task.now numeral) }
+        ensures { result ≡ cut (cost_units self.now.task.now numeral) }
     {
-        let more = self.cost_places.saturating_sub(numeral.places);
-        let unit = 10u64.saturating_pow(more);
-        numeral.digits.saturating_mul(unit)
+        units_at(self.cost_places, numeral)
     }
 
     /// What an entry of the initial state gives to the total cost.
@@ -56,7 +56,7 @@ impl<'t> Evaluator<'t> {
     /// The cost in units, where it is the total cost's.
     fn start_where(&self, is_total: bool, number: Numeral) -> Option<u64>
         ensures { result ≡ (if is_total
-            then Some (cut_units (cost_units self.now.task.now number)) else None) }
+            then Some (cut (cost_units self.now.task.now number)) else None) }
     {
         if is_total {
             Some(self.units(number))
@@ -79,7 +79,7 @@ impl<'t> Evaluator<'t> {
     /// The total cost before the first step, or `u64::MAX` where it is more.
     #[tactic(auto, using(crate::proofs::StartLaws::initial_is))]
     pub(crate) fn initial_cost(&self) -> u64
-        ensures { result ≡ cut_units (initial_cost self.now.task.now) }
+        ensures { result ≡ cut (initial_cost self.now.task.now) }
     {
         match self.start_in(self.task.problem.init.items()) {
             None => 0,

@@ -32,9 +32,9 @@ use crate::evaluate::Evaluator;
 use crate::linear::Linear;
 use crate::negative::first_negative;
 use crate::spot::Spot;
-use crate::words::refusal_at;
 use p3_base::{Code, Direction, List, Name, NoMemory, Refusal, Role};
 use p3_formula::Weights;
+use p3_limits::refusal_at;
 use std::alloc::Global;
 
 /// The absolute value of a number below the bound of weights.

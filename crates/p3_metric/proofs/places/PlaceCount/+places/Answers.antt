@@ -3,7 +3,7 @@ use Rattle.std.specs.Prelude.{min, max}
 use Rattle.std.proofs.lemmas.List.{take_more}
 use Rattle.p3_metric.specs.Cut.{cut_most, cut_total}
 use Rattle.p3_metric.proofs.CutLaws.{no_most, no_total, most_more, total_more}
-use Rattle.p3_metric.proofs.evaluate.Evaluator.+places.Goals as goal
+use Rattle.p3_metric.proofs.places.PlaceCount.+places.Goals as goal
 
 pub most_places-loop-part-init : goal.most_places-loop-part-init
 most_places-loop-part-init t c = sym (no_most c.args.self.now.task.now)

@@ -1,0 +1,132 @@
+-- The first action that passes a limit by its numbered trees is the first that passes it by its named ones.
+use Rattle.std.proofs.Common.{◌≡◌, ◌∙◌, ℕ, ◌+◌, ◌*◌, refl, sym, ap, Bool, true, false, not, ◌&&◌, cond, List, [], ◌∷◌, map, sum_by, arith, Option, Some, None, pos}
+use Rattle.std.specs.Prelude.{find, int_lt, nat_lt, option_map, if◌then◌else◌}
+use Rattle.std.specs.List.{list_all}
+use Rattle.std.specs.Option.{option_or}
+use Rattle.std.proofs.lemmas.Bool.{and_parts}
+use Rattle.std.proofs.lemmas.Bool.Decides.{nat_tests}
+use Rattle.p3_base.specs.declared.refusal.Code.{Code}
+use Rattle.p3_base.specs.declared.refusal.Code.TheVariants.{CostTooLarge, SplitTooWide}
+use Rattle.p3_base.specs.declared.refusal.Refusal.{Refusal}
+use Rattle.p3_base.specs.declared.refusal.Role.{Role}
+use Rattle.p3_base.specs.declared.refusal.Side.{Side}
+use Rattle.p3_formula.specs.declared.target.Weights.{Weights}
+use Rattle.p3_limits.proofs.CutLaws.{cut-passes, cut-plus, cut-plus_right}
+use Rattle.p3_limits.specs.Cuts.{cut}
+use Rattle.p3_numbers.proofs.KnownLaws.{task-known}
+use Rattle.p3_numbers.specs.Effects.{is_known_effect}
+use Rattle.p3_numbers.specs.Goals.{goal_of, is_known_goal, numbered_name}
+use Rattle.p3_numbers.specs.Known.{IsKnownTask, is_known_action}
+use Rattle.p3_numbers.specs.Places.{IsNumbering, are_known_types, words_of}
+use Rattle.p3_numbers.specs.Tasks.{IsNumberedTask, numbered_action}
+use Rattle.p3_numbers.specs.declared.numbers.Numbers.{Numbers}
+use Rattle.p3_numbers.specs.declared.task.NumberedAction.{NumberedAction}
+use Rattle.p3_numbers.specs.declared.task.NumberedTask.{NumberedTask}
+use Rattle.p3_tree.specs.Costs.{increases}
+use Rattle.p3_tree.specs.Goals.{named, pref_names}
+use Rattle.p3_tree.specs.Limits.{action_prefs, cost_bound, greatest_amount, width}
+use Rattle.p3_tree.specs.Names.{Name}
+use Rattle.p3_tree.specs.Offences.{WellFormed}
+use Rattle.p3_tree.specs.PreferenceNames.{ordered_names}
+use Rattle.p3_tree.specs.Refusals.Counts.{action_refusals}
+use Rattle.p3_tree.specs.Refusals.Places.{first_some, refusal_at_word}
+use Rattle.p3_tree.specs.Sides.{InDomain, role_of, weight_bound, width_limit}
+use Rattle.p3_tree.specs.declared.task.Action.{Action}
+use Rattle.p3_tree.specs.declared.task.Task.{Task}
+use Rattle.p3_tree.specs.declared.term.Ref.{Ref}
+use Rattle.p3_metric.specs.Bounds.{first_passing, first_past, is_past, measured, share_of, shares}
+use Rattle.p3_metric.specs.Weighed.{HasWeights}
+use Rattle.p3_metric.specs.declared.measure.Measure.{Measure}
+use Rattle.p3_metric.specs.declared.measure.Measure.TheVariants.{Cost, Width}
+use Rattle.p3_metric.proofs.IncreaseLaws.{effect-greatest}
+use Rattle.p3_metric.proofs.NameWeightLaws.{weight_in, counted_in, number_weighs, number_counts, bound_is, width_is}
+use Rattle.p3_metric.proofs.ShareLaws.{goal-shares}
+use Rattle.p3_metric.proofs.StartLaws.{cut_twice}
+
+-- ---- one action
+
+past_bound : (n : ℕ) → nat_lt 4611686018427387903 n ≡ not (int_lt (pos n) (pos weight_bound))
+past_bound n = grind (arith, nat_tests)
+
+module _ (T : Task) (N : Numbers) (ties : IsNumbering T N) (names : N.preferences ≡ ordered_names T) (well : WellFormed T) (w : Weights) (has : HasWeights T w) where
+  module _ (action : Action) (known : is_known_action N action ≡ true) where
+    known_parts : (are_known_types N action.params ≡ true) × (is_known_goal N action.pre.body (words_of action.params) ≡ true) × (is_known_effect N action.effect.body (words_of action.params) ≡ true)
+    known_parts =
+        let all = and_parts (are_known_types N action.params && is_known_goal N action.pre.body (words_of action.params)) (is_known_effect N action.effect.body (words_of action.params)) known in
+        let first = and_parts (are_known_types N action.params) (is_known_goal N action.pre.body (words_of action.params)) all.0 in
+        (first.0, first.1, all.1)
+
+    preferences_sum : (measure : Measure) (of : Option Name → ℕ) → ((name : Option Ref) → share_of measure w.by_name (numbered_name N name) ≡ of (named name))
+        → shares measure w.by_name N (goal_of N action.pre.body (words_of action.params)) ≡ cut (sum_by of (pref_names (action_prefs T action)))
+    preferences_sum measure of same = goal-shares T N ties measure w.by_name of same action.pre.body (words_of action.params) known_parts.1
+
+    abbrev costs : ℕ
+    costs = sum_by (greatest_amount T) (increases action.effect.body)
+
+    abbrev weights : ℕ
+    weights = sum_by (weight_in T) (pref_names (action_prefs T action))
+
+    cost_measured : measured T N w Cost (numbered_action N action) ≡ cut (w.total_cost * costs + weights)
+    cost_measured =
+        (λ i. cut (cut (w.total_cost * effect-greatest T N action.effect.body (words_of action.params) known_parts.2 i) + preferences_sum Cost (weight_in T) (number_weighs T well w has N names) i))
+        ∙ ap (λ n. cut (n + cut weights)) (cut_twice w.total_cost costs)
+        ∙ cut-plus (w.total_cost * costs) (cut weights) ∙ cut-plus_right (w.total_cost * costs) weights
+
+    past_cost : is_past T N w Cost (numbered_action N action) ≡ not (int_lt (cost_bound T action) (pos weight_bound))
+    past_cost =
+        ap (nat_lt 4611686018427387903) cost_measured ∙ cut-passes 4611686018427387903 (w.total_cost * costs + weights) (omega arith)
+        ∙ past_bound (w.total_cost * costs + weights) ∙ ap (λ z. not (int_lt z (pos weight_bound))) (sym (bound_is T well w has action))
+
+    past_width : is_past T N w Width (numbered_action N action) ≡ nat_lt width_limit (width T action)
+    past_width =
+        ap (nat_lt 200) (preferences_sum Width (counted_in T) (number_counts T well w has N names)) ∙ cut-passes 200 (sum_by (counted_in T) (pref_names (action_prefs T action))) (omega arith)
+        ∙ ap (nat_lt 200) (sym (width_is T well w has action))
+
+-- ---- the first action
+
+module _ (N : Numbers) (test : NumberedAction → Bool) (passes : Action → Bool) (code : Code) (role : Role) (same : (action : Action) → is_known_action N action ≡ true → test (numbered_action N action) ≡ passes action) where
+  abbrev at_name : Action → Refusal
+  at_name action = refusal_at_word code role action.name
+
+  first_found : (actions : List Action) → list_all (is_known_action N) actions ≡ true → first_passing test code role actions (map (numbered_action N) actions) ≡ option_map (λ (action : Action). refusal_at_word code role action.name) (find passes actions)
+  first_found [] known = refl
+  first_found (action ∷ actions) known =
+      let parts = and_parts (is_known_action N action) (list_all (is_known_action N) actions) known in
+      by (test (numbered_action N action)) (passes action) (same action parts.0) (first_found actions parts.1)
+    where
+      by : (t s : Bool) → t ≡ s → first_passing test code role actions (map (numbered_action N) actions) ≡ option_map at_name (find passes actions)
+          → (if t then Some (at_name action) else first_passing test code role actions (map (numbered_action N) actions)) ≡ option_map at_name (cond s (Some action) (find passes actions))
+      by true true e rest = refl
+      by false false e rest = rest
+      by true false e rest = absurd (cc)
+      by false true e rest = absurd (cc)
+
+or_none : {A : Type 0} (found : Option A) → option_or found None ≡ found
+or_none None = refl
+or_none (Some x) = refl
+
+module _ (side : Side) (T : Task) (X : NumberedTask) (is : IsNumberedTask T X) (well : WellFormed T) (w : Weights) (has : HasWeights T w) where
+  known : IsKnownTask T X.numbers
+  known = task-known T X.numbers well is.covers
+
+  abbrev found : Measure → Option Refusal
+  found measure = first_past T X.numbers w measure (role_of side InDomain) T.domain.actions X.actions
+
+  refusals_are : option_or (found Cost) (option_or (found Width) None) ≡ first_some (action_refusals side T)
+  refusals_are = λ i. option_or (dear i) (option_or (wide i) None)
+    where
+      dear : found Cost ≡ option_map (λ (action : Action). refusal_at_word CostTooLarge (role_of side InDomain) action.name) (find (λ action. not (int_lt (cost_bound T action) (pos weight_bound))) T.domain.actions)
+      dear = ap (first_past T X.numbers w Cost (role_of side InDomain) T.domain.actions) is.actions
+          ∙ first_found X.numbers (is_past T X.numbers w Cost) (λ action. not (int_lt (cost_bound T action) (pos weight_bound))) CostTooLarge (role_of side InDomain)
+          (λ action of. past_cost T X.numbers is.numbering is.names.preferences well w has action of) T.domain.actions known.actions
+
+      wide : found Width ≡ option_map (λ (action : Action). refusal_at_word SplitTooWide (role_of side InDomain) action.name) (find (λ action. nat_lt width_limit (width T action)) T.domain.actions)
+      wide = ap (first_past T X.numbers w Width (role_of side InDomain) T.domain.actions) is.actions
+          ∙ first_found X.numbers (is_past T X.numbers w Width) (λ action. nat_lt width_limit (width T action)) SplitTooWide (role_of side InDomain)
+          (λ action of. past_width T X.numbers is.numbering is.names.preferences well w has action of) T.domain.actions known.actions
+
+  pub some_past : (refusal : Refusal) → found Cost ≡ Some refusal → Some refusal ≡ first_some (action_refusals side T)
+  some_past refusal e = ap (λ first. option_or first (option_or (found Width) None)) (sym e) ∙ refusals_are
+
+  pub none_past : found Cost ≡ None → found Width ≡ first_some (action_refusals side T)
+  none_past e = sym (or_none (found Width)) ∙ ap (λ first. option_or first (option_or (found Width) None)) (sym e) ∙ refusals_are

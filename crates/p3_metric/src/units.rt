@@ -1,0 +1,15 @@
+//! Costs in units.
+
+ghost use Rattle.std.specs.Prelude.{◌≡◌, ◌*◌, ◌-◌, ◌^◌};
+ghost use Rattle.p3_limits.specs.Cuts.{cut};
+
+use p3_limits::cut_product;
+use p3_tree::Numeral;
+
+/// A cost in units of the last of so many decimal places, or `u64::MAX` where it is more.
+pub(crate) fn units_at(places: u32, numeral: Numeral) -> u64
+    ensures { result ≡ cut (numeral.digits * 10 ^ (places - numeral.places)) }
+{
+    let more = places.saturating_sub(numeral.places);
+    cut_product(numeral.digits, 10u64.saturating_pow(more))
+}
