@@ -1,3 +1,6 @@
+pub mod CandidateLemmas
+pub mod ConjunctLemmas
+pub mod LinkLemmas
+pub mod MarkLemmas
 pub mod PossibleLemmas
 pub mod PossibleLaws
-pub mod StretchLemmas

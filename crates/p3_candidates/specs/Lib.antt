@@ -1,2 +1,4 @@
+pub mod Candidates
+pub mod Conjuncts
+pub mod Links
 pub mod Possible
-pub mod Stretches

@@ -2,7 +2,9 @@
 #![tactic(auto)]
 
 mod choices;
+mod conjuncts;
 mod laws;
+mod links;
 mod possible;
 
 pub use choices::candidates;

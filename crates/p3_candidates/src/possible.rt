@@ -1,4 +1,4 @@
-//! What may be so where some objects are still to be chosen.
+//! Whether a condition may hold where some objects are still to be chosen.
 
 ghost use Rattle.std.specs.Prelude.{◌≡◌, ◌==◌, ◌&&◌, ◌||◌, true, not, IfOk};
 ghost use Rattle.std.specs.List.{list_any, list_all};
@@ -10,12 +10,11 @@ ghost use Rattle.p3_candidates.specs.Possible.{
   has_truth as with_truth,
   is_chosen as one_chosen,
   may_be,
-  may_begin as may_begin_at,
 };
 
 use p3_base::NoMemory;
 use p3_expansion::{Statics, are_same, spell};
-use p3_numbers::{Argument, Condition, Goal, Numbers};
+use p3_numbers::{Argument, Condition, Numbers};
 
 /// Whether the argument's object is chosen.
 fn is_chosen(slots: &[u32], arg: Argument) -> bool
@@ -88,7 +87,7 @@ fn equality_may(slots: &[u32], left: Argument, right: Argument, wish: bool) -> b
 /// Whether the condition may have the truth.
 #[cycle(conditions)]
 #[tactic(auto, using(crate::proofs::PossibleLemmas::condition_laws))]
-fn condition_may(
+pub(crate) fn condition_may(
     numbers: &Numbers,
     statics: &Statics,
     words: &mut Vec<u32>,
@@ -209,51 +208,4 @@ fn some_may(
         }
     }
     Ok(false)
-}
-
-/// Whether the hard part of a precondition may hold.
-#[cycle(goals)]
-#[tactic(auto, using(crate::proofs::PossibleLemmas::goal_laws))]
-pub(crate) fn may_begin(
-    numbers: &Numbers,
-    statics: &Statics,
-    words: &mut Vec<u32>,
-    slots: &[u32],
-    goal: &Goal,
-) -> Result<bool, NoMemory>
-    ensures { IfOk result (λ may. may
-        ≡ may_begin_at numbers.now statics.now slots.now goal.now) }
-{
-    match goal {
-        Goal::Plain(condition) => {
-            let may = condition_may(numbers, statics, words, slots, condition, true)?;
-            Ok(may)
-        }
-        Goal::Both(parts) => {
-            let may = all_may_begin(numbers, statics, words, slots, parts.items())?;
-            Ok(may)
-        }
-        Goal::Each(_, _) => Ok(true),
-        Goal::Soft(_) => Ok(true),
-    }
-}
-
-/// Whether the hard part of each precondition may hold.
-#[cycle(goals)]
-fn all_may_begin(
-    numbers: &Numbers,
-    statics: &Statics,
-    words: &mut Vec<u32>,
-    slots: &[u32],
-    parts: &[Goal],
-) -> Result<bool, NoMemory>
-    ensures { IfOk result (λ may. may ≡ list_all
-        (may_begin_at numbers.now statics.now slots.now) parts.now) }
-{
-    for part in parts {
-        if !may_begin(numbers, statics, words, slots, part)? {
-            return Ok(false);
-        }
-    }
-    Ok(true)
 }

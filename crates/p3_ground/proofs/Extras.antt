@@ -60,19 +60,24 @@ module _ (T : Task) where
       ∙ ap (λ names. count_by is_weighty names) (prefs-names T action.pre.body [] env)
       ∙ sym (counts_of_names is_weighty (prefs T env action.pre.body))
 
+  -- each preference has its name, if it has one, among the ordered ones
+  abbrev pub AreOrdered : List StatePref → Type 0
+  AreOrdered list = (i : ℕ) (pref : StatePref) (name : Name) → slice_get list i ≡ Some pref → pref.name ≡ Some name → Has (ordered_names T) name
+
   module _ (w : Weights) (weights : HasNameWeights T w.by_name) where
-    weighty_same : (name : Name) → Has (ordered_names T) name → is_weighty (Some name) ≡ nat_lt 0 (named_weight w.by_name (number_of_name T (Some name)))
-    weighty_same name (k, at) = by (position (same_name name) (ordered_names T)) refl
+    weight_same : (name : Name) → Has (ordered_names T) name → weight T name ≡ pos (named_weight w.by_name (number_of_name T (Some name)))
+    weight_same name (k, at) = by (position (same_name name) (ordered_names T)) refl
       where
-        by : (o : Option ℕ) → position (same_name name) (ordered_names T) ≡ o → int_lt (pos 0) (weight T name) ≡ nat_lt 0 (named_weight w.by_name o)
+        by : (o : Option ℕ) → position (same_name name) (ordered_names T) ≡ o → weight T name ≡ pos (named_weight w.by_name o)
         by None e = absurd (true≢false (sym ((bytes_eq-Decides name name).1 refl) ∙ no_place (same_name name) (ordered_names T) e k name at))
         by (Some j) e =
             let (x, found, passes) = at_place (same_name name) (ordered_names T) j e in
-            ap (λ l. int_lt (pos 0) l) (sym (weights j name (found ∙ ap Some (sym ((bytes_eq-Decides name x).0 passes)))))
+            sym (weights j name (found ∙ ap Some (sym ((bytes_eq-Decides name x).0 passes))))
 
-    -- each preference has its name, if it has one, among the ordered ones
-    abbrev AreOrdered : List StatePref → Type 0
-    AreOrdered list = (i : ℕ) (pref : StatePref) (name : Name) → slice_get list i ≡ Some pref → pref.name ≡ Some name → Has (ordered_names T) name
+    -- the weight of a preference's name is that of its number
+    pub weight_is : (name : Option Name) → ((word : Name) → name ≡ Some word → Has (ordered_names T) word) → weight_of T name ≡ pos (named_weight w.by_name (number_of_name T name))
+    weight_is None ordered = refl
+    weight_is (Some word) ordered = weight_same word (ordered word refl)
 
     same_width : (atoms : List Fact) (found : List StatePref) (made : List GroundPref) → AllZip (PrefStands T atoms) found made → AreOrdered found
         → count_by (λ (pref : StatePref). is_weighty pref.name) found ≡ length (weighted.weighted w.by_name made)
@@ -81,22 +86,25 @@ module _ (T : Task) where
     same_width atoms (x ∷ found) [] stands ordered = absurd stands
     same_width atoms (x ∷ found) (y ∷ made) stands ordered =
         sum_by-cons (λ (pref : StatePref). cond (is_weighty pref.name) 1 0) x found
-        ∙ (λ i. cond ((by x.name refl ∙ ap (λ o. nat_lt 0 (named_weight w.by_name o)) (sym stands.0.name)) i) 1 0 + same_width atoms found made stands.1 (λ k pref name at e. ordered (suc k) pref name at e) i)
+        ∙ (λ i. cond (ap (λ weight. int_lt (pos 0) weight) (here ∙ ap (λ o. pos (named_weight w.by_name o)) (sym stands.0.name)) i) 1 0
+        + same_width atoms found made stands.1 (λ k pref name at e. ordered (suc k) pref name at e) i)
         ∙ sym (length_cond (nat_lt 0 (weighted.weight_of w.by_name y)) y (weighted.weighted w.by_name made))
       where
-        by : (o : Option Name) → x.name ≡ o → is_weighty o ≡ nat_lt 0 (named_weight w.by_name (number_of_name T o))
-        by None e = refl
-        by (Some name) e = weighty_same name (ordered 0 x name refl e)
+        here : weight_of T x.name ≡ pos (named_weight w.by_name (number_of_name T x.name))
+        here = weight_is x.name (λ name e. ordered 0 x name refl e)
 
     module _ (atoms : List Fact) (G : GroundTask) (S : StandsBy T atoms G) (K : HasStepNumbers T) where
-      made_extra : (number : ℕ) (step : Step) (made : GroundStep) → HasNumber T step number → IsMadeOf T atoms step made → extra_by T (action_named T step.action) ≡ weighted.extra_by w.by_name (Some made)
+      -- a kept step is as wide as its action
+      pub made_width : (number : ℕ) (step : Step) (made : GroundStep) → (e : HasNumber T step number) → IsMadeOf T atoms step made → width T (K.own number step e).action ≡ weighted.width_of w.by_name made
       unfolding step_prefs
-      made_extra number step made e is =
+      made_width number step made e is =
           let own = K.own number step e in
-          ap (extra_by T) own.named
-          ∙ ap extra_of (width_at own.action (arguments own.action step)
+          width_at own.action (arguments own.action step)
           ∙ ap (λ o. count_by (λ (pref : StatePref). is_weighty pref.name) (prefs_by T step o)) (sym own.named)
-          ∙ same_width atoms (step_prefs T step) made.prefs is.prefs (λ i pref name at same. step_name_is_ordered T step i pref name at same))
+          ∙ same_width atoms (step_prefs T step) made.prefs is.prefs (λ i pref name at same. step_name_is_ordered T step i pref name at same)
+
+      made_extra : (number : ℕ) (step : Step) (made : GroundStep) → HasNumber T step number → IsMadeOf T atoms step made → extra_by T (action_named T step.action) ≡ weighted.extra_by w.by_name (Some made)
+      made_extra number step made e is = ap (extra_by T) (K.own number step e).named ∙ ap extra_of (made_width number step made e is)
 
       step_extra : AgreeWhereFits T atoms G S K (λ s bits number step. extra_by T (action_named T step.action) ≡ weighted.extra_by w.by_name (step_of G number))
       step_extra s bits number step m e f =

@@ -1,26 +1,23 @@
 -- Ground steps that are made while atoms and nodes come.
 use Rattle.std.proofs.Common.{◌≡◌, ◌∙◌, ℕ, ◌+◌, ◌<◌, ◌≤◌, Bool, true, List, [], ◌∷◌, ◌++◌, length, take, get_or, map, sym, ap, subst, arith, zero, suc, append_assoc}
 use Rattle.std.specs.Prelude.{IsTrue}
-use Rattle.std.specs.List.{All, list_all, range_with_len}
+use Rattle.std.specs.List.{list_all}
 use Rattle.std.proofs.lemmas.Bool.{and_parts}
 use Rattle.std.proofs.lemmas.List.{append-nil, map-append, take_more, take_all}
-use Rattle.std.proofs.lemmas.List.Elements.{All-filter}
 use Rattle.std.proofs.lemmas.List.Folds.{list_all-append}
-use Rattle.std.proofs.lemmas.List.FromFn.{length-range_with_len, get_or-range_with_len}
 use Rattle.p3_formula.specs.Tidy.{is_tidy}
 use Rattle.p3_formula.specs.declared.form.Change.{Change}
 use Rattle.p3_formula.specs.declared.form.Form.{Form}
 use Rattle.p3_formula.specs.declared.modal.GroundPref.{GroundPref}
 use Rattle.p3_formula.specs.declared.task.GroundStep.{GroundStep}
-use Rattle.p3_numbers.specs.Choices.{choice_count, choice}
+use Rattle.p3_numbers.specs.Choices.{choice_count}
 use Rattle.p3_numbers.specs.Goals.{preferences}
 use Rattle.p3_numbers.specs.Slots.{Slots}
 use Rattle.p3_numbers.specs.declared.goal.Goal.{Goal}
 use Rattle.p3_numbers.specs.declared.numbers.Numbers.{Numbers}
 use Rattle.p3_numbers.specs.declared.task.NumberedAction.{NumberedAction}
 use Rattle.p3_numbers.specs.declared.task.NumberedTask.{NumberedTask}
-use Rattle.p3_candidates.specs.Possible.{may_begin}
-use Rattle.p3_candidates.specs.Stretches.{candidates_of}
+use Rattle.p3_candidates.specs.Candidates.{candidates_of}
 use Rattle.p3_costs.specs.Costs.{cost_of}
 use Rattle.p3_expansion.specs.Atoms.{GroundAtom, Keeps}
 use Rattle.p3_expansion.specs.Changes.{ChangesStand, MakesChanges, always, effect_atoms, guarded_literals}
@@ -37,21 +34,6 @@ use Rattle.p3_expansion.proofs.GrowthLemmas.{Covers, grows-trans, grows-wider}
 use Rattle.p3_expansion.proofs.PreferenceLemmas as preference_lemma
 use Rattle.p3_expansion.proofs.WalkLemmas.{zip-push, zip-weaker, pushes-by, pushes-join}
 use Rattle.p3_steps.specs.Steps.{PlannedStep, slots_of, step_atoms, StepIsMade, MakesStep, StepsAreMade, planned_step, action_steps, count_of_steps, steps_from, planned_steps, all_atoms, MakesSteps}
-
--- ---- numbers of choices
-
--- those that may begin are numbers of choices
-pub candidates-below : (N : Numbers) (S : Statics) (ranges : List ℕ) (goal : Goal) → All (λ number. number < choice_count N ranges) (candidates_of N S ranges goal)
-candidates-below N S ranges goal =
-    All-filter (λ number. may_begin N S (choice N ranges number) goal) (λ number. number < count) (range_with_len 0 count) below
-  where
-    count : ℕ
-    count = choice_count N ranges
-
-    below : All (λ number. number < choice_count N ranges) (range_with_len 0 (choice_count N ranges))
-    below k d within =
-        let inside : k < choice_count N ranges = subst (λ n. k < n) (length-range_with_len 0 (choice_count N ranges)) within in
-        subst (λ n. n < choice_count N ranges) (sym (get_or-range_with_len 0 (choice_count N ranges) k d inside)) (omega (arith, inside))
 
 -- ---- one step
 
