@@ -1,0 +1,4 @@
+pub mod RefusalLaws
+pub mod CostLaws
+pub mod ReadyLaws
+pub mod ReadyProps

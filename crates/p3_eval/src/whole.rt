@@ -1,0 +1,94 @@
+//! A task with all that belongs to it.
+
+ghost use Rattle.std.specs.Prelude.{◌≡◌, None, IfOk, IfErr, OnOk, IsTrue};
+ghost use Rattle.p3_tree.specs.Refusals.First.{task_refusal};
+ghost use Rattle.p3_formula.specs.Conditions.{IsReady};
+ghost use Rattle.p3_ground.specs.Sparse.{IsGroundingOf};
+ghost use Rattle.p3_metric.specs.Weighed.{HasWeights, IsLinearMetric};
+ghost use Rattle.p3_eval.specs.Accepted.{ArePartsOf, IsFailOf, is_accepted};
+
+use crate::WholeFail;
+use crate::parts::{Parts, parts_of};
+use p3_formula::{GroundTask, Weights};
+use p3_types::Checked;
+use std::alloc::Global;
+
+/// A checked task with the ground task that stands for it and the weights of its metric. Nothing is
+/// refused of it.
+#[derive(Drop)]
+pub struct Whole {
+    checked: Checked,
+    ground_task: GroundTask,
+    weights: Weights,
+    pub ghost grounding: { ∥ IsGroundingOf checked.task ground_task ∥₁ },
+    pub ghost weighing: { ∥ HasWeights checked.task weights ∥₁ },
+    pub ghost linear: { ∥ IsLinearMetric checked.task ∥₁ },
+    pub ghost accepted: { IsTrue (is_accepted checked.side checked.task) },
+}
+
+impl Whole {
+    /// The checked task with its parts.
+    fn of(checked: Checked, parts: Parts) -> Whole
+        requires { ArePartsOf checked.side checked.task parts }
+        ensures task { result.checked ≡ checked }
+        ensures grounding { IsGroundingOf checked.task result.ground_task }
+        ensures weights { HasWeights checked.task result.weights }
+        ensures ready { IsReady result.ground_task result.weights }
+    {
+        let Parts {
+            ground_task,
+            weights,
+        } = parts;
+        Whole {
+            checked,
+            ground_task,
+            weights,
+        }
+    }
+
+    /// The task with its ground task and its weights, which can be compiled.
+    ///
+    /// # Errors
+    ///
+    /// The first refusal of the task: that of its metric, a limit that its sizes pass, or an action
+    /// that is too dear or has too many weighted preferences. And want of memory.
+    pub fn accept(alloc: Global, checked: Checked) -> Result<Whole, WholeFail>
+        ensures task { IfOk result (λ whole. whole.checked ≡ checked) }
+        ensures grounding { IfOk result (λ whole. IsGroundingOf checked.task whole.ground_task) }
+        ensures weights { IfOk result (λ whole. HasWeights checked.task whole.weights) }
+        ensures ready { IfOk result (λ whole. IsReady whole.ground_task whole.weights) }
+        ensures accepted { OnOk result (task_refusal checked.side checked.task ≡ None) }
+        ensures refused { IfErr result (IsFailOf checked.side checked.task) }
+    {
+        match parts_of(alloc, &checked) {
+            Ok(parts) => Ok(Whole::of(checked, parts)),
+            Err(fail) => {
+                drop(checked);
+                Err(fail)
+            }
+        }
+    }
+
+    /// The checked task. Nothing is refused of it.
+    pub fn checked(&self) -> &Checked
+        ensures checked { result.now ≡ self.now.checked }
+        ensures accepted { task_refusal self.now.checked.side self.now.checked.task ≡ None }
+    {
+        &self.checked
+    }
+
+    /// The ground task.
+    pub fn ground_task(&self) -> &GroundTask
+        ensures { result.now ≡ self.now.ground_task }
+    {
+        &self.ground_task
+    }
+
+    /// The weights of the metric, by which the ground task can be compiled.
+    pub fn weights(&self) -> &Weights
+        ensures weights { result.now ≡ self.now.weights }
+        ensures ready { IsReady self.now.ground_task self.now.weights }
+    {
+        &self.weights
+    }
+}
