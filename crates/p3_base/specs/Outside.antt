@@ -1,5 +1,5 @@
 -- What a store of files holds and what a sink was given, where they tell it, and when a count of faults rose.
-use Rattle.std.specs.Prelude.{ℕ, ◌≡◌, ◌+◌, ◌-◌, ◌^◌, ◌<◌, ◌++◌, ◌⊎◌, List, [], length, take, Option, IfSome, IsSome, IsSomeAnd, unwrap_or, Some, map}
+use Rattle.std.specs.Prelude.{ℕ, Bool, ◌≡◌, ◌+◌, ◌-◌, ◌^◌, ◌<◌, ◌++◌, ◌⊎◌, List, [], length, take, Option, IfSome, IsSome, IsSomeAnd, unwrap_or, Some, map}
 use Rattle.std.specs.Option.{option_map}
 use Rattle.std.specs.Ordering.{nat_cmp}
 use Rattle.std.specs.Cmp.Lexicographic.{slice_cmp}
@@ -11,6 +11,18 @@ use Rattle.std.specs.declared.alloc.Global.{Global}
 -- names with the bytes that they hold
 abbrev pub Store : Type 0
 Store = FinMap (slice_cmp nat_cmp) (List ℕ)
+
+-- all that is seen of a store of files: what is held, where it is told; whether no read can fail; and how often a read, and a write, has failed
+pub record FilesSeen : Type 0 where
+  pub held : Option Store
+  pub is_sure : Bool
+  pub read_faults : ℕ
+  pub write_faults : ℕ
+
+-- all that is seen of a sink: what was put so far, where it is told; and how often a put has failed
+pub record SinkSeen : Type 0 where
+  pub written : Option (List ℕ)
+  pub faults : ℕ
 
 -- what a name holds, or nothing
 abbrev pub bytes_under : Store → List ℕ → Option (List ℕ)

@@ -1,24 +1,25 @@
 //! Files by name, as the compiler sees them.
 
-ghost use Rattle.std.specs.Prelude.{◌≡◌, ◌+◌, ◌≤◌, ℕ, Bool, Option, length, IsSome, IsTrue, OnOk, OnErr, IsErrOf};
-ghost use Rattle.p3_base.specs.Outside.{Store, IsStored, IsHeld, IsTooLong, BeginsHeld, IsPartlyWritten, Rose, holding};
+ghost use Rattle.std.specs.Prelude.{◌≡◌, ◌≤◌, length, IsSome, IsTrue, OnOk, OnErr, IsErrOf};
+ghost use Rattle.p3_base.specs.Outside.{
+  BeginsHeld,
+  FilesSeen,
+  IsHeld,
+  IsPartlyWritten,
+  IsStored,
+  IsTooLong,
+  Rose,
+  holding,
+};
 
 use crate::{ReadFault, Word, WriteFault};
 use std::alloc::Global;
 
 /// A store of files. What it holds is told or not told: a store on a disk tells nothing.
 pub trait Files {
-    /// What is held, where it is told.
-    ghost held: { Self → Option Store };
-
-    /// Whether no read can fail. It is true only where what is held is told.
-    ghost sure: { Self → Bool };
-
-    /// How often a read has failed.
-    ghost read_faults: { Self → ℕ };
-
-    /// How often a write has failed.
-    ghost write_faults: { Self → ℕ };
+    /// All that is seen of it: what is held, where it is told; whether no read can fail, which is true
+    /// only where what is held is told; and how often a read, and a write, has failed.
+    ghost seen: { Self → FilesSeen };
 
     /// Reads the bytes under a name, at most `limit` of them. `into` is emptied first.
     fn read(
@@ -29,26 +30,31 @@ pub trait Files {
         into: &mut Vec<u8>,
     ) -> Result<(), ReadFault>
         // A sure store is asked only for what it holds.
-        requires { IsTrue (sure self.old) → IsStored (held self.old) name.now }
-        ensures ok { OnOk result (IsHeld (held self.old) name.now into.new.items) }
+        requires { IsTrue (seen self.old).is_sure → IsStored (seen self.old).held name.now }
+        ensures ok { OnOk result (IsHeld (seen self.old).held name.now into.new.items) }
         ensures within_limit { OnOk result (length into.new.items ≤ limit) }
-        ensures too_long { IsErrOf result ReadFault.TooLong → IsTooLong (held self.old) name.now limit into.new.items }
-        ensures failed { IsErrOf result ReadFault.Failed → Rose (read_faults self.old) (read_faults self.new) }
-        ensures prefix { OnErr result (BeginsHeld (held self.old) name.now into.new.items) }
-        ensures held_stays { held self.new ≡ held self.old }
-        ensures sure_stays { sure self.new ≡ sure self.old }
-        ensures read_faults_grow { read_faults self.old ≤ read_faults self.new }
-        ensures write_faults_grow { write_faults self.old ≤ write_faults self.new };
+        ensures too_long { IsErrOf result ReadFault.TooLong
+            → IsTooLong (seen self.old).held name.now limit into.new.items }
+        ensures failed { IsErrOf result ReadFault.Failed
+            → Rose (seen self.old).read_faults (seen self.new).read_faults }
+        ensures prefix { OnErr result (BeginsHeld (seen self.old).held name.now into.new.items) }
+        ensures held_stays { (seen self.new).held ≡ (seen self.old).held }
+        ensures sure_stays { (seen self.new).is_sure ≡ (seen self.old).is_sure }
+        ensures read_faults_grow { (seen self.old).read_faults ≤ (seen self.new).read_faults }
+        ensures write_faults_grow { (seen self.old).write_faults ≤ (seen self.new).write_faults };
 
     /// Puts the bytes under a name in the place of what it held. All other names keep what they held.
     fn write(&mut self, alloc: Global, name: &Word, bytes: &[u8]) -> Result<(), WriteFault>
-        ensures ok { OnOk result (held self.new ≡ holding name.now bytes.now (held self.old)) }
-        ensures failed { IsErrOf result WriteFault.Failed → Rose (write_faults self.old) (write_faults self.new) }
-        ensures partly { IsErrOf result WriteFault.Failed → IsPartlyWritten name.now bytes.now (held self.old) (held self.new) }
-        ensures no_memory { IsErrOf result WriteFault.NoMemory → held self.new ≡ held self.old }
-        ensures sure_stays { sure self.new ≡ sure self.old }
-        ensures read_faults_grow { read_faults self.old ≤ read_faults self.new }
-        ensures write_faults_grow { write_faults self.old ≤ write_faults self.new };
+        ensures ok { OnOk result ((seen self.new).held ≡ holding name.now bytes.now (seen self.old).held) }
+        ensures failed { IsErrOf result WriteFault.Failed
+            → Rose (seen self.old).write_faults (seen self.new).write_faults }
+        ensures partly { IsErrOf result WriteFault.Failed
+            → IsPartlyWritten name.now bytes.now (seen self.old).held (seen self.new).held }
+        ensures no_memory { IsErrOf result WriteFault.NoMemory
+            → (seen self.new).held ≡ (seen self.old).held }
+        ensures sure_stays { (seen self.new).is_sure ≡ (seen self.old).is_sure }
+        ensures read_faults_grow { (seen self.old).read_faults ≤ (seen self.new).read_faults }
+        ensures write_faults_grow { (seen self.old).write_faults ≤ (seen self.new).write_faults };
 
-    ghost sure_tells: { (store : Self) → IsTrue (sure store) → IsSome (held store) };
+    ghost sure_tells: { (store : Self) → IsTrue (seen store).is_sure → IsSome (seen store).held };
 }

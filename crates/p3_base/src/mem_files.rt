@@ -89,13 +89,12 @@ impl MemFiles {
 impl Files for MemFiles {
     ghost use Rattle.p3_base.specs.Memory.{IsPlanned, after_read, after_write};
 
-    ghost held = { λ files. Some files.held };
-
-    ghost sure = { λ _. false };
-
-    ghost read_faults = { λ files. files.read_faults };
-
-    ghost write_faults = { λ files. files.write_faults };
+    ghost seen = { λ files. record {
+      held = Some files.held;
+      is_sure = false;
+      read_faults = files.read_faults;
+      write_faults = files.write_faults;
+    } };
 
     fn read(
         &mut self,

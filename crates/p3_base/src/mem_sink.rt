@@ -65,9 +65,7 @@ impl MemSink {
 impl Sink for MemSink {
     ghost use Rattle.p3_base.specs.Memory.{IsRefused, after_put};
 
-    ghost written = { λ sink. Some sink.written };
-
-    ghost faults = { λ sink. sink.faults };
+    ghost seen = { λ sink. record { written = Some sink.written; faults = sink.faults } };
 
     fn put(&mut self, bytes: &[u8]) -> Result<(), SinkFailed>
         ensures only { IsErr result ↔ IsRefused self.old bytes.now }

@@ -45,13 +45,12 @@ impl<'r, R: rt::Files> RealFiles<'r, R> {
 }
 
 impl<'r, R: rt::Files> Files for RealFiles<'r, R> {
-    ghost held = { λ _. None };
-
-    ghost sure = { λ _. false };
-
-    ghost read_faults = { λ files. files.reads };
-
-    ghost write_faults = { λ files. files.writes };
+    ghost seen = { λ files. record {
+      held = None;
+      is_sure = false;
+      read_faults = files.reads;
+      write_faults = files.writes;
+    } };
 
     fn read(
         &mut self,

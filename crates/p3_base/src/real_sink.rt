@@ -31,9 +31,7 @@ impl<'r, R: Print> RealSink<'r, R> {
 }
 
 impl<'r, R: Print> Sink for RealSink<'r, R> {
-    ghost written = { λ _. None };
-
-    ghost faults = { λ sink. sink };
+    ghost seen = { λ sink. record { written = None; faults = sink } };
 
     fn put(&mut self, bytes: &[u8]) -> Result<(), SinkFailed> {
         let mut rest = bytes;

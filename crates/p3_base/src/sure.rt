@@ -55,13 +55,12 @@ impl SureFiles {
 }
 
 impl Files for SureFiles {
-    ghost held = { λ files. Some files };
-
-    ghost sure = { λ _. true };
-
-    ghost read_faults = { λ _. 0 };
-
-    ghost write_faults = { λ _. 0 };
+    ghost seen = { λ files. record {
+      held = Some files;
+      is_sure = true;
+      read_faults = 0;
+      write_faults = 0;
+    } };
 
     fn read(
         &mut self,
@@ -95,9 +94,7 @@ impl SureSink {
 }
 
 impl Sink for SureSink {
-    ghost written = { λ _. None };
-
-    ghost faults = { λ _. 0 };
+    ghost seen = { λ _. record { written = None; faults = 0 } };
 
     fn put(&mut self, bytes: &[u8]) -> Result<(), SinkFailed> {
         Ok(())

@@ -8,15 +8,16 @@ use Rattle.std.specs.declared.cmp.Ordering.{Ordering}
 use Rattle.std.specs.declared.cmp.Ordering.TheVariants.{Less, Equal, Greater}
 use Rattle.std.specs.Cmp.Lexicographic.{slice_cmp, nat_list_cmp_total}
 use Rattle.std.specs.FinMap.{get, get-insert, slice_cmp-IsAntisymmetric, nat_cmp-IsAntisymmetric}
-use Rattle.p3_base.specs.Outside.{Store, Rose, bytes_under, holding, IsPartlyWritten}
+use Rattle.p3_base.specs.Outside.{FilesSeen, SinkSeen, Store, Rose, bytes_under, holding, IsPartlyWritten}
 use Rattle.p3_base.specs.declared.refusal.Role.{Role}
 use Rattle.p3_cli.specs.Ending.{status_of}
 use Rattle.p3_cli.specs.Outcome.{ReadsAll, WriteFails}
-use Rattle.p3_cli.specs.Product.{Accepts, IsRefusedBy, Refuses}
+use Rattle.p3_cli.specs.Product.{Accepts, Produces, Refuses}
+use Rattle.p3_cli.specs.Translation.{IsRefusedBy}
 use Rattle.p3_cli.specs.Request.{Request, inputs, outputs}
 use Rattle.p3_tree.specs.Commands.{Input, Output}
-use Rattle.p3_cli.specs.Run.{FilesState, SinkState, IsAccepted, IsProduct, IsRefusalIn, ShownBy, Comes, Leaves, Tells, Answers, IsRefusedIn, IsAcceptedIn, SameUnder, OthersStay}
-use Rattle.p3_cli.specs.Store.{Texts, reading, holding_all, IsWrittenUpTo}
+use Rattle.p3_cli.specs.Run.{AnyFaultRose, MustComplete, MustRefuse, IsAccepted, IsProduct, IsRefusalIn, ShownBy, Comes, Leaves, Tells, Answers, IsRefusedIn, IsAcceptedIn, SameUnder, OthersStay}
+use Rattle.p3_cli.specs.Store.{Texts, reading, holding_all, AreFirstWritten, IsWrittenUpTo}
 use Rattle.p3_cli.specs.declared.ending.Ending.{Ending}
 use Rattle.p3_cli.specs.declared.ending.Ending.TheVariants as ending
 
@@ -36,7 +37,7 @@ module _ (request : Request) (asked : List Input) (same : asked ≡ inputs reque
   refused_of (Some store) how read refused = subst (λ shown. ShownBy request shown how) (sym ((λ i. reading store (sym same i)) ∙ read ∙ ap Texts are)) refused
 
   -- what is refused of it is refused of what is held
-  pub refused_comes : (old new : FilesState) (how : Ending) → ReadsAll old.held asked found → IsRefusedBy (Refuses request texts) how → Comes request old new how
+  pub refused_comes : (old new : FilesSeen) (how : Ending) → ReadsAll old.held asked found → IsRefusedBy (Refuses request texts) how → Comes request old new how
   refused_comes old new ending.OutOfMemory read refused = tt
   refused_comes old new (ending.Refused line) read refused = refused_of old.held (ending.Refused line) read refused
   refused_comes old new (ending.Done report) read refused = absurd refused
@@ -49,7 +50,7 @@ module _ (request : Request) (asked : List Input) (same : asked ≡ inputs reque
   rose_since first before after grows rose = elim rose [ inl less ↦ inl (omega arith) | inr most ↦ inr most ]
 
   -- where what is accepted was not written
-  pub unwritten_comes : (old new : FilesState) (how : Ending) (writings : List (Output × List ℕ)) (told : Option Store) (before : ℕ) → ReadsAll old.held asked found → Accepts request texts
+  pub unwritten_comes : (old new : FilesSeen) (how : Ending) (writings : List (Output × List ℕ)) (told : Option Store) (before : ℕ) → ReadsAll old.held asked found → Accepts request texts
       → old.write_faults ≤ before → WriteFails writings told new.held before new.write_faults how → Comes request old new how
   unwritten_comes old new ending.OutOfMemory writings told before read accepted grows fails = tt
   unwritten_comes old new (ending.WriteFailed role) writings told before read accepted grows fails = (rose_since old.write_faults before new.write_faults grows fails.1, all_accepted old.held read accepted)
@@ -59,11 +60,31 @@ module _ (request : Request) (asked : List Input) (same : asked ≡ inputs reque
   unwritten_comes old new (ending.ReadFailed role) writings told before read accepted grows fails = absurd fails
   unwritten_comes old new ending.Usage writings told before read accepted grows fails = absurd fails
 
-abbrev state : Option Store → ℕ → ℕ → FilesState
-state told reads writes = record { held = told; read_faults = reads; write_faults = writes }
+  -- what was made of it is the product of what is held
+  product_is : (told : Option Store) (writings : List (Output × List ℕ)) (report : List ℕ) → ReadsAll told asked found → map (λ written. written.0) writings ≡ outputs request
+      → Produces request texts writings report → IsProduct told request writings report
+  product_is told writings report read named made = record { outputs = named; made = made_of told read }
+    where
+      made_of : (told : Option Store) → ReadsAll told asked found
+          → IfSome told (λ store. (read : List (List ℕ)) × (reading store (inputs request) ≡ Texts read) × Produces request read writings report)
+      made_of None read = tt
+      made_of (Some store) read = (texts, (λ i. reading store (sym same i)) ∙ read ∙ ap Texts are, made)
+
+  -- what is left where it was not written whole
+  pub unwritten_leaves : (old mid new : Option Store) (writings : List (Output × List ℕ)) (report : List ℕ) (before after : ℕ) (how : Ending) → ReadsAll old asked found → mid ≡ old
+      → map (λ written. written.0) writings ≡ outputs request → Produces request texts writings report → WriteFails writings mid new before after how → Leaves request old new how
+  unwritten_leaves old mid new writings report before after (ending.WriteFailed role) read stays named made fails =
+      (writings, report, product_is old writings report read named made, subst (λ told. IsWrittenUpTo role writings told new) stays fails.0)
+  unwritten_leaves old mid new writings report before after ending.OutOfMemory read stays named made fails =
+      inr (writings, report, product_is old writings report read named made, subst (λ told. AreFirstWritten writings told new) stays fails)
+  unwritten_leaves old mid new writings report before after (ending.Refused line) read stays named made fails = absurd fails
+  unwritten_leaves old mid new writings report before after (ending.Done lines) read stays named made fails = absurd fails
+  unwritten_leaves old mid new writings report before after (ending.TooLong role) read stays named made fails = absurd fails
+  unwritten_leaves old mid new writings report before after (ending.ReadFailed role) read stays named made fails = absurd fails
+  unwritten_leaves old mid new writings report before after ending.Usage read stays named made fails = absurd fails
 
 -- the status, but where the report was not put
-pub kept_status : (before after : SinkState) (status : ℕ) (how : Ending) → Tells before after status how → status_of how ≢ 0 → status ≡ status_of how
+pub kept_status : (before after : SinkSeen) (status : ℕ) (how : Ending) → Tells before after status how → status_of how ≢ 0 → status ≡ status_of how
 kept_status before after status (ending.Done report) tells other = absurd (other refl)
 kept_status before after status (ending.Refused line) tells other = elim tells [ inl t ↦ t.0 | inr t ↦ t.0 ]
 kept_status before after status (ending.TooLong role) tells other = elim tells [ inl t ↦ t.0 | inr t ↦ t.0 ]
@@ -72,53 +93,63 @@ kept_status before after status (ending.WriteFailed role) tells other = elim tel
 kept_status before after status ending.OutOfMemory tells other = elim tells [ inl t ↦ t.0 | inr t ↦ t.0 ]
 kept_status before after status ending.Usage tells other = elim tells [ inl t ↦ t.0 | inr t ↦ t.0 ]
 
-refuses_request : (request : Request) (told : Option Store) (reads writes : ℕ) (new : FilesState) (before after : SinkState) (status : ℕ) (how : Ending)
-    → Comes request (state told reads writes) new how → Tells before after status how
-    → IfSome told (λ store. ((how : Ending) × IsRefusalIn store request how) → Rose reads new.read_faults ⊎ ((status ≡ 2) ⊎ (status ≡ 5)))
-refuses_request request None reads writes new before after status how comes tells = tt
-refuses_request request (Some store) reads writes new before after status (ending.Done report) comes tells = λ shown. accepted_or store request shown.0 comes shown.1
-refuses_request request (Some store) reads writes new before after status (ending.Refused line) comes tells = λ shown. inr (inl (kept_status before after status (ending.Refused line) tells (λ e. cc)))
-refuses_request request (Some store) reads writes new before after status (ending.TooLong role) comes tells = λ shown. inr (inl (kept_status before after status (ending.TooLong role) tells (λ e. cc)))
-refuses_request request (Some store) reads writes new before after status (ending.ReadFailed role) comes tells = λ shown. inl comes.1
-refuses_request request (Some store) reads writes new before after status (ending.WriteFailed role) comes tells = λ shown. accepted_or store request shown.0 comes.1 shown.1
-refuses_request request (Some store) reads writes new before after status ending.OutOfMemory comes tells = λ shown. inr (inr (kept_status before after status ending.OutOfMemory tells (λ e. cc)))
-refuses_request request (Some store) reads writes new before after status ending.Usage comes tells = absurd comes
+refuses_held : (told : Option Store) (request : Request) (old new : FilesSeen) (before after : SinkSeen) (status : ℕ) (how : Ending) → old.held ≡ told
+    → Comes request old new how → Tells before after status how
+    → IfSome told (λ store. ((how : Ending) × IsRefusalIn store request how) → Rose old.read_faults new.read_faults ⊎ ((status ≡ 2) ⊎ (status ≡ 5)))
+refuses_held None request old new before after status how is comes tells = tt
+refuses_held (Some store) request old new before after status (ending.Done report) is comes tells =
+    λ shown. accepted_or store request shown.0 (subst (λ told. IfSome told (λ store. IsAccepted store request)) is comes) shown.1
+refuses_held (Some store) request old new before after status (ending.Refused line) is comes tells =
+    λ shown. inr (inl (kept_status before after status (ending.Refused line) tells (λ e. cc)))
+refuses_held (Some store) request old new before after status (ending.TooLong role) is comes tells =
+    λ shown. inr (inl (kept_status before after status (ending.TooLong role) tells (λ e. cc)))
+refuses_held (Some store) request old new before after status (ending.ReadFailed role) is comes tells = λ shown. inl comes.1
+refuses_held (Some store) request old new before after status (ending.WriteFailed role) is comes tells =
+    λ shown. accepted_or store request shown.0 (subst (λ told. IfSome told (λ store. IsAccepted store request)) is comes.1) shown.1
+refuses_held (Some store) request old new before after status ending.OutOfMemory is comes tells =
+    λ shown. inr (inr (kept_status before after status ending.OutOfMemory tells (λ e. cc)))
+refuses_held (Some store) request old new before after status ending.Usage is comes tells = absurd comes
 
 -- a refusal that is shown comes
-pub refuses : (asked : Option Request) (told : Option Store) (reads writes : ℕ) (new : FilesState) (before after : SinkState) (status : ℕ) (how : Ending)
-    → Answers asked (state told reads writes) new how → Tells before after status how
-    → IfSome told (λ store. IsRefusedIn asked store → Rose reads new.read_faults ⊎ ((status ≡ 2) ⊎ (status ≡ 5)))
-refuses None None reads writes new before after status how answers tells = tt
-refuses None (Some store) reads writes new before after status how answers tells = λ shown. absurd shown
-refuses (Some request) told reads writes new before after status how answers tells = refuses_request request told reads writes new before after status how answers.0 tells
+pub refuses : (asked : Option Request) (old new : FilesSeen) (before after : SinkSeen) (status : ℕ) (how : Ending)
+    → Answers asked old new how → Tells before after status how
+    → MustRefuse asked old new status
+refuses None old new before after status how answers tells = if_none old.held
+  where
+    if_none : (told : Option Store) → IfSome told (λ store. IsRefusedIn None store → Rose old.read_faults new.read_faults ⊎ ((status ≡ 2) ⊎ (status ≡ 5)))
+    if_none None = tt
+    if_none (Some store) = λ shown. absurd shown
+refuses (Some request) old new before after status how answers tells = refuses_held old.held request old new before after status how refl answers.0 tells
 
-abbrev IsComplete : ℕ → ℕ → FilesState → SinkState → SinkState → ℕ → Type 0
-IsComplete reads writes new before after status =
-    Rose reads new.read_faults ⊎ (Rose writes new.write_faults ⊎ (Rose before.faults after.faults ⊎ ((status ≡ 0) ⊎ (status ≡ 5))))
+abbrev IsComplete : FilesSeen → FilesSeen → SinkSeen → SinkSeen → ℕ → Type 0
+IsComplete old new before after status = AnyFaultRose old new before after ⊎ ((status ≡ 0) ⊎ (status ≡ 5))
 
-completes_request : (request : Request) (told : Option Store) (reads writes : ℕ) (new : FilesState) (before after : SinkState) (status : ℕ) (how : Ending)
-    → Comes request (state told reads writes) new how → Tells before after status how
-    → IfSome told (λ store. IsAccepted store request → IsComplete reads writes new before after status)
-completes_request request None reads writes new before after status how comes tells = tt
-completes_request request (Some store) reads writes new before after status (ending.Done report) comes tells =
-    λ accepted. elim tells [ inl t ↦ inr (inr (inr (inl t.0))) | inr t ↦ inr (inr (inl t.1)) ]
-completes_request request (Some store) reads writes new before after status (ending.Refused line) comes tells =
-    λ accepted. accepted_or store request (ending.Refused line) accepted comes
-completes_request request (Some store) reads writes new before after status (ending.TooLong role) comes tells =
-    λ accepted. accepted_or store request (ending.TooLong role) accepted comes
-completes_request request (Some store) reads writes new before after status (ending.ReadFailed role) comes tells = λ accepted. inl comes.1
-completes_request request (Some store) reads writes new before after status (ending.WriteFailed role) comes tells = λ accepted. inr (inl comes.0)
-completes_request request (Some store) reads writes new before after status ending.OutOfMemory comes tells =
-    λ accepted. inr (inr (inr (inr (kept_status before after status ending.OutOfMemory tells (λ e. cc)))))
-completes_request request (Some store) reads writes new before after status ending.Usage comes tells = absurd comes
+completes_held : (told : Option Store) (request : Request) (old new : FilesSeen) (before after : SinkSeen) (status : ℕ) (how : Ending) → old.held ≡ told
+    → Comes request old new how → Tells before after status how
+    → IfSome told (λ store. IsAccepted store request → IsComplete old new before after status)
+completes_held None request old new before after status how is comes tells = tt
+completes_held (Some store) request old new before after status (ending.Done report) is comes tells =
+    λ accepted. elim tells [ inl t ↦ inr (inl t.0) | inr t ↦ inl (inr (inr t.1)) ]
+completes_held (Some store) request old new before after status (ending.Refused line) is comes tells =
+    λ accepted. accepted_or store request (ending.Refused line) accepted (subst (λ told. IfSome told (λ store. IsRefusalIn store request (ending.Refused line))) is comes)
+completes_held (Some store) request old new before after status (ending.TooLong role) is comes tells =
+    λ accepted. accepted_or store request (ending.TooLong role) accepted (subst (λ told. IfSome told (λ store. IsRefusalIn store request (ending.TooLong role))) is comes)
+completes_held (Some store) request old new before after status (ending.ReadFailed role) is comes tells = λ accepted. inl (inl comes.1)
+completes_held (Some store) request old new before after status (ending.WriteFailed role) is comes tells = λ accepted. inl (inr (inl comes.0))
+completes_held (Some store) request old new before after status ending.OutOfMemory is comes tells =
+    λ accepted. inr (inr (kept_status before after status ending.OutOfMemory tells (λ e. cc)))
+completes_held (Some store) request old new before after status ending.Usage is comes tells = absurd comes
 
 -- what is accepted is done, where nothing fails
-pub completes : (asked : Option Request) (told : Option Store) (reads writes : ℕ) (new : FilesState) (before after : SinkState) (status : ℕ) (how : Ending)
-    → Answers asked (state told reads writes) new how → Tells before after status how
-    → IfSome told (λ store. IsAcceptedIn asked store → IsComplete reads writes new before after status)
-completes None None reads writes new before after status how answers tells = tt
-completes None (Some store) reads writes new before after status how answers tells = λ accepted. absurd accepted
-completes (Some request) told reads writes new before after status how answers tells = completes_request request told reads writes new before after status how answers.0 tells
+pub completes : (asked : Option Request) (old new : FilesSeen) (before after : SinkSeen) (status : ℕ) (how : Ending)
+    → Answers asked old new how → Tells before after status how
+    → MustComplete asked old new before after status
+completes None old new before after status how answers tells = if_none old.held
+  where
+    if_none : (told : Option Store) → IfSome told (λ store. IsAcceptedIn None store → IsComplete old new before after status)
+    if_none None = tt
+    if_none (Some store) = λ accepted. absurd accepted
+completes (Some request) old new before after status how answers tells = completes_held old.held request old new before after status how refl answers.0 tells
 
 untied : (o : Ordering) → (o ≡ Equal → ⊥) → is_eq o ≡ false
 untied Less apart = refl
@@ -186,6 +217,6 @@ leaves_others name request old new (ending.ReadFailed role) others same = ap (op
 leaves_others name request old new ending.Usage others same = ap (option_map (λ store. bytes_under store name)) same
 
 -- a name that is no output holds what it held
-pub others_stay : (asked : Option Request) (old new : FilesState) (how : Ending) → Answers asked old new how → OthersStay asked old.held new.held
+pub others_stay : (asked : Option Request) (old new : FilesSeen) (how : Ending) → Answers asked old new how → OthersStay asked old.held new.held
 others_stay None old new how answers name others = ap (option_map (λ store. bytes_under store name)) answers.1
 others_stay (Some request) old new how answers name others = leaves_others name request old.held new.held how others answers.1

@@ -2,18 +2,24 @@
 use Rattle.std.specs.Prelude.{ℕ, List, codes}
 use Rattle.p3_tree.specs.Reports.Lines.{line, read_fault_line, write_fault_line, want_of_memory_line}
 use Rattle.p3_tree.specs.Reports.Refusals.{too_long_line}
+use Rattle.p3_cli.specs.Status as status
 use Rattle.p3_cli.specs.declared.ending.Ending.{Ending}
 use Rattle.p3_cli.specs.declared.ending.Ending.TheVariants.{Done, Refused, TooLong, ReadFailed, WriteFailed, OutOfMemory, Usage}
 
 -- the status, where the lines can be put
 abbrev pub status_of : Ending → ℕ
-status_of (Done report) = 0
-status_of (Refused line) = 2
-status_of (TooLong role) = 2
-status_of (ReadFailed role) = 3
-status_of (WriteFailed role) = 4
-status_of OutOfMemory = 5
-status_of Usage = 64
+status_of (Done report) = status.done
+status_of (Refused text) = status.refused
+status_of (TooLong role) = status.refused
+status_of (ReadFailed role) = status.unread
+status_of (WriteFailed role) = status.unwritten
+status_of OutOfMemory = status.out_of_memory
+status_of Usage = status.usage
+
+-- the status in the place of another where the lines cannot be put
+abbrev pub unput_status : Ending → ℕ
+unput_status (Done report) = status.unput
+unput_status how = status_of how
 
 -- the lines that are put
 abbrev pub lines_of : Ending → List ℕ

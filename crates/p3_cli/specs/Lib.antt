@@ -1,11 +1,12 @@
 pub mod Asked
 pub mod Ending
-pub mod Layout
 pub mod Meaning
 pub mod Outcome
 pub mod Product
 pub mod Request
 pub mod Run
+pub mod Status
 pub mod Store
 pub mod Translation
 pub mod WrittenText
+pub mod Zeros

@@ -1,41 +1,58 @@
 -- What a done run means, in the terms of the definitions alone: one task was read, another is written, and the second is a faithful translation of the first.
-use Rattle.std.specs.Prelude.{◌≡◌, ℕ, List, ◌++◌, codes, Option, Some, None, IsSomeAnd}
-use Rattle.std.specs.Fmt.{decimal, signed_decimal}
-use Rattle.p3_base.specs.Outside.{Store, bytes_under, with_put}
+use Rattle.std.specs.Prelude.{◌≡◌, ◌⊎◌, ℕ, List, Option, Some, None, IfSome, IsSomeAnd}
+use Rattle.p3_base.specs.Outside.{FilesSeen, SinkSeen, Store, bytes_under, with_put}
+use Rattle.p3_base.specs.declared.refusal.Side.TheVariants.{Source}
 use Rattle.p3_tree.specs.Grammar.Texts.{Reads}
 use Rattle.p3_tree.specs.Faithful.{Faithful}
-use Rattle.p3_tree.specs.Limits.{step_count, instance_count}
-use Rattle.p3_tree.specs.Metrics.{base_loss, direction}
-use Rattle.p3_tree.specs.Offences.{WellFormed}
-use Rattle.p3_tree.specs.Reports.Tasks.{direction_name}
-use Rattle.p3_compile.specs.Tiny.{IsTinyTask}
+use Rattle.p3_tree.specs.Refusals.First.{AreAccepted}
+use Rattle.p3_tree.specs.Reports.Tasks.{compiled_lines}
 use Rattle.p3_tree.specs.declared.task.Task.{Task}
 use Rattle.p3_cli.specs.Request.{Request, Compile}
+use Rattle.p3_cli.specs.Status as status
+use Rattle.p3_cli.specs.Translation.{IsLaidOut}
 
--- the bytes under the two names are texts of the halves of the task
-abbrev pub HoldsTask : Store → List ℕ → List ℕ → Task → Type 0
-HoldsTask store domain problem task = IsSomeAnd (bytes_under store domain) (λ d. IsSomeAnd (bytes_under store problem) (λ p. Reads d p task))
+-- the statuses of a run that has written all its outputs
+abbrev pub IsDone : ℕ → Type 0
+IsDone answered = (answered ≡ status.done) ⊎ (answered ≡ status.unput)
 
--- the number of steps, that of preference instances, the loss of no violation, and the direction
-abbrev pub task_report : Task → List ℕ
-task_report task =
-    codes "steps " ++ (decimal (step_count task) ++ (codes "\npreferences " ++ (decimal (instance_count task)
-    ++ (codes "\nbase " ++ (signed_decimal (base_loss task) ++ (codes "\ndirection " ++ (direction_name (direction task) ++ codes "\n")))))))
+-- the two names hold bytes of which this is so
+abbrev pub HoldBoth : Store → List ℕ → List ℕ → (List ℕ → List ℕ → Type 0) → Type 0
+HoldBoth store first second Says = IsSomeAnd (bytes_under store first) (λ one. IsSomeAnd (bytes_under store second) (λ two. Says one two))
 
--- The names of the inputs held a task before, those of the outputs hold one after, and this one is a
--- faithful translation of the other. With status 0 what was put is the report of the task read.
-pub record IsCompiled (domain problem written_domain written_problem : List ℕ) (before after : Store) (put_before put_after : Option (List ℕ)) (status : ℕ) : Type 0 where
+-- ---- the meaning of what is written
+
+-- The names of the inputs held the texts of a task, of which nothing is refused; those of the outputs hold the texts of one that is a
+-- faithful translation of it. With status 0 what was put is the report of the task read.
+pub record IsCompiled (domain problem written_domain written_problem : List ℕ) (before after : Store) (put_before put_after : Option (List ℕ)) (answered : ℕ) : Type 0 where
   pub task : Task
   pub written : Task
-  pub read : HoldsTask before domain problem task
-  pub tiny : IsTinyTask task
-  pub well_formed : WellFormed task
-  pub holds : HoldsTask after written_domain written_problem written
+  pub read : HoldBoth before domain problem (λ d p. AreAccepted Source d p task)
+  pub holds : HoldBoth after written_domain written_problem (λ od op. Reads od op written)
   pub faithful : Faithful task written
-  pub reported : status ≡ 0 → put_after ≡ with_put (task_report task) put_before
+  pub reported : answered ≡ status.done → put_after ≡ with_put (compiled_lines task) put_before
 
--- what is done is what the words ask for
-abbrev pub IsDone : Option Request → Store → Store → Option (List ℕ) → Option (List ℕ) → ℕ → Type 0
-IsDone None before after put_before put_after status = ⊥
-IsDone (Some (Compile domain problem written_domain written_problem)) before after put_before put_after status =
-    IsCompiled domain problem written_domain written_problem before after put_before put_after status
+-- what the words ask for keeps its meaning
+abbrev pub KeepsMeaning : Option Request → Store → Store → Option (List ℕ) → Option (List ℕ) → ℕ → Type 0
+KeepsMeaning None before after put_before put_after answered = ⊥
+KeepsMeaning (Some (Compile domain problem written_domain written_problem)) before after put_before put_after answered =
+    IsCompiled domain problem written_domain written_problem before after put_before put_after answered
+
+-- so it is where the files tell what they hold
+abbrev pub IsFaithfulRun : Option Request → FilesSeen → FilesSeen → SinkSeen → SinkSeen → ℕ → Type 0
+IsFaithfulRun asked old new put_before put_after answered =
+    IfSome old.held (λ before. IsSomeAnd new.held (λ after. KeepsMeaning asked before after put_before.written put_after.written answered))
+
+-- ---- its layout
+
+-- the names of the outputs hold the layout of a target for the task that those of the inputs held
+pub record HasLayout (domain problem written_domain written_problem : List ℕ) (before after : Store) : Type 0 where
+  pub task : Task
+  pub read : HoldBoth before domain problem (λ d p. AreAccepted Source d p task)
+  pub laid_out : HoldBoth after written_domain written_problem (IsLaidOut task)
+
+abbrev pub KeepsLayout : Option Request → Store → Store → Type 0
+KeepsLayout None before after = ⊥
+KeepsLayout (Some (Compile domain problem written_domain written_problem)) before after = HasLayout domain problem written_domain written_problem before after
+
+abbrev pub IsLaidOutRun : Option Request → FilesSeen → FilesSeen → Type 0
+IsLaidOutRun asked old new = IfSome old.held (λ before. IsSomeAnd new.held (λ after. KeepsLayout asked before after))

@@ -12,9 +12,12 @@ pub data Request : Type 0 where
 abbrev pub inputs : Request → List Input
 inputs (Compile domain problem written_domain written_problem) = source_inputs domain problem
 
+abbrev pub target_outputs : List ℕ → List ℕ → List Output
+target_outputs domain problem = output WrittenDomain domain ∷ output WrittenProblem problem ∷ []
+
 -- the files that are written, in the order in which they are
 abbrev pub outputs : Request → List Output
-outputs (Compile domain problem written_domain written_problem) = output WrittenDomain written_domain ∷ output WrittenProblem written_problem ∷ []
+outputs (Compile domain problem written_domain written_problem) = target_outputs written_domain written_problem
 
 -- four words that name files, the outputs different ones
 abbrev pub are_compile_words : List ℕ → List ℕ → List ℕ → List ℕ → Bool

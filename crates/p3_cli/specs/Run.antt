@@ -2,25 +2,15 @@
 use Rattle.std.specs.Prelude.{ℕ, ◌≡◌, ◌⊎◌, List, Option, Some, None, IfSome, Contains, map, ◌≢◌}
 use Rattle.std.specs.Option.{option_map}
 use Rattle.std.specs.List.{AllByRecursion}
-use Rattle.p3_base.specs.Outside.{Store, Rose, IsPartlyPut, bytes_under, with_put}
-use Rattle.p3_cli.specs.Ending.{status_of, lines_of}
+use Rattle.p3_base.specs.Outside.{FilesSeen, SinkSeen, Store, Rose, IsPartlyPut, bytes_under, with_put}
+use Rattle.p3_cli.specs.Ending.{status_of, unput_status, lines_of}
 use Rattle.p3_cli.specs.Product.{Refuses, Accepts, Produces}
 use Rattle.p3_cli.specs.Request.{Request, inputs, outputs}
 use Rattle.p3_tree.specs.Commands.{Output}
+use Rattle.p3_cli.specs.Status as status
 use Rattle.p3_cli.specs.Store.{Reading, Texts, TooLong, Absent, reading, AreStored, holding_all, AreFirstWritten, IsWrittenUpTo}
 use Rattle.p3_cli.specs.declared.ending.Ending.{Ending}
 use Rattle.p3_cli.specs.declared.ending.Ending.TheVariants as ending
-
--- what is seen of the files
-pub record FilesState : Type 0 where
-  pub held : Option Store
-  pub read_faults : ℕ
-  pub write_faults : ℕ
-
--- what is seen of the sink
-pub record SinkState : Type 0 where
-  pub written : Option (List ℕ)
-  pub faults : ℕ
 
 -- the ending says a refusal that a reading shows
 abbrev pub ShownBy : Request → Reading → Ending → Type 0
@@ -42,7 +32,7 @@ pub record IsProduct (told : Option Store) (request : Request) (writings : List 
   pub made : IfSome told (λ store. (read : List (List ℕ)) × (reading store (inputs request) ≡ Texts read) × Produces request read writings report)
 
 -- when an ending of a request comes
-abbrev pub Comes : Request → FilesState → FilesState → Ending → Type 0
+abbrev pub Comes : Request → FilesSeen → FilesSeen → Ending → Type 0
 Comes request old new (ending.Done report) = IfSome old.held (λ store. IsAccepted store request)
 Comes request old new (ending.Refused line) = IfSome old.held (λ store. IsRefusalIn store request (ending.Refused line))
 Comes request old new (ending.TooLong role) = IfSome old.held (λ store. IsRefusalIn store request (ending.TooLong role))
@@ -65,23 +55,18 @@ Leaves request old new (ending.ReadFailed role) = new ≡ old
 Leaves request old new ending.Usage = new ≡ old
 
 -- words that ask for nothing end as usage, and then no file is read or written
-abbrev pub Answers : Option Request → FilesState → FilesState → Ending → Type 0
+abbrev pub Answers : Option Request → FilesSeen → FilesSeen → Ending → Type 0
 Answers None old new how = (how ≡ ending.Usage) × (new.held ≡ old.held)
 Answers (Some request) old new how = Comes request old new how × Leaves request old.held new.held how
 
--- the status in the place of another where the report was not put
-abbrev pub unput_status : Ending → ℕ
-unput_status (ending.Done report) = 6
-unput_status how = status_of how
-
 -- the lines are put and the status says the ending; or the sink failed, a first part of them is put, and the status 6 takes the place of 0
-abbrev pub Tells : SinkState → SinkState → ℕ → Ending → Type 0
+abbrev pub Tells : SinkSeen → SinkSeen → ℕ → Ending → Type 0
 Tells old new status how =
     ((status ≡ status_of how) × (new.written ≡ with_put (lines_of how) old.written))
     ⊎ ((status ≡ unput_status how) × Rose old.faults new.faults × IsPartlyPut (lines_of how) old.written new.written)
 
 -- how a run ends
-pub record Ends (asked : Option Request) (old new : FilesState) (before after : SinkState) (status : ℕ) (how : Ending) : Type 0 where
+pub record Ends (asked : Option Request) (old new : FilesSeen) (before after : SinkSeen) (status : ℕ) (how : Ending) : Type 0 where
   pub answers : Answers asked old new how
   pub tells : Tells before after status how
 
@@ -94,6 +79,20 @@ IsRefusedIn (Some request) store = (how : Ending) × IsRefusalIn store request h
 abbrev pub IsAcceptedIn : Option Request → Store → Type 0
 IsAcceptedIn None store = ⊥
 IsAcceptedIn (Some request) store = IsAccepted store request
+
+-- where the store tells, and what it holds shows a refusal, that is answered, but for failed reads and want of memory
+abbrev pub MustRefuse : Option Request → FilesSeen → FilesSeen → ℕ → Type 0
+MustRefuse asked old new answered =
+    IfSome old.held (λ store. IsRefusedIn asked store → Rose old.read_faults new.read_faults ⊎ ((answered ≡ status.refused) ⊎ (answered ≡ status.out_of_memory)))
+
+-- something of the outside failed
+abbrev pub AnyFaultRose : FilesSeen → FilesSeen → SinkSeen → SinkSeen → Type 0
+AnyFaultRose old new before after = Rose old.read_faults new.read_faults ⊎ (Rose old.write_faults new.write_faults ⊎ Rose before.faults after.faults)
+
+-- where the store tells, and what it holds is accepted, all is done, but for faults of the outside and want of memory
+abbrev pub MustComplete : Option Request → FilesSeen → FilesSeen → SinkSeen → SinkSeen → ℕ → Type 0
+MustComplete asked old new before after answered =
+    IfSome old.held (λ store. IsAcceptedIn asked store → AnyFaultRose old new before after ⊎ ((answered ≡ status.done) ⊎ (answered ≡ status.out_of_memory)))
 
 -- it is told that each input that is asked for is held
 abbrev pub AreHeld : Option Request → Option Store → Type 0

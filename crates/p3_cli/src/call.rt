@@ -1,17 +1,30 @@
 //! The top call.
 
-ghost use Rattle.std.specs.Prelude.{◌≡◌, ◌⊎◌, ◌↔◌, ◌≤◌, IfSome, IsSomeAnd, IsTrue, None};
+ghost use Rattle.std.specs.Prelude.{◌≡◌, ◌↔◌, IfSome, IsTrue, None};
 ghost use Rattle.p3_base.specs.Outside.{Rose};
 ghost use Rattle.p3_cli.specs.Asked.{asked_request};
-ghost use Rattle.p3_cli.specs.Meaning.{IsDone};
+ghost use Rattle.p3_cli.specs.Meaning.{IsDone, IsFaithfulRun, IsLaidOutRun};
 ghost use Rattle.p3_cli.specs.Request.{inputs, request_of};
-ghost use Rattle.p3_cli.specs.Run.{Answers, AreHeld, Comes, Ends, IsAcceptedIn, IsRefusedIn, Leaves, OthersStay, Tells};
+ghost use Rattle.p3_cli.specs.Run.{
+  Answers,
+  AreHeld,
+  Comes,
+  Ends,
+  IsRefusedIn,
+  Leaves,
+  MustComplete,
+  MustRefuse,
+  OthersStay,
+  Tells,
+};
+ghost use Rattle.p3_cli.specs.Status as status;
 ghost use Rattle.p3_cli.specs.Store.{AreStored};
 ghost use Rattle.p3_cli.specs.declared.ending.Ending.{Ending};
 
 use crate::Ending;
 use crate::product::product_of;
 use crate::request::{Request, asked};
+use crate::status::UNPUT;
 use crate::store::{read_all, write_all};
 use p3_base::{Files, List, Sink, SinkFailed, Word};
 use std::alloc::Global;
@@ -23,40 +36,44 @@ use std::alloc::Global;
 /// not written), 5 (want of memory, at any point before the first write, or where a write answers
 /// it), 6 (done, but the report was not put) and 64 (usage).
 pub fn run<F: Files, S: Sink>(alloc: Global, words: &[Word], files: &mut F, out: &mut S) -> u8
-    requires { IsTrue (F.sure files.old) → AreHeld (request_of words.now) (F.held files.old) }
+    requires { IsTrue (F.seen files.old).is_sure
+        → AreHeld (request_of words.now) (F.seen files.old).held }
 
     // The words decide about usage, and then no file is touched.
-    ensures usage { (result ≡ 64) ↔ (request_of words.now ≡ None) }
+    ensures usage { (result ≡ status.usage) ↔ (request_of words.now ≡ None) }
     ensures usage_untouched { request_of words.now ≡ None → files.new ≡ files.old }
 
     // A refusal comes where it is shown, and where it is shown it comes.
-    ensures refused { result ≡ 2 → IfSome (F.held files.old) (IsRefusedIn (request_of words.now)) }
-    ensures refuses { IfSome (F.held files.old) (λ store. IsRefusedIn (request_of words.now) store →
-        Rose (F.read_faults files.old) (F.read_faults files.new) ⊎ ((result ≡ 2) ⊎ (result ≡ 5))) }
+    ensures refused { result ≡ status.refused
+        → IfSome (F.seen files.old).held (IsRefusedIn (request_of words.now)) }
+    ensures refuses { MustRefuse (request_of words.now) (F.seen files.old) (F.seen files.new) result }
 
     // A failure comes only where the outside failed.
-    ensures read_failed { result ≡ 3 → Rose (F.read_faults files.old) (F.read_faults files.new) }
-    ensures write_failed { result ≡ 4 → Rose (F.write_faults files.old) (F.write_faults files.new) }
-    ensures put_failed { result ≡ 6 → Rose (S.faults out.old) (S.faults out.new) }
+    ensures read_failed { result ≡ status.unread
+        → Rose (F.seen files.old).read_faults (F.seen files.new).read_faults }
+    ensures write_failed { result ≡ status.unwritten
+        → Rose (F.seen files.old).write_faults (F.seen files.new).write_faults }
+    ensures put_failed { result ≡ status.unput
+        → Rose (S.seen out.old).faults (S.seen out.new).faults }
 
-    // What is accepted is done, but for want of memory.
-    ensures completes { IfSome (F.held files.old) (λ store. IsAcceptedIn (request_of words.now) store →
-        Rose (F.read_faults files.old) (F.read_faults files.new) ⊎ (Rose (F.write_faults files.old) (F.write_faults files.new)
-        ⊎ (Rose (S.faults out.old) (S.faults out.new) ⊎ ((result ≡ 0) ⊎ (result ≡ 5))))) }
+    // What is accepted is done, but for faults and want of memory.
+    ensures completes { MustComplete (request_of words.now)
+        (F.seen files.old) (F.seen files.new) (S.seen out.old) (S.seen out.new) result }
 
     // A done run leaves a faithful translation of the task that it read, and puts that task's report.
-    ensures faithful { (result ≡ 0) ⊎ (result ≡ 6) → IfSome (F.held files.old) (λ before. IsSomeAnd (F.held files.new) (λ after.
-        IsDone (request_of words.now) before after (S.written out.old) (S.written out.new) result)) }
+    ensures faithful { IsDone result → IsFaithfulRun (request_of words.now)
+        (F.seen files.old) (F.seen files.new) (S.seen out.old) (S.seen out.new) result }
+
+    // It is the layout of a target to which a ground task that stands for the task is compiled.
+    ensures layout { IsDone result
+        → IsLaidOutRun (request_of words.now) (F.seen files.old) (F.seen files.new) }
 
     // A name that is no output holds what it held.
-    ensures others { OthersStay (request_of words.now) (F.held files.old) (F.held files.new) }
+    ensures others { OthersStay (request_of words.now) (F.seen files.old).held (F.seen files.new).held }
 
     // What is left in the files and put into the sink is what the ending says.
     ensures ending { (how : Ending) × Ends (request_of words.now)
-        (record { held = F.held files.old; read_faults = F.read_faults files.old; write_faults = F.write_faults files.old })
-        (record { held = F.held files.new; read_faults = F.read_faults files.new; write_faults = F.write_faults files.new })
-        (record { written = S.written out.old; faults = S.faults out.old })
-        (record { written = S.written out.new; faults = S.faults out.new }) result how }
+        (F.seen files.old) (F.seen files.new) (S.seen out.old) (S.seen out.new) result how }
 {
     let ending = ending_of(alloc, words, files);
     told(&ending, out)
@@ -64,10 +81,9 @@ pub fn run<F: Files, S: Sink>(alloc: Global, words: &[Word], files: &mut F, out:
 
 /// How doing what the words ask for ends.
 fn ending_of<F: Files>(alloc: Global, words: &[Word], files: &mut F) -> Ending
-    requires { IsTrue (F.sure files.old) → AreHeld (request_of words.now) (F.held files.old) }
-    ensures answers { Answers (request_of words.now)
-        (record { held = F.held files.old; read_faults = F.read_faults files.old; write_faults = F.write_faults files.old })
-        (record { held = F.held files.new; read_faults = F.read_faults files.new; write_faults = F.write_faults files.new }) result }
+    requires { IsTrue (F.seen files.old).is_sure
+        → AreHeld (request_of words.now) (F.seen files.old).held }
+    ensures answers { Answers (request_of words.now) (F.seen files.old) (F.seen files.new) result }
     ensures untouched { request_of words.now ≡ None → files.new ≡ files.old }
 {
     match asked(words) {
@@ -79,11 +95,11 @@ fn ending_of<F: Files>(alloc: Global, words: &[Word], files: &mut F) -> Ending
 /// Carries a request out: reads its inputs in order, makes its product, and then writes its outputs
 /// in order.
 fn carried_out<F: Files>(alloc: Global, request: &Request<'_>, files: &mut F) -> Ending
-    requires { IsTrue (F.sure files.old) → AreStored (F.held files.old) (inputs (asked_request request.now)) }
-    ensures comes { Comes (asked_request request.now)
-        (record { held = F.held files.old; read_faults = F.read_faults files.old; write_faults = F.write_faults files.old })
-        (record { held = F.held files.new; read_faults = F.read_faults files.new; write_faults = F.write_faults files.new }) result }
-    ensures leaves { Leaves (asked_request request.now) (F.held files.old) (F.held files.new) result }
+    requires { IsTrue (F.seen files.old).is_sure
+        → AreStored (F.seen files.old).held (inputs (asked_request request.now)) }
+    ensures comes { Comes (asked_request request.now) (F.seen files.old) (F.seen files.new) result }
+    ensures leaves { Leaves (asked_request request.now)
+        (F.seen files.old).held (F.seen files.new).held result }
 {
     let inputs = match request.inputs(alloc) {
         Ok(inputs) => inputs,
@@ -105,11 +121,10 @@ fn carried_out<F: Files>(alloc: Global, request: &Request<'_>, files: &mut F) ->
 
 /// Puts the lines of an ending, and answers the status.
 fn told<S: Sink>(ending: &Ending, out: &mut S) -> u8
-    ensures { Tells (record { written = S.written out.old; faults = S.faults out.old })
-        (record { written = S.written out.new; faults = S.faults out.new }) result ending.now }
+    ensures { Tells (S.seen out.old) (S.seen out.new) result ending.now }
 {
     match (ending.put(out), ending) {
-        (Err(SinkFailed), Ending::Done(_)) => 6,
+        (Err(SinkFailed), Ending::Done(_)) => UNPUT,
         _ => ending.status(),
     }
 }

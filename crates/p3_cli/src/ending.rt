@@ -4,6 +4,8 @@ ghost use Rattle.std.specs.Prelude.{◌≡◌, ◌++◌, ◌≤◌, OnOk, OnErr}
 ghost use Rattle.p3_base.specs.Outside.{IsPartlyPut, Rose, with_put};
 ghost use Rattle.p3_tree.specs.Reports.Lines.{line, role_name};
 
+use crate::role::role_word;
+use crate::status::{DONE, OUT_OF_MEMORY, REFUSED, UNREAD, UNWRITTEN, USAGE};
 use p3_base::{List, NoMemory, Role, Sink, SinkFailed};
 
 /// How a run ends.
@@ -43,21 +45,23 @@ impl Ending {
         ensures { result ≡ status_of self.now }
     {
         match self {
-            Ending::Done(_) => 0,
-            Ending::Refused(_) | Ending::TooLong(_) => 2,
-            Ending::ReadFailed(_) => 3,
-            Ending::WriteFailed(_) => 4,
-            Ending::OutOfMemory => 5,
-            Ending::Usage => 64,
+            Ending::Done(_) => DONE,
+            Ending::Refused(_) | Ending::TooLong(_) => REFUSED,
+            Ending::ReadFailed(_) => UNREAD,
+            Ending::WriteFailed(_) => UNWRITTEN,
+            Ending::OutOfMemory => OUT_OF_MEMORY,
+            Ending::Usage => USAGE,
         }
     }
 
     /// Puts the lines. It takes no memory. After a failure a first part of them is there.
     pub(crate) fn put<S: Sink>(&self, out: &mut S) -> Result<(), SinkFailed>
-        ensures ok { OnOk result (S.written out.new ≡ with_put (lines_of self.now) (S.written out.old)) }
-        ensures partly { OnErr result (IsPartlyPut (lines_of self.now) (S.written out.old) (S.written out.new)) }
-        ensures failed { OnErr result (Rose (S.faults out.old) (S.faults out.new)) }
-        ensures faults_grow { S.faults out.old ≤ S.faults out.new }
+        ensures ok { OnOk result ((S.seen out.new).written
+            ≡ with_put (lines_of self.now) (S.seen out.old).written) }
+        ensures partly { OnErr result (IsPartlyPut (lines_of self.now)
+            (S.seen out.old).written (S.seen out.new).written) }
+        ensures failed { OnErr result (Rose (S.seen out.old).faults (S.seen out.new).faults) }
+        ensures faults_grow { (S.seen out.old).faults ≤ (S.seen out.new).faults }
     {
         match self {
             Ending::Done(lines) | Ending::Refused(lines) => out.put(lines.items()),
@@ -72,36 +76,30 @@ impl Ending {
 
 /// Puts a line about a file.
 fn put_about<S: Sink>(out: &mut S, about: &[u8], role: Role) -> Result<(), SinkFailed>
-    ensures ok { OnOk result (S.written out.new ≡ with_put (about.now ++ line (role_name role)) (S.written out.old)) }
-    ensures partly { OnErr result (IsPartlyPut (about.now ++ line (role_name role)) (S.written out.old) (S.written out.new)) }
-    ensures failed { OnErr result (Rose (S.faults out.old) (S.faults out.new)) }
-    ensures faults_grow { S.faults out.old ≤ S.faults out.new }
+    ensures ok { OnOk result ((S.seen out.new).written
+        ≡ with_put (about.now ++ line (role_name role)) (S.seen out.old).written) }
+    ensures partly { OnErr result (IsPartlyPut (about.now ++ line (role_name role))
+        (S.seen out.old).written (S.seen out.new).written) }
+    ensures failed { OnErr result (Rose (S.seen out.old).faults (S.seen out.new).faults) }
+    ensures faults_grow { (S.seen out.old).faults ≤ (S.seen out.new).faults }
 {
-    put_two(out, about, role_line(role))
-}
-
-/// Puts bytes, and then more.
-fn put_two<S: Sink>(out: &mut S, bytes: &[u8], more: &[u8]) -> Result<(), SinkFailed>
-    ensures ok { OnOk result (S.written out.new ≡ with_put (bytes.now ++ more.now) (S.written out.old)) }
-    ensures partly { OnErr result (IsPartlyPut (bytes.now ++ more.now) (S.written out.old) (S.written out.new)) }
-    ensures failed { OnErr result (Rose (S.faults out.old) (S.faults out.new)) }
-    ensures faults_grow { S.faults out.old ≤ S.faults out.new }
-{
-    match out.put(bytes) {
-        Ok(()) => out.put(more),
+    match out.put(about) {
+        Ok(()) => put_line(out, role_word(role).as_bytes()),
         Err(SinkFailed) => Err(SinkFailed),
     }
 }
 
-/// How a report names a file, with the line's end.
-fn role_line(role: Role) -> &'static [u8]
-    ensures { result.now ≡ line (role_name role) }
+/// Puts a line.
+fn put_line<S: Sink>(out: &mut S, text: &[u8]) -> Result<(), SinkFailed>
+    ensures ok { OnOk result ((S.seen out.new).written
+        ≡ with_put (line text.now) (S.seen out.old).written) }
+    ensures partly { OnErr result
+        (IsPartlyPut (line text.now) (S.seen out.old).written (S.seen out.new).written) }
+    ensures failed { OnErr result (Rose (S.seen out.old).faults (S.seen out.new).faults) }
+    ensures faults_grow { (S.seen out.old).faults ≤ (S.seen out.new).faults }
 {
-    match role {
-        Role::Domain => b"domain\n",
-        Role::Problem => b"problem\n",
-        Role::WrittenDomain => b"written-domain\n",
-        Role::WrittenProblem => b"written-problem\n",
-        Role::Plan => b"plan\n",
+    match out.put(text) {
+        Ok(()) => out.put(b"\n"),
+        Err(SinkFailed) => Err(SinkFailed),
     }
 }

@@ -1,14 +1,21 @@
 //! The compiler as one call: words, files and a sink in, a status out.
 #![tactic(auto)]
 
+mod acceptance;
 mod call;
 mod ending;
-mod layout;
+mod laws;
 mod product;
+mod quantity;
 mod refusal;
+mod report;
 mod request;
+mod role;
+mod status;
 mod store;
+mod texts;
 mod translation;
 
 pub use call::run;
 pub use ending::Ending;
+pub use laws::{compiled_tasks_are_faithful, written_targets_are_faithful_texts};

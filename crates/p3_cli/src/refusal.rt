@@ -3,7 +3,6 @@
 ghost use Rattle.std.specs.Prelude.{◌≡◌, ◌++◌, ◌<◌, ◌≤◌, false, length, take, drop, IfOk, OnOk, string_bytes};
 ghost use Rattle.std.specs.Fmt.{digit_glyph};
 ghost use Rattle.p3_base.specs.Place.{line_of, column_of};
-ghost use Rattle.p3_tree.specs.Reports.Lines.{role_name};
 ghost use Rattle.p3_tree.specs.Reports.Refusals.{
   code_text,
   refusal_head,
@@ -13,7 +12,8 @@ ghost use Rattle.p3_tree.specs.Reports.Refusals.{
   shown_word,
 };
 
-use p3_base::{Code, NoMemory, Refusal, Role, line_column};
+use crate::role::role_word;
+use p3_base::{Code, NoMemory, Refusal, line_column};
 use std::alloc::{AllocError, Global};
 
 /// The most bytes of a word that are shown.
@@ -66,7 +66,8 @@ fn push_at_fault(
     text: &[u8],
     refusal: &Refusal,
 ) -> Result<(), NoMemory>
-    ensures { OnOk result (out.new.items ≡ out.old.items ++ shown_at_fault refusal.now.code text.now refusal.now) }
+    ensures { OnOk result (out.new.items
+        ≡ out.old.items ++ shown_at_fault refusal.now.code text.now refusal.now) }
 {
     match refusal.code {
         Code::BadByte => {
@@ -145,19 +146,6 @@ fn first(len: usize, bytes: &[u8]) -> &[u8]
     ensures { result.now ≡ take len bytes.now }
 {
     &bytes[..len.min(bytes.len())]
-}
-
-/// How a report names a file.
-fn role_word(role: Role) -> &'static str
-    ensures { result.now ≡ role_name role }
-{
-    match role {
-        Role::Domain => "domain",
-        Role::Problem => "problem",
-        Role::WrittenDomain => "written-domain",
-        Role::WrittenProblem => "written-problem",
-        Role::Plan => "plan",
-    }
 }
 
 /// The number and the text of a code.

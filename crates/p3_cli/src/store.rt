@@ -17,13 +17,13 @@ pub(crate) fn read_all<F: Files>(
     files: &mut F,
     inputs: &[Input<'_>],
 ) -> Result<Vec<Vec<u8>>, Ending>
-    requires { IsTrue (F.sure files.old) → AreStored (F.held files.old) (asked_inputs inputs.now) }
-    ensures ok { IfOk result (λ texts. ReadsAll (F.held files.old) (asked_inputs inputs.now) (map (λ text. text.items) texts.items)) }
+    requires { IsTrue (F.seen files.old).is_sure → AreStored (F.seen files.old).held (asked_inputs inputs.now) }
+    ensures ok { IfOk result (λ texts. ReadsAll (F.seen files.old).held (asked_inputs inputs.now) (map (λ text. text.items) texts.items)) }
     ensures within { IfOk result (λ texts. AreWithin (asked_inputs inputs.now) (map (λ text. text.items) texts.items)) }
-    ensures err { IfErr result (ReadFails (F.held files.old) (asked_inputs inputs.now) (F.read_faults files.old) (F.read_faults files.new)) }
-    ensures held_stays { F.held files.new ≡ F.held files.old }
-    ensures read_faults_grow { F.read_faults files.old ≤ F.read_faults files.new }
-    ensures write_faults_grow { F.write_faults files.old ≤ F.write_faults files.new }
+    ensures err { IfErr result (ReadFails (F.seen files.old).held (asked_inputs inputs.now) (F.seen files.old).read_faults (F.seen files.new).read_faults) }
+    ensures held_stays { (F.seen files.new).held ≡ (F.seen files.old).held }
+    ensures read_faults_grow { (F.seen files.old).read_faults ≤ (F.seen files.new).read_faults }
+    ensures write_faults_grow { (F.seen files.old).write_faults ≤ (F.seen files.new).write_faults }
 {
     let mut texts = Vec::new(alloc);
     for input in inputs {
@@ -41,14 +41,14 @@ pub(crate) fn read_all<F: Files>(
 
 /// Reads an input.
 fn read_one<F: Files>(alloc: Global, files: &mut F, input: &Input<'_>) -> Result<Vec<u8>, Ending>
-    requires { IsTrue (F.sure files.old) → IsStored (F.held files.old) input.now.name.now }
-    ensures ok { IfOk result (λ text. ReadsAll (F.held files.old) (asked_input input.now ∷ []) (text.items ∷ [])) }
+    requires { IsTrue (F.seen files.old).is_sure → IsStored (F.seen files.old).held input.now.name.now }
+    ensures ok { IfOk result (λ text. ReadsAll (F.seen files.old).held (asked_input input.now ∷ []) (text.items ∷ [])) }
     ensures within { IfOk result (λ text. length text.items ≤ input.now.limit) }
-    ensures err { IfErr result (ReadFails (F.held files.old) (asked_input input.now ∷ []) (F.read_faults files.old) (F.read_faults files.new)) }
-    ensures held_stays { F.held files.new ≡ F.held files.old }
-    ensures sure_stays { F.sure files.new ≡ F.sure files.old }
-    ensures read_faults_grow { F.read_faults files.old ≤ F.read_faults files.new }
-    ensures write_faults_grow { F.write_faults files.old ≤ F.write_faults files.new }
+    ensures err { IfErr result (ReadFails (F.seen files.old).held (asked_input input.now ∷ []) (F.seen files.old).read_faults (F.seen files.new).read_faults) }
+    ensures held_stays { (F.seen files.new).held ≡ (F.seen files.old).held }
+    ensures sure_stays { (F.seen files.new).is_sure ≡ (F.seen files.old).is_sure }
+    ensures read_faults_grow { (F.seen files.old).read_faults ≤ (F.seen files.new).read_faults }
+    ensures write_faults_grow { (F.seen files.old).write_faults ≤ (F.seen files.new).write_faults }
 {
     let mut text = Vec::new(alloc);
     match files.read(alloc, input.name, input.limit, &mut text) {
@@ -65,10 +65,10 @@ pub(crate) fn write_all<F: Files>(
     files: &mut F,
     writings: &[Written<'_>],
 ) -> Result<(), Ending>
-    ensures ok { OnOk result (F.held files.new ≡ holding_all (asked_writings writings.now) (F.held files.old)) }
-    ensures err { IfErr result (WriteFails (asked_writings writings.now) (F.held files.old) (F.held files.new) (F.write_faults files.old) (F.write_faults files.new)) }
-    ensures read_faults_grow { F.read_faults files.old ≤ F.read_faults files.new }
-    ensures write_faults_grow { F.write_faults files.old ≤ F.write_faults files.new }
+    ensures ok { OnOk result ((F.seen files.new).held ≡ holding_all (asked_writings writings.now) (F.seen files.old).held) }
+    ensures err { IfErr result (WriteFails (asked_writings writings.now) (F.seen files.old).held (F.seen files.new).held (F.seen files.old).write_faults (F.seen files.new).write_faults) }
+    ensures read_faults_grow { (F.seen files.old).read_faults ≤ (F.seen files.new).read_faults }
+    ensures write_faults_grow { (F.seen files.old).write_faults ≤ (F.seen files.new).write_faults }
 {
     for written in writings {
         match files.write(alloc, written.name, written.text.as_slice()) {

@@ -2,10 +2,7 @@ pub mod Compiling
 pub mod Ending
 pub mod Lean
 pub mod Readers
-pub mod Seen
 pub mod Stepping
 pub mod Tidied
-pub mod Tiny
 pub mod Updated
 pub mod Watched
-pub mod Written

@@ -2,6 +2,10 @@
 #![tactic(auto)]
 
 #[cfg(test)]
+mod examples;
+#[cfg(test)]
+mod limits;
+#[cfg(test)]
 mod offences;
 #[cfg(test)]
 mod outlines;
@@ -13,6 +17,8 @@ mod reading;
 mod refusals;
 #[cfg(test)]
 mod rows;
+#[cfg(test)]
+mod translations;
 #[cfg(test)]
 mod trucks;
 #[cfg(test)]

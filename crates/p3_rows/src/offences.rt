@@ -2,12 +2,9 @@
 //! arguments, and arguments that do not fit. Each stands with the line that tells it.
 
 use crate::refusals::refuses;
+use crate::translations::translated;
 use crate::world::{DOMAIN, PROBLEM};
-use std::process::Abort;
 use std::test::Fail;
-
-/// The line where a task is well-formed, and beyond those that are compiled yet.
-const BEYOND: &str = "refused 4 construct: domain 1:1 end of text\n";
 
 #[test]
 fn a_name_that_a_domain_declares_twice_is_told_the_second_time(
@@ -140,17 +137,42 @@ fn wrong_arguments_of_a_domain_are_told_at_the_word(rt: HostRuntime) -> Result<(
 
 #[test]
 fn arguments_fit_by_types_below_one_another(rt: HostRuntime) -> Result<(), Fail> {
-    let domains: [&[u8]; 7] = [
-        b"(define (domain d) (:types a - b b - c) (:constants k - a) (:predicates (p) (r ?x - c)) (:action x :precondition (r k)))",
-        b"(define (domain d) (:types t u) (:constants k - t k - u) (:predicates (p) (r ?x - u)) (:action x :precondition (r k)))",
-        b"(define (domain d) (:types t - u t - v u v) (:constants k - t) (:predicates (p) (r ?x - v)) (:action x :precondition (r k)))",
-        b"(define (domain d) (:types t u) (:predicates (p) (r ?x - (either t u))) (:action x :parameters (?y - t) :precondition (r ?y)))",
-        b"(define (domain d) (:types t u) (:predicates (p) (r ?x - u)) (:action x :parameters (?y - t) :precondition (exists (?y - u) (r ?y))))",
-        b"(define (domain d) (:types t - t u - t t - u) (:constants k - t) (:predicates (p) (r ?x - u)) (:action x :precondition (r k)))",
-        b"(define (domain d) (:types t u) (:constants k - t) (:predicates (p) (r ?x)) (:action x :parameters (?y - u) :precondition (and (r k) (r ?y) (= k ?y))))",
+    let cases: [(&[u8], u32); 7] = [
+        (
+            b"(define (domain d) (:types a - b b - c) (:constants k - a) (:predicates (p) (r ?x - c)) (:action x :precondition (r k)))",
+            1,
+        ),
+        (
+            b"(define (domain d) (:types t u) (:constants k - t k - u) (:predicates (p) (r ?x - u)) (:action x :precondition (r k)))",
+            1,
+        ),
+        (
+            b"(define (domain d) (:types t - u t - v u v) (:constants k - t) (:predicates (p) (r ?x - v)) (:action x :precondition (r k)))",
+            1,
+        ),
+        (
+            b"(define (domain d) (:types t u) (:predicates (p) (r ?x - (either t u))) (:action x :parameters (?y - t) :precondition (r ?y)))",
+            0,
+        ),
+        (
+            b"(define (domain d) (:types t u) (:predicates (p) (r ?x - u)) (:action x :parameters (?y - t) :precondition (exists (?y - u) (r ?y))))",
+            0,
+        ),
+        (
+            b"(define (domain d) (:types t - t u - t t - u) (:constants k - t) (:predicates (p) (r ?x - u)) (:action x :precondition (r k)))",
+            1,
+        ),
+        (
+            b"(define (domain d) (:types t u) (:constants k - t) (:predicates (p) (r ?x)) (:action x :parameters (?y - u) :precondition (and (r k) (r ?y) (= k ?y))))",
+            0,
+        ),
     ];
-    for domain in domains {
-        refuses(&rt, domain, PROBLEM.as_bytes(), BEYOND)?;
+    let alloc = rt.alloc();
+    for (domain, steps) in cases {
+        let report = format!(in alloc;
+            "steps {steps}\npreferences 1\nbase 0\ndirection minimize\n"
+        )?;
+        translated(&rt, domain, PROBLEM.as_bytes(), report.as_str())?;
     }
     Ok(())
 }

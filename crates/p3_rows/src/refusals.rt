@@ -22,7 +22,7 @@ pub(crate) fn refuses(
 
 #[test]
 fn a_domain_is_refused_at_the_word(rt: HostRuntime) -> Result<(), Fail> {
-    let cases: [(&[u8], &str); 14] = [
+    let cases: [(&[u8], &str); 13] = [
         (b"", "refused 2 unbalanced: domain 1:1 end of text\n"),
         (
             b"(define (domain d) (:predicates (p))\n(:derived (p) (and)))",
@@ -72,10 +72,6 @@ fn a_domain_is_refused_at_the_word(rt: HostRuntime) -> Result<(), Fail> {
             b"(define (domain d) (:action a :effect (not (not\n(p)))))",
             "refused 5 malformed: domain 1:45 not\n",
         ),
-        (
-            b"(define (domain d) (:predicates (p))\n(:action a :effect (p)) (:action b :effect (not (p))))\n",
-            "refused 4 construct: domain 1:1 end of text\n",
-        ),
     ];
     for (domain, line) in cases {
         refuses(&rt, domain, PROBLEM.as_bytes(), line)?;
@@ -85,14 +81,10 @@ fn a_domain_is_refused_at_the_word(rt: HostRuntime) -> Result<(), Fail> {
 
 #[test]
 fn a_problem_is_refused_at_the_word(rt: HostRuntime) -> Result<(), Fail> {
-    let cases: [(&[u8], &str); 22] = [
+    let cases: [(&[u8], &str); 21] = [
         (
             b"(define (problem q) (:domain d) (:init)\n(:goal (preference g (p)))\n(:metric minimize (* 5 (is-violated g)))\n",
             "refused 2 unbalanced: problem 4:1 end of text\n",
-        ),
-        (
-            b"(define (problem q) (:domain d) (:init) (:goal (p)))",
-            "refused 4 construct: domain 1:1 end of text\n",
         ),
         (
             b"(define (problem q) (:domain d) (:init) (:goal (p))\n(:constraints (within 5 (p))))",

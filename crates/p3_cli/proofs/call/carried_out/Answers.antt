@@ -1,6 +1,7 @@
-use Rattle.std.proofs.Common.{◌∙◌, ap, sym, map}
-use Rattle.p3_cli.specs.Asked.{asked_inputs, asked_request}
-use Rattle.p3_cli.proofs.RunLemmas.{all_accepted, refused_comes, unwritten_comes}
+use Rattle.std.proofs.Common.{◌∙◌, ap, sym, subst, map}
+use Rattle.p3_cli.specs.Asked.{asked_inputs, asked_request, asked_writings}
+use Rattle.p3_cli.specs.Outcome.{WriteFails}
+use Rattle.p3_cli.proofs.RunLemmas.{all_accepted, refused_comes, unwritten_comes, unwritten_leaves}
 use Rattle.p3_cli.proofs.call.carried_out.Goals as goal
 
 pub returns-in-Err-product_of-clause-comes : goal.returns-in-Err-product_of-clause-comes
@@ -8,8 +9,8 @@ returns-in-Err-product_of-clause-comes g c =
     let same = ap asked_inputs c.as_slice.ensures.value ∙ c.in-Ok.ensures in
     let are = sym (ap (λ xs. map (λ text. text.items) xs) c.as_slice-2.ensures.value) in
     refused_comes (asked_request c.args.request.now) _ same _ _ are
-    (record { held = g.F.Files.held c.args.files.now; read_faults = g.F.Files.read_faults c.args.files.now; write_faults = g.F.Files.write_faults c.args.files.now })
-    (record { held = g.F.Files.held c.read_all.new.files; read_faults = g.F.Files.read_faults c.read_all.new.files; write_faults = g.F.Files.write_faults c.read_all.new.files })
+    (g.F.Files.seen c.args.files.now)
+    (g.F.Files.seen c.read_all.new.files)
     c.in-Err-product_of.ending c.in-Ok-read_all.ensures.ok c.in-Err-product_of.ensures.err
 
 pub returns-in-Ok-write_all-clause-comes : goal.returns-in-Ok-write_all-clause-comes
@@ -22,5 +23,16 @@ pub returns-clause-comes : goal.returns-clause-comes
 returns-clause-comes g c =
     let same = ap asked_inputs c.as_slice.ensures.value ∙ c.in-Ok.ensures in
     let are = sym (ap (λ xs. map (λ text. text.items) xs) c.as_slice-2.ensures.value) in
-    unwritten_comes (asked_request c.args.request.now) _ same _ _ are _ _ c.in-Err-write_all.ending _ _ _ c.in-Ok-read_all.ensures.ok c.in-Ok-product_of.ensures.accepted
+    unwritten_comes (asked_request c.args.request.now) _ same _ _ are (g.F.Files.seen c.args.files.now) (g.F.Files.seen c.write_all.new.files) c.in-Err-write_all.ending _ _ _ c.in-Ok-read_all.ensures.ok c.in-Ok-product_of.ensures.accepted
     c.read_all.ensures.write_faults_grow c.in-Err-write_all.ensures.err
+
+pub returns-clause-leaves : goal.returns-clause-leaves
+returns-clause-leaves g c =
+    let same = ap asked_inputs c.as_slice.ensures.value ∙ c.in-Ok.ensures in
+    let are = sym (ap (λ xs. map (λ text. text.items) xs) c.as_slice-2.ensures.value) in
+    let mid = g.F.Files.seen c.read_all.new.files in
+    let new = g.F.Files.seen c.write_all.new.files in
+    let fails = subst (λ writings. WriteFails (asked_writings writings) mid.held new.held mid.write_faults new.write_faults c.in-Err-write_all.ending) c.as_slice-3.ensures.value c.in-Err-write_all.ensures.err in
+    unwritten_leaves (asked_request c.args.request.now) _ same _ _ are (g.F.Files.seen c.args.files.now).held mid.held new.held (asked_writings c.in-Ok-product_of.product.writings.items)
+    c.in-Ok-product_of.product.report.items _ _ c.in-Err-write_all.ending c.in-Ok-read_all.ensures.ok c.read_all.ensures.held_stays c.in-Ok-product_of.ensures.outputs
+    c.in-Ok-product_of.ensures.ok fails

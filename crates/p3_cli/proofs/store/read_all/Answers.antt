@@ -9,21 +9,21 @@ use Rattle.p3_cli.proofs.store.read_all.Goals as goal
 pub returns-in-Err-clause-err : goal.returns-in-Err-clause-err
 returns-in-Err-clause-err g c =
     let files = g.F.Files in
-    let held = files.held c.args.files.now in
+    let held = (files.seen c.args.files.now).held in
     let inputs = c.args.inputs.now in
     let input = c.input-item.result in
     let i = c.loop-input.input-index in
     let texts = map (λ text. text.items) c.loop-input.texts.items in
     let cut = drop_more inputs i input c.loop-input-test.true ∙ ap (λ x. x ∷ drop (i + 1) inputs) (sym c.input-item.is) in
     let so_far = subst (λ rest. IfSome held (λ store. in_front texts (reading store (asked_inputs rest)) ≡ reading store (asked_inputs inputs))) cut c.loop-input.invariant.so_far in
-    let fails = subst (λ told. ReadFails told (asked_input input ∷ []) (files.read_faults c.loop-input.files) (files.read_faults c.read_one.new.files) c.in-Err.ending) c.loop-input.invariant.held c.in-Err.ensures.err in
+    let fails = subst (λ told. ReadFails told (asked_input input ∷ []) (files.seen c.loop-input.files).read_faults (files.seen c.read_one.new.files).read_faults c.in-Err.ending) c.loop-input.invariant.held c.in-Err.ensures.err in
     read_fails_here held (asked_input input) (asked_inputs (drop (i + 1) inputs)) (asked_inputs inputs) texts _ _ _ c.in-Err.ending
     (among_roles inputs i input c.loop-input-test.true c.input-item.is) c.loop-input.invariant.reads so_far fails
 
 pub loop-input-preserved : goal.loop-input-preserved
 loop-input-preserved g c =
     let files = g.F.Files in
-    let held = files.held c.args.files.now in
+    let held = (files.seen c.args.files.now).held in
     let inputs = c.args.inputs.now in
     let input = c.input-item.result in
     let i = c.loop-input.input-index in
@@ -53,7 +53,7 @@ returns-clause-within g c =
 
 pub returns-clause-ok : goal.returns-clause-ok
 returns-clause-ok g c =
-    let held = g.F.Files.held c.args.files.now in
+    let held = (g.F.Files.seen c.args.files.now).held in
     let inputs = c.args.inputs.now in
     let i = c.loop-input.input-index in
     let texts = map (λ text. text.items) c.loop-input.texts.items in

@@ -10,10 +10,10 @@ invariant-loop-input g l =
     let files = g.F.Files in
     let rest = asked_inputs (drop l.input-index l.inputs) in
     record {
-      held : files.held l.files ≡ files.held l.fn.files;
-      reads : files.read_faults l.fn.files ≤ files.read_faults l.files;
-      writes : files.write_faults l.fn.files ≤ files.write_faults l.files;
-      named : IsTrue (files.sure l.files) → AreStored (files.held l.fn.files) rest;
+      held : (files.seen l.files).held ≡ (files.seen l.fn.files).held;
+      reads : (files.seen l.fn.files).read_faults ≤ (files.seen l.files).read_faults;
+      writes : (files.seen l.fn.files).write_faults ≤ (files.seen l.files).write_faults;
+      named : IsTrue (files.seen l.files).is_sure → AreStored (files.seen l.fn.files).held rest;
       within : (more : List (List ℕ)) → AreWithin rest more → AreWithin (asked_inputs l.inputs) (map (λ text. text.items) l.texts.items ++ more);
-      so_far : IfSome (files.held l.fn.files) (λ store. in_front (map (λ text. text.items) l.texts.items) (reading store rest) ≡ reading store (asked_inputs l.inputs));
+      so_far : IfSome (files.seen l.fn.files).held (λ store. in_front (map (λ text. text.items) l.texts.items) (reading store rest) ≡ reading store (asked_inputs l.inputs));
     }

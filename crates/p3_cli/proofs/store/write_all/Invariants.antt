@@ -8,7 +8,7 @@ abbrev pub invariant-loop-written : goal.invariant-loop-written
 invariant-loop-written g l =
     let files = g.F.Files in
     record {
-      held : files.held l.files ≡ holding_all (take l.written-index (asked_writings l.writings)) (files.held l.fn.files);
-      reads : files.read_faults l.fn.files ≤ files.read_faults l.files;
-      writes : files.write_faults l.fn.files ≤ files.write_faults l.files;
+      held : (files.seen l.files).held ≡ holding_all (take l.written-index (asked_writings l.writings)) (files.seen l.fn.files).held;
+      reads : (files.seen l.fn.files).read_faults ≤ (files.seen l.files).read_faults;
+      writes : (files.seen l.fn.files).write_faults ≤ (files.seen l.files).write_faults;
     }

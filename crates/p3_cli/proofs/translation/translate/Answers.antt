@@ -1,15 +1,8 @@
-use Rattle.std.proofs.Common.{subst}
-use Rattle.p3_cli.specs.Translation.{IsWritten}
-use Rattle.p3_cli.proofs.SpelledLemmas.{tiny_accepted}
+use Rattle.p3_cli.specs.Asked.{asked_writings}
+use Rattle.p3_cli.proofs.TranslationLemmas.{two_texts}
 use Rattle.p3_cli.proofs.translation.translate.Goals as goal
 
-pub returns-in-Ok-written-clause-ok : goal.returns-in-Ok-written-clause-ok
-returns-in-Ok-written-clause-ok c = (
-  c.in-Ok.checked.task,
-  c.in-Ok.ensures.spelled,
-  c.in-Ok.ensures.tiny,
-  subst (λ task. IsWritten task c.in-Ok-written.made.domain.items c.in-Ok-written.made.problem.items c.in-Ok-written.made.report.items) c.task.ensures.task c.in-Ok-written.ensures,
-)
-
-pub returns-in-Ok-written-clause-accepted : goal.returns-in-Ok-written-clause-accepted
-returns-in-Ok-written-clause-accepted c = tiny_accepted c.args.domain.now c.args.problem.now c.in-Ok.checked.task c.in-Ok.ensures.spelled c.task.ensures.well_formed c.in-Ok.ensures.tiny
+pub returns-clause-made : goal.returns-clause-made
+returns-clause-made c =
+    two_texts (λ od op written. record { task = c.in_ok-whole.whole.checked.task; accepted = c.in_ok-whole.ensures.accepted; written = written })
+    (asked_writings c.in_ok-product.product.writings.items) c.in_ok-product.ensures.made

@@ -1,0 +1,161 @@
+-- The laws of the layers put together: the task of a compiled target is a faithful translation, and so is what its texts are read as.
+use Rattle.std.proofs.Common.{◌≡◌, ◌∙◌, ℕ, ◌+◌, refl, sym, ap, subst, true, List, [], ◌∷◌, map, length, arith, pos, ◌+ℤ◌, ◌-ℤ◌}
+use Rattle.std.specs.Prelude.{ℤ}
+use Rattle.std.proofs.lemmas.Int.{ints}
+use Rattle.std.proofs.lemmas.List.{length-map}
+use Rattle.std.proofs.lemmas.Slice.Zip.{AllZip-long}
+use Rattle.p3_tree.specs.Constraints.{instances}
+use Rattle.p3_tree.specs.Erased.{erased}
+use Rattle.p3_tree.specs.Faithful.{Faithful, IsSound, HasOneSource, extra}
+use Rattle.p3_tree.specs.Lifting.{lift}
+use Rattle.p3_tree.specs.Metrics.{value, loss, loss_at, base_loss, violated}
+use Rattle.p3_tree.specs.Offences.{WellFormed}
+use Rattle.p3_tree.specs.Plans.{Plan, steps_fit}
+use Rattle.p3_tree.specs.StepNumbers.{HasNumber, HasStepNumbers}
+use Rattle.p3_tree.specs.Validity.{Valid, is_valid}
+use Rattle.p3_tree.specs.declared.task.Task.{Task}
+use Rattle.p3_tree.proofs.OffsetLemmas.{faithful_offset_free}
+use Rattle.p3_tree.proofs.StepNumberLaws.{steps_have_numbers}
+use Rattle.p3_formula.specs.GroundPlans.{GroundPlan, ground_cost, ground_loss}
+use Rattle.p3_formula.specs.Targets.{TargetPlan, TargetValid, Compiled, IsSoundFor, HasOneOrigin, ground_lift}
+use Rattle.p3_formula.specs.declared.target.Target.{Target}
+use Rattle.p3_formula.specs.declared.target.Weights.{Weights}
+use Rattle.p3_formula.specs.declared.task.GroundTask.{GroundTask}
+use Rattle.p3_ground.specs.PlansByNumber.{AreNumbers, are_bare, names_of}
+use Rattle.p3_ground.specs.StandsFor.{StandsFor, StandsBy, SoftStands}
+use Rattle.p3_ground.proofs.Counts.{counts_agree, losses_alike}
+use Rattle.p3_ground.proofs.Extras.{extras_alike}
+use Rattle.p3_ground.proofs.Lifts.{lift_alike}
+use Rattle.p3_ground.proofs.PlanNumbers.{same_plan, same_numbers, has_numbers, valid_fits}
+use Rattle.p3_ground.proofs.Validity.{valid_alike}
+use Rattle.p3_metric.specs.Weighed.{HasWeights, IsLinearMetric, IsWeights}
+use Rattle.p3_metric.proofs.MentionLaws.{counts_names}
+use Rattle.p3_metric.proofs.WeighedLaws.{is_weights}
+use Rattle.p3_writer.specs.TaskOf.{task_of}
+use Rattle.p3_writer.specs.Texts.{IsDomainTextOf, IsProblemTextOf}
+use Rattle.p3_writer.specs.Written.{IsWritten, bare}
+use Rattle.p3_writer.proofs.WrittenShape.{is_written}
+use Rattle.p3_cli.specs.WrittenText.{HasFaithfulText}
+
+-- ---- plans of bare steps
+
+bare_named : (names : TargetPlan) → names_of (map bare names) ≡ names
+bare_named [] = refl
+bare_named (name ∷ names) = ap (λ others. name ∷ others) (bare_named names)
+
+bare_bare : (names : TargetPlan) → are_bare (map bare names) ≡ true
+bare_bare [] = refl
+bare_bare (name ∷ names) = bare_bare names
+
+-- ---- the law
+
+module _ (T : Task) (G : GroundTask) (w : Weights) (X : Target) (well : WellFormed T) (stands : StandsFor T G) (linear : IsLinearMetric T) (has : HasWeights T w) (compiled : Compiled G w X) where
+  K : HasStepNumbers T
+  K = steps_have_numbers T well
+
+  S : StandsBy T stands.atoms G
+  S = stands.stands
+
+  weighed : IsWeights T w
+  weighed = is_weights T linear (counts_names T well) w has
+
+  written : IsWritten X
+  written = is_written X compiled.sized compiled.named
+
+  -- what a plan costs above the base
+  loss_above : (plan : Plan) (numbers : GroundPlan) → AreNumbers T plan numbers → steps_fit T plan ≡ true → loss T plan ≡ base_loss T +ℤ pos (ground_loss G w numbers)
+  unfolding loss
+  loss_above plan numbers are fit =
+      ap (loss_at T (violated T plan)) (counts_agree T stands.atoms G S K plan numbers are fit).costs
+      ∙ weighed.linear (violated T plan) (ground_cost G numbers)
+      ∙ ap (λ n. base_loss T +ℤ pos n) (sym (losses_alike T stands.atoms G S K w has.count plan numbers are fit))
+
+  above_base : (l b : ℤ) (n : ℕ) → l ≡ b +ℤ pos n → pos n ≡ l -ℤ b
+  above_base l b n e = omega (arith, ints, e)
+
+  -- ---- a valid plan of the written task
+
+  module _ (q : Plan) (valid : Valid (task_of X) q) where
+    abbrev names : TargetPlan
+    names = names_of q
+
+    target_valid : TargetValid X names
+    target_valid = sym (written.valid names) ∙ ap (is_valid (task_of X)) (sym (written.bare_steps q valid)) ∙ valid
+
+    alike : AreNumbers T (lift T q) (ground_lift G names)
+    alike = lift_alike T G S.step_count q (ap are_bare (written.bare_steps q valid) ∙ bare_bare names)
+
+    is_sound : IsSoundFor G w X names
+    is_sound = compiled.sound names target_valid
+
+    lifted_valid : Valid T (lift T q)
+    lifted_valid = valid_alike T stands.atoms G S K (lift T q) (ground_lift G names) alike ∙ is_sound.valid
+
+    fit : steps_fit T (lift T q) ≡ true
+    fit = valid_fits T (lift T q) lifted_valid
+
+    sound : IsSound T (task_of X) q
+    sound = record {
+      valid = lifted_valid;
+      cost = ap (value (task_of X)) (written.bare_steps q valid) ∙ written.value names ∙ ap pos is_sound.cost
+          ∙ above_base (loss T (lift T q)) (base_loss T) (ground_loss G w (ground_lift G names)) (loss_above (lift T q) (ground_lift G names) alike fit);
+    }
+
+    long : length q ≡ length (lift T q) + 1 + length (instances T) + extra T (lift T q)
+    long =
+        sym (length-map q (λ step. step.action)) ∙ compiled.length names target_valid
+        ∙ (λ i. AllZip-long (HasNumber T) (lift T q) (ground_lift G names) alike i + 1 + AllZip-long (SoftStands T stands.atoms) (instances T) G.soft S.soft i
+        + sym (extras_alike T w has.by_name stands.atoms G S K (lift T q) (ground_lift G names) alike fit) i)
+
+  -- ---- a valid plan of the task
+
+  only_source : (p : Plan) (numbers : GroundPlan) → AreNumbers T p numbers → (one : HasOneOrigin G X numbers) → (q : Plan) → Valid (task_of X) q → lift T q ≡ p → q ≡ map bare one.origin
+  only_source p numbers are one q valid lifts =
+      written.bare_steps q valid
+      ∙ ap (map bare) (one.only (names q valid) (target_valid q valid)
+      (same_numbers T K p (ground_lift G (names q valid)) numbers (subst (λ plan. AreNumbers T plan (ground_lift G (names q valid))) lifts (alike q valid)) are))
+
+  one_source_by : (p : Plan) (numbers : GroundPlan) → AreNumbers T p numbers → HasOneOrigin G X numbers → HasOneSource T (task_of X) p
+  one_source_by p numbers are one =
+      let source_numbers : ground_lift G (names_of (map bare one.origin)) ≡ numbers = ap (ground_lift G) (bare_named one.origin) ∙ one.lifts in
+      record {
+        source = map bare one.origin;
+        valid = written.valid one.origin ∙ one.valid;
+        lifts = same_plan T (lift T (map bare one.origin)) p numbers
+            (subst (AreNumbers T (lift T (map bare one.origin))) source_numbers (lift_alike T G S.step_count (map bare one.origin) (bare_bare one.origin))) are;
+        only = only_source p numbers are one;
+      }
+
+  one_source : (p : Plan) → Valid T p → HasOneSource T (task_of X) p
+  one_source p valid =
+      let (numbers, are) = has_numbers T K p (valid_fits T p valid) in
+      one_source_by p numbers are (compiled.one_to_one numbers (sym (valid_alike T stands.atoms G S K p numbers are) ∙ valid))
+
+  pub compiled_faithful : Faithful T (task_of X)
+  compiled_faithful = record {
+    well_formed = written.well_formed;
+    plain = written.plain;
+    variable_free = written.variable_free;
+    whole = written.whole;
+    sound = sound;
+    one_to_one = one_source;
+    length = long;
+  }
+
+-- ---- texts
+
+-- offsets have no meaning
+pub texts_faithful : (d p : List ℕ) (T U : Task) → Faithful T U → IsDomainTextOf d U.domain → IsProblemTextOf p U.problem → HasFaithfulText d p T
+texts_faithful d p T U faithful domain problem =
+    let read : Task = record { domain = domain.read; problem = problem.read } in
+    let same : erased read ≡ erased U = λ i. record { domain = domain.same i; problem = problem.same i } in (
+      read,
+      record {
+        domain = domain.expression;
+        problem = problem.expression;
+        domain_balanced = domain.balanced;
+        problem_balanced = problem.balanced;
+        texts = record { domain = domain.is_text; problem = problem.is_text };
+      },
+      (faithful_offset_free T read).0 (subst (Faithful (erased T)) (sym same) ((faithful_offset_free T U).1 faithful)),
+    )

@@ -1,0 +1,30 @@
+//! The laws of the whole: what is compiled and written for a task. Each is the contract of a
+//! function without a body.
+
+ghost use Rattle.std.specs.Prelude.{List, ℕ};
+ghost use Rattle.p3_tree.specs.Faithful.{Faithful};
+ghost use Rattle.p3_tree.specs.Offences.{WellFormed};
+ghost use Rattle.p3_tree.specs.declared.task.Task.{Task};
+ghost use Rattle.p3_formula.specs.Targets.{Compiled};
+ghost use Rattle.p3_formula.specs.declared.target.Target.{Target};
+ghost use Rattle.p3_formula.specs.declared.target.Weights.{Weights};
+ghost use Rattle.p3_formula.specs.declared.task.GroundTask.{GroundTask};
+ghost use Rattle.p3_ground.specs.StandsFor.{StandsFor};
+ghost use Rattle.p3_metric.specs.Weighed.{HasWeights, IsLinearMetric};
+ghost use Rattle.p3_writer.specs.TaskOf.{task_of};
+ghost use Rattle.p3_writer.specs.Texts.{IsDomainTextOf, IsProblemTextOf};
+ghost use Rattle.p3_cli.specs.WrittenText.{HasFaithfulText};
+
+/// What is compiled for a task is a faithful translation of it.
+pub fn compiled_tasks_are_faithful()
+    ensures { (T : Task) (G : GroundTask) (w : Weights) (X : Target) → WellFormed T → StandsFor T G
+        → IsLinearMetric T → HasWeights T w → Compiled G w X → Faithful T (task_of X) }
+{}
+
+/// Two texts of the task that a target is are those of a faithful translation where that task is
+/// one: where their parts stand in them has no meaning.
+pub fn written_targets_are_faithful_texts()
+    ensures { (T : Task) (X : Target) (domain problem : List ℕ) → Faithful T (task_of X)
+        → IsDomainTextOf domain (task_of X).domain → IsProblemTextOf problem (task_of X).problem
+        → HasFaithfulText domain problem T }
+{}
