@@ -1,0 +1,17 @@
+//! Worked checks: tasks of two texts, their steps by number, and their first offences.
+#![tactic(auto)]
+
+#[cfg(test)]
+mod checked;
+#[cfg(test)]
+mod counts;
+#[cfg(test)]
+mod large;
+#[cfg(test)]
+mod offences;
+#[cfg(test)]
+mod steps;
+#[cfg(test)]
+mod trucks;
+#[cfg(test)]
+mod types;
