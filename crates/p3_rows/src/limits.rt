@@ -60,7 +60,7 @@ fn an_action_is_refused_that_is_too_dear(rt: HostRuntime) -> Result<(), Fail> {
 /// A problem that begins so, with so many objects of a type behind it, and ends so.
 fn with_objects(alloc: Global, begins: &[u8], count: u32, ends: &[u8]) -> Result<Vec<u8>, Fail> {
     let mut text = Vec::from_slice(alloc, begins)?;
-    for number in 1..count + 1 {
+    for number in 0..count {
         text.extend_from_slice(format!(in alloc; " o{number}")?.as_bytes())?;
     }
     text.extend_from_slice(ends)?;

@@ -23,10 +23,10 @@ pub(crate) fn translated(
 
 /// How often the bytes stand in the text.
 fn count_in(text: &[u8], bytes: &[u8]) -> usize {
-    let mut count = 0;
+    let mut count: usize = 0;
     for at in 0..text.len() {
         if text[at..].starts_with(bytes) {
-            count += 1;
+            count = count.wrapping_add(1);
         }
     }
     count
@@ -126,7 +126,7 @@ const MANY_PREFERENCES: &str =
 /// A problem with so many objects of the type.
 fn with_objects(alloc: Global, count: u32) -> Result<Vec<u8>, Fail> {
     let mut text = Vec::from_slice(alloc, b"(define (problem q) (:domain d) (:objects")?;
-    for number in 1..count + 1 {
+    for number in 0..count {
         text.extend_from_slice(format!(in alloc; " o{number}")?.as_bytes())?;
     }
     text.extend_from_slice(b" - t) (:init) (:goal (and)) (:metric minimize (is-violated w)))\n")?;
