@@ -50,7 +50,7 @@ fn steps_of_the_delivery_are_numbered_both_ways(rt: HostRuntime) -> Result<(), C
         (b"(drive t1 b c)", 5),
         (b"(load c1 t1 a)", 9),
         (b"(load c2 t1 a)", 12),
-        (b"(UnLoad C1 T1 B)", 16),
+        (b"(UnLoad c1 t1 B)", 16),
         (b"(unload c2 t1 c)", 20),
     ];
     for (text, number) in cases {
