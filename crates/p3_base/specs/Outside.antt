@@ -32,6 +32,10 @@ bytes_under store name = get store name
 abbrev pub holding : List ℕ → List ℕ → Option Store → Option Store
 holding name bytes told = option_map (λ store. insert store name bytes) told
 
+-- what is told is as before, but that the name holds the bytes
+abbrev pub IsHolding : List ℕ → List ℕ → Option Store → Option Store → Type 0
+IsHolding name bytes old new = new ≡ holding name bytes old
+
 -- it is told that the name is held
 abbrev pub IsStored : Option Store → List ℕ → Type 0
 IsStored told name = IsSomeAnd told (λ store. IsSome (bytes_under store name))
@@ -68,6 +72,10 @@ Rose before after = (before < after) ⊎ (after ≡ 2 ^ 64 - 1)
 -- what is told of a sink after the bytes were put
 abbrev pub with_put : List ℕ → Option (List ℕ) → Option (List ℕ)
 with_put bytes told = option_map (λ written. written ++ bytes) told
+
+-- all of the bytes were put behind what was put before
+abbrev pub IsPut : List ℕ → Option (List ℕ) → Option (List ℕ) → Type 0
+IsPut bytes old new = new ≡ with_put bytes old
 
 -- the first ones of the bytes were put
 abbrev pub IsPartlyPut : List ℕ → Option (List ℕ) → Option (List ℕ) → Type 0

@@ -5,11 +5,11 @@ ghost use Rattle.p3_base.specs.Outside.{
   BeginsHeld,
   FilesSeen,
   IsHeld,
+  IsHolding,
   IsPartlyWritten,
   IsStored,
   IsTooLong,
   Rose,
-  holding,
 };
 
 use crate::{ReadFault, Word, WriteFault};
@@ -45,7 +45,8 @@ pub trait Files {
 
     /// Puts the bytes under a name in the place of what it held. All other names keep what they held.
     fn write(&mut self, alloc: Global, name: &Word, bytes: &[u8]) -> Result<(), WriteFault>
-        ensures ok { OnOk result ((seen self.new).held ≡ holding name.now bytes.now (seen self.old).held) }
+        ensures ok { OnOk result
+            (IsHolding name.now bytes.now (seen self.old).held (seen self.new).held) }
         ensures failed { IsErrOf result WriteFault.Failed
             → Rose (seen self.old).write_faults (seen self.new).write_faults }
         ensures partly { IsErrOf result WriteFault.Failed

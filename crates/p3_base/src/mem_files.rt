@@ -27,7 +27,13 @@ impl Model for MemFiles {
 
     ghost coded = { files_code };
 
-    ghost view = { λ files. record { held = files.shelf; calls = files.calls; failures = files.failures.items; read_faults = files.read_faults; write_faults = files.write_faults } };
+    ghost view = { λ files. record {
+      held = files.shelf;
+      calls = files.calls;
+      failures = files.failures.items;
+      read_faults = files.read_faults;
+      write_faults = files.write_faults;
+    } };
 }
 
 impl MemFiles {
@@ -35,7 +41,13 @@ impl MemFiles {
 
     /// Holds nothing, and no call is planned to fail.
     pub fn new(alloc: Global) -> MemFiles
-        ensures { result ≡ record { held = map.empty; calls = 0; failures = []; read_faults = 0; write_faults = 0 } }
+        ensures { result ≡ record {
+          held = map.empty;
+          calls = 0;
+          failures = [];
+          read_faults = 0;
+          write_faults = 0;
+        } }
     {
         MemFiles {
             shelf: Shelf::new(alloc),
@@ -48,7 +60,8 @@ impl MemFiles {
 
     /// Puts bytes under a name. After a refusal nothing has changed.
     pub fn hold(&mut self, name: Word, bytes: Vec<u8>) -> Result<(), NoMemory>
-        ensures ok { OnOk result (self.new ≡ record self.old { held = map.insert self.old.held name bytes.items }) }
+        ensures ok { OnOk result
+            (self.new ≡ record self.old { held = map.insert self.old.held name bytes.items }) }
         ensures err { OnErr result (self.new ≡ self.old) }
     {
         self.shelf.hold(name, bytes)
@@ -58,7 +71,9 @@ impl MemFiles {
     /// that fails so leaves the first `prefix` bytes, or all where there are fewer. Of two plans for
     /// one call the first counts. After a refusal nothing has changed.
     pub fn fail(&mut self, call: u32, prefix: u32) -> Result<(), NoMemory>
-        ensures ok { OnOk result (self.new ≡ record self.old { failures = self.old.failures ++ (call, prefix) ∷ [] }) }
+        ensures ok { OnOk result
+            (self.new
+            ≡ record self.old { failures = self.old.failures ++ (call, prefix) ∷ [] }) }
         ensures err { OnErr result (self.new ≡ self.old) }
     {
         self.failures.push((call, prefix))?;
@@ -105,9 +120,11 @@ impl Files for MemFiles {
     ) -> Result<(), ReadFault>
         ensures ok { OnOk result (IsHeld (Some self.old.held) name.now into.new.items) }
         ensures within_limit { OnOk result (length into.new.items ≤ limit) }
-        ensures too_long { IsErrOf result ReadFault.TooLong → IsTooLong (Some self.old.held) name.now limit into.new.items }
+        ensures too_long { IsErrOf result ReadFault.TooLong
+            → IsTooLong (Some self.old.held) name.now limit into.new.items }
         ensures prefix { OnErr result (BeginsHeld (Some self.old.held) name.now into.new.items) }
-        ensures only_planned { IsErrOf result ReadFault.Failed ↔ (IsPlanned self.old ⊎ IsNone (bytes_under self.old.held name.now)) }
+        ensures only_planned { IsErrOf result ReadFault.Failed
+            ↔ (IsPlanned self.old ⊎ IsNone (bytes_under self.old.held name.now)) }
         ensures state { self.new ≡ after_read result self.old }
         ensures read_faults_grow { self.old.read_faults ≤ self.new.read_faults }
     {

@@ -25,7 +25,13 @@ impl Model for MemSink {
 
     ghost coded = { sink_code };
 
-    ghost view = { λ sink. record { written = sink.bytes.items; room = sink.room; puts = sink.puts; failing = sink.failing.items; faults = sink.faults } };
+    ghost view = { λ sink. record {
+      written = sink.bytes.items;
+      room = sink.room;
+      puts = sink.puts;
+      failing = sink.failing.items;
+      faults = sink.faults;
+    } };
 
     ghost invariant = { λ sink. (length sink.bytes.items ≤ sink.room) × (sink.room ≤ vec_capacity sink.bytes) };
 }
@@ -33,7 +39,8 @@ impl Model for MemSink {
 impl MemSink {
     /// An empty sink with room for so many bytes, all of which it takes here.
     pub fn new(alloc: Global, room: u32) -> Result<MemSink, NoMemory>
-        ensures { IfOk result (λ sink. sink ≡ record { written = []; room = room; puts = 0; failing = []; faults = 0 }) }
+        ensures { IfOk result (λ sink.
+            sink ≡ record { written = []; room = room; puts = 0; failing = []; faults = 0 }) }
     {
         let room = room as usize;
         Ok(MemSink {
@@ -47,7 +54,8 @@ impl MemSink {
 
     /// Lets the put of this number fail, counted from 0. After a refusal nothing has changed.
     pub fn fail(&mut self, put: u32) -> Result<(), NoMemory>
-        ensures ok { OnOk result (self.new ≡ record self.old { failing = self.old.failing ++ put ∷ [] }) }
+        ensures ok { OnOk result
+            (self.new ≡ record self.old { failing = self.old.failing ++ put ∷ [] }) }
         ensures err { OnErr result (self.new ≡ self.old) }
     {
         self.failing.push(u64::from(put))?;

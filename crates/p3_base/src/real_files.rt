@@ -112,8 +112,10 @@ fn read_all<T: Read>(
     ensures within_limit { OnOk result (length into.new.items ≤ limit) }
     ensures too_long { IsErrOf result ReadFault.TooLong → length into.new.items ≡ limit + 1 }
     // Where the source tells its bytes, these are the first of them, and all where they are enough.
-    ensures first { IsErrOf result ReadFault.TooLong → Consumes (T.remaining source.old) (T.remaining source.new) into.new.items }
-    ensures all { OnOk result (Consumes (T.remaining source.old) (T.remaining source.new) into.new.items) }
+    ensures first { IsErrOf result ReadFault.TooLong
+        → Consumes (T.remaining source.old) (T.remaining source.new) into.new.items }
+    ensures all { OnOk result
+        (Consumes (T.remaining source.old) (T.remaining source.new) into.new.items) }
     ensures at_end { OnOk result (IsAtEnd (T.remaining source.new)) }
 {
     let Ok(mut piece) = Vec::from_elem(alloc, 0u8, PIECE) else {
@@ -139,7 +141,9 @@ fn read_piece<T: Read>(
     ensures not_long { result ≢ Err ReadFault.TooLong }
     ensures count { IfOk result (λ n. length into.new.items ≡ length into.old.items + n) }
     ensures within { IfOk result (λ n. n ≤ length piece.old) }
-    ensures taken { OnOk result (IsTaken (T.remaining source.old) (T.remaining source.new) into.old.items into.new.items) }
+    ensures taken { OnOk result
+        (IsTaken (T.remaining source.old) (T.remaining source.new)
+        into.old.items into.new.items) }
     ensures at_end { IfOk result (λ n. n ≡ 0 → IsAtEnd (T.remaining source.new)) }
 {
     let Ok(count) = source.read(piece) else {

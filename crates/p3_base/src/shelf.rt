@@ -53,7 +53,8 @@ impl Shelf {
     pub(crate) fn read(&self, name: &Word, limit: u32, into: &mut Vec<u8>) -> Result<(), ReadFault>
         ensures ok { OnOk result (bytes_under self.now name.now ≡ Some into.new.items) }
         ensures within_limit { OnOk result (length into.new.items ≤ limit) }
-        ensures too_long { IsErrOf result ReadFault.TooLong → IsTooLong (Some self.now) name.now limit into.new.items }
+        ensures too_long { IsErrOf result ReadFault.TooLong
+            → IsTooLong (Some self.now) name.now limit into.new.items }
         ensures absent { IsErrOf result ReadFault.Failed ↔ IsNone (bytes_under self.now name.now) }
         ensures prefix { OnErr result (BeginsHeld (Some self.now) name.now into.new.items) }
     {

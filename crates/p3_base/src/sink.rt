@@ -1,7 +1,7 @@
 //! Where a report is put.
 
 ghost use Rattle.std.specs.Prelude.{◌≡◌, ◌≤◌, OnOk, OnErr};
-ghost use Rattle.p3_base.specs.Outside.{IsPartlyPut, Rose, SinkSeen, with_put};
+ghost use Rattle.p3_base.specs.Outside.{IsPartlyPut, IsPut, Rose, SinkSeen};
 
 use crate::SinkFailed;
 
@@ -12,7 +12,7 @@ pub trait Sink {
 
     /// Puts the bytes at the end. It takes no memory. After a failure a first part of them is there.
     fn put(&mut self, bytes: &[u8]) -> Result<(), SinkFailed>
-        ensures ok { OnOk result ((seen self.new).written ≡ with_put bytes.now (seen self.old).written) }
+        ensures ok { OnOk result (IsPut bytes.now (seen self.old).written (seen self.new).written) }
         ensures failed { OnErr result (Rose (seen self.old).faults (seen self.new).faults) }
         ensures partly { OnErr result
             (IsPartlyPut bytes.now (seen self.old).written (seen self.new).written) }

@@ -27,7 +27,8 @@ pub(crate) fn accepted(alloc: Global, texts: &Texts<'_>) -> Result<Whole, Ending
         AreAccepted Source texts.now.domain.now texts.now.problem.now whole.checked.task) }
     ensures ready { IfOk result (λ whole.
         CanBeCompiled whole.checked.task whole.ground_task whole.weights) }
-    ensures err { IfErr result (IsRefusedBy (IsRefusal texts.now.domain.now texts.now.problem.now)) }
+    ensures err { IfErr result
+        (IsRefusedBy (IsRefusal texts.now.domain.now texts.now.problem.now)) }
 {
     let checked = checked_task(alloc, texts)?;
     match Whole::accept(alloc, checked) {
@@ -44,7 +45,8 @@ fn checked_task(alloc: Global, texts: &Texts<'_>) -> Result<Checked, Ending>
         IsSpelled texts.now.domain.now texts.now.problem.now checked.task) }
     ensures side { IfOk result (λ checked. checked.side ≡ Source) }
     ensures well_formed { IfOk result (λ checked. WellFormed checked.task) }
-    ensures err { IfErr result (IsRefusedBy (IsRefusal texts.now.domain.now texts.now.problem.now)) }
+    ensures err { IfErr result
+        (IsRefusedBy (IsRefusal texts.now.domain.now texts.now.problem.now)) }
 {
     let domain = match read_domain(alloc, Side::Source, texts.domain) {
         Ok(half) => half,
@@ -71,7 +73,8 @@ fn checked(
         IsSpelled texts.now.domain.now texts.now.problem.now checked.task) }
     ensures side { IfOk result (λ checked. checked.side ≡ Source) }
     ensures well_formed { IfOk result (λ checked. WellFormed checked.task) }
-    ensures err { IfErr result (IsRefusedBy (IsRefusal texts.now.domain.now texts.now.problem.now)) }
+    ensures err { IfErr result
+        (IsRefusedBy (IsRefusal texts.now.domain.now texts.now.problem.now)) }
 {
     match check(alloc, Side::Source, domain, problem) {
         Ok(checked) => Ok(checked),

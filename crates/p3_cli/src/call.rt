@@ -46,7 +46,8 @@ pub fn run<F: Files, S: Sink>(alloc: Global, words: &[Word], files: &mut F, out:
     // A refusal comes where it is shown, and where it is shown it comes.
     ensures refused { result ≡ status.refused
         → IfSome (F.seen files.old).held (IsRefusedIn (request_of words.now)) }
-    ensures refuses { MustRefuse (request_of words.now) (F.seen files.old) (F.seen files.new) result }
+    ensures refuses { MustRefuse (request_of words.now) (F.seen files.old)
+        (F.seen files.new) result }
 
     // A failure comes only where the outside failed.
     ensures read_failed { result ≡ status.unread
@@ -69,7 +70,8 @@ pub fn run<F: Files, S: Sink>(alloc: Global, words: &[Word], files: &mut F, out:
         → IsLaidOutRun (request_of words.now) (F.seen files.old) (F.seen files.new) }
 
     // A name that is no output holds what it held.
-    ensures others { OthersStay (request_of words.now) (F.seen files.old).held (F.seen files.new).held }
+    ensures others { OthersStay (request_of words.now) (F.seen files.old).held
+        (F.seen files.new).held }
 
     // What is left in the files and put into the sink is what the ending says.
     ensures ending { (how : Ending) × Ends (request_of words.now)

@@ -102,7 +102,8 @@ impl<'a> Request<'a> {
 
 /// A file of the task read.
 fn source(role: Role, name: &Word) -> Input<'_>
-    ensures { asked_input result ≡ record { role = role; name = name.now; limit = byte_limit Source } }
+    ensures { asked_input result
+        ≡ record { role = role; name = name.now; limit = byte_limit Source } }
 {
     Input {
         role,

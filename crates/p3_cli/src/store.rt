@@ -17,10 +17,16 @@ pub(crate) fn read_all<F: Files>(
     files: &mut F,
     inputs: &[Input<'_>],
 ) -> Result<Vec<Vec<u8>>, Ending>
-    requires { IsTrue (F.seen files.old).is_sure → AreStored (F.seen files.old).held (asked_inputs inputs.now) }
-    ensures ok { IfOk result (λ texts. ReadsAll (F.seen files.old).held (asked_inputs inputs.now) (map (λ text. text.items) texts.items)) }
-    ensures within { IfOk result (λ texts. AreWithin (asked_inputs inputs.now) (map (λ text. text.items) texts.items)) }
-    ensures err { IfErr result (ReadFails (F.seen files.old).held (asked_inputs inputs.now) (F.seen files.old).read_faults (F.seen files.new).read_faults) }
+    requires { IsTrue (F.seen files.old).is_sure
+        → AreStored (F.seen files.old).held (asked_inputs inputs.now) }
+    ensures ok { IfOk result (λ texts.
+        ReadsAll (F.seen files.old).held (asked_inputs inputs.now)
+        (map (λ text. text.items) texts.items)) }
+    ensures within { IfOk result (λ texts.
+        AreWithin (asked_inputs inputs.now) (map (λ text. text.items) texts.items)) }
+    ensures err { IfErr result
+        (ReadFails (F.seen files.old).held (asked_inputs inputs.now)
+        (F.seen files.old).read_faults (F.seen files.new).read_faults) }
     ensures held_stays { (F.seen files.new).held ≡ (F.seen files.old).held }
     ensures read_faults_grow { (F.seen files.old).read_faults ≤ (F.seen files.new).read_faults }
     ensures write_faults_grow { (F.seen files.old).write_faults ≤ (F.seen files.new).write_faults }
@@ -41,10 +47,14 @@ pub(crate) fn read_all<F: Files>(
 
 /// Reads an input.
 fn read_one<F: Files>(alloc: Global, files: &mut F, input: &Input<'_>) -> Result<Vec<u8>, Ending>
-    requires { IsTrue (F.seen files.old).is_sure → IsStored (F.seen files.old).held input.now.name.now }
-    ensures ok { IfOk result (λ text. ReadsAll (F.seen files.old).held (asked_input input.now ∷ []) (text.items ∷ [])) }
+    requires { IsTrue (F.seen files.old).is_sure
+        → IsStored (F.seen files.old).held input.now.name.now }
+    ensures ok { IfOk result (λ text.
+        ReadsAll (F.seen files.old).held (asked_input input.now ∷ []) (text.items ∷ [])) }
     ensures within { IfOk result (λ text. length text.items ≤ input.now.limit) }
-    ensures err { IfErr result (ReadFails (F.seen files.old).held (asked_input input.now ∷ []) (F.seen files.old).read_faults (F.seen files.new).read_faults) }
+    ensures err { IfErr result
+        (ReadFails (F.seen files.old).held (asked_input input.now ∷ [])
+        (F.seen files.old).read_faults (F.seen files.new).read_faults) }
     ensures held_stays { (F.seen files.new).held ≡ (F.seen files.old).held }
     ensures sure_stays { (F.seen files.new).is_sure ≡ (F.seen files.old).is_sure }
     ensures read_faults_grow { (F.seen files.old).read_faults ≤ (F.seen files.new).read_faults }
@@ -65,8 +75,13 @@ pub(crate) fn write_all<F: Files>(
     files: &mut F,
     writings: &[Written<'_>],
 ) -> Result<(), Ending>
-    ensures ok { OnOk result ((F.seen files.new).held ≡ holding_all (asked_writings writings.now) (F.seen files.old).held) }
-    ensures err { IfErr result (WriteFails (asked_writings writings.now) (F.seen files.old).held (F.seen files.new).held (F.seen files.old).write_faults (F.seen files.new).write_faults) }
+    ensures ok { OnOk result
+        ((F.seen files.new).held
+        ≡ holding_all (asked_writings writings.now) (F.seen files.old).held) }
+    ensures err { IfErr result
+        (WriteFails (asked_writings writings.now) (F.seen files.old).held
+        (F.seen files.new).held (F.seen files.old).write_faults
+        (F.seen files.new).write_faults) }
     ensures read_faults_grow { (F.seen files.old).read_faults ≤ (F.seen files.new).read_faults }
     ensures write_faults_grow { (F.seen files.old).write_faults ≤ (F.seen files.new).write_faults }
 {

@@ -46,7 +46,8 @@ pub(crate) fn translate<'a>(
     ensures made { IfOk result (λ product. OfTwoTexts
         (λ od op. IsTranslation texts.now.domain.now texts.now.problem.now od op product.report.items)
         (asked_writings product.writings.items)) }
-    ensures err { IfErr result (IsRefusedBy (IsRefusal texts.now.domain.now texts.now.problem.now)) }
+    ensures err { IfErr result
+        (IsRefusedBy (IsRefusal texts.now.domain.now texts.now.problem.now)) }
 {
     let whole = accepted(alloc, texts)?;
     let product = translation(alloc, files, &whole)?;

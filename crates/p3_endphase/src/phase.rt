@@ -101,7 +101,8 @@ fn push_both(
 /// The plan ends: the running atom gives way to the first of the chain.
 fn finish_action(alloc: Global, finish: &Form, first_atom: usize) -> Result<TargetAction, NoMemory>
     requires { first_atom + 1 ≤ 2 ^ 64 - 1 }
-    ensures { IfOk result (IsMove first_atom finish.now (λ state. truth state finish.now) (codes "finish") 0) }
+    ensures { IfOk result
+        (IsMove first_atom finish.now (λ state. truth state finish.now) (codes "finish") 0) }
 {
     let condition = copied(alloc, finish)?;
     let name = Name::of(alloc, b"finish".as_slice())?;
@@ -132,7 +133,9 @@ fn collect_action(
     first_atom: usize,
 ) -> Result<TargetAction, NoMemory>
     requires { first_atom + number + 2 ≤ 2 ^ 64 - 1 }
-    ensures { IfOk result (IsMove (first_atom + (number + 1)) instance.now.accept (λ state. truth state instance.now.accept) (collect_name number) 0) }
+    ensures { IfOk result
+        (IsMove (first_atom + (number + 1)) instance.now.accept (λ state.
+        truth state instance.now.accept) (collect_name number) 0) }
 {
     let condition = copied(alloc, &instance.accept)?;
     let name = Name::of(alloc, collect_name(alloc, number)?.as_bytes())?;
@@ -147,7 +150,9 @@ fn forgo_action(
     first_atom: usize,
 ) -> Result<TargetAction, NoMemory>
     requires { first_atom + number + 2 ≤ 2 ^ 64 - 1 }
-    ensures { IfOk result (IsMove (first_atom + (number + 1)) instance.now.accept (λ state. not (truth state instance.now.accept)) (forgo_name number) instance.now.weight) }
+    ensures { IfOk result
+        (IsMove (first_atom + (number + 1)) instance.now.accept (λ state.
+        not (truth state instance.now.accept)) (forgo_name number) instance.now.weight) }
 {
     let condition = negate(alloc, &instance.accept)?;
     let name = Name::of(alloc, forgo_name(alloc, number)?.as_bytes())?;

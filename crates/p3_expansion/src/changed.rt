@@ -46,7 +46,8 @@ fn mark_parts(marks: &mut Bits, parts: &[NumberedEffect])
 /// For each predicate whether some effect of the task names it.
 pub(crate) fn changed_bits(alloc: Global, task: &NumberedTask) -> Result<Bits, NoMemory>
     ensures { IfOk result (λ marks. marks
-        ≡ marked (replicate (length task.now.numbers.predicates) false) (task_predicates task.now)) }
+        ≡ marked (replicate (length task.now.numbers.predicates) false)
+        (task_predicates task.now)) }
 {
     let mut marks = Bits::new(alloc, task.numbers.predicates.len())?;
     for action in task.actions.items() {

@@ -110,7 +110,8 @@ fn simplified(alloc: Global, form: &Form) -> Result<Form, NoMemory>
 /// The conjunction of the parts, or else their disjunction, each of them simplified.
 #[cycle(simplify)]
 fn junction(alloc: Global, parts: &[Form], every: bool) -> Result<Form, NoMemory>
-    ensures { IfOk result (λ simple. simple ≡ made.junction every [] (map made.simplified parts.now)) }
+    ensures { IfOk result (λ simple.
+        simple ≡ made.junction every [] (map made.simplified parts.now)) }
 {
     let mut kept = Vec::new(alloc);
     for part in parts {

@@ -61,7 +61,8 @@ impl Table {
         ensures within { IsSome result ↔ (number < length self.now) }
         // Its numbers are smaller, and its form is made of theirs.
         ensures below { IfSome result (λ node. IsNodeBelow number node.now) }
-        ensures stands { IfSome result (λ node. form_of self.now number ≡ node_form (form_of self.now) node.now) }
+        ensures stands { IfSome result (λ node.
+            form_of self.now number ≡ node_form (form_of self.now) node.now) }
     {
         self.nodes.get_index(number)
     }
@@ -91,7 +92,8 @@ impl Table {
         ensures within { IfOk result (λ number. number < length self.new) }
         // All others keep their numbers, and what those stand for.
         ensures grows { Grows self.old self.new }
-        ensures stands { IfOk result (λ number. form_of self.new number ≡ node_form (form_of self.old) node) }
+        ensures stands { IfOk result (λ number.
+            form_of self.new number ≡ node_form (form_of self.old) node) }
         ensures err { OnErr result (self.new ≡ self.old) }
     {
         self.insert(node)

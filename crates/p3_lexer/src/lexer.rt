@@ -74,9 +74,12 @@ fn next_from(text: &[u8], at: usize) -> (Next<'_>, usize)
     requires within { at ≤ length text.now }
     requires short { length text.now ≤ 268435456 }
     ensures within { result.1 ≤ length text.now }
-    ensures tokens { tokens_from false at (drop at text.now) ≡ with_next result.0 (tokens_from false result.1 (drop result.1 text.now)) }
-    ensures slice { Takes (record { source = text.now; at = at }) result.0 (record { source = text.now; at = result.1 }) }
-    ensures rests { Rests (record { source = text.now; at = at }) result.0 (record { source = text.now; at = result.1 }) }
+    ensures tokens { tokens_from false at (drop at text.now)
+        ≡ with_next result.0 (tokens_from false result.1 (drop result.1 text.now)) }
+    ensures slice { Takes (record { source = text.now; at = at }) result.0
+        (record { source = text.now; at = result.1 }) }
+    ensures rests { Rests (record { source = text.now; at = at }) result.0
+        (record { source = text.now; at = result.1 }) }
 {
     let place = gap_end(text, at);
     if place == text.len() {

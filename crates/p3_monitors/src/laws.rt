@@ -9,7 +9,9 @@ ghost use Rattle.p3_monitors.specs.declared.watching.Monitor.{Monitor};
 
 /// Where a monitor's atoms are right of the states visited so far, its accept form is satisfaction.
 pub fn accepting_is_satisfaction()
-    ensures { (monitor : Monitor) (W : List State) (state : State) → Kept monitor.base monitor.modal W state → truth state monitor.accept ≡ ground_sat W monitor.modal }
+    ensures { (monitor : Monitor) (W : List State) (state : State)
+        → Kept monitor.base monitor.modal W state
+        → truth state monitor.accept ≡ ground_sat W monitor.modal }
 {}
 
 /// Several monitors ride on one step: with the changes of all of them at once, and others beside

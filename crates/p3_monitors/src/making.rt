@@ -30,11 +30,17 @@ pub fn monitor(
     ensures base { IfOk result (λ made. made.base ≡ base) }
     ensures modal { IfOk result (λ made. made.modal ≡ modal.now) }
     // Its initial bits are right of the initial state alone.
-    ensures initial { IfOk result (λ made. (state : State) → Carries base made.initial modal.now initial.now state → Kept base modal.now (initial.now ∷ []) state) }
+    ensures initial { IfOk result (λ made.
+        (state : State) → Carries base made.initial modal.now initial.now state
+        → Kept base modal.now (initial.now ∷ []) state) }
     // Where its bits are right, the accept form is satisfaction.
-    ensures accepts { IfOk result (λ made. (W : List State) (state : State) → Kept base modal.now W state → truth state made.accept ≡ ground_sat W modal.now) }
+    ensures accepts { IfOk result (λ made.
+        (W : List State) (state : State) → Kept base modal.now W state
+        → truth state made.accept ≡ ground_sat W modal.now) }
     // So it is after every list of steps, each with its changes.
-    ensures satisfied { IfOk result (λ made. (W : List State) (state : State) → Rides base modal.now W state → truth state made.accept ≡ ground_sat W modal.now) }
+    ensures satisfied { IfOk result (λ made.
+        (W : List State) (state : State) → Rides base modal.now W state
+        → truth state made.accept ≡ ground_sat W modal.now) }
     // The accept form reads no atoms but its own and those of the constraint.
     ensures atoms { IfOk result (λ made. HasAccept base modal.now made.accept) }
 {

@@ -51,7 +51,8 @@ impl Monitor {
         ensures atoms { IfOk result (HasConditions self.now.base self.now.modal step.now) }
         // They are few and small.
         ensures few { IfOk result (λ effects. length effects ≤ 2) }
-        ensures size { IfOk result (λ effects. condition_nodes effects ≤ most_nodes step.now self.now.modal) }
+        ensures size { IfOk result (λ effects.
+            condition_nodes effects ≤ most_nodes step.now self.now.modal) }
     {
         let mut regressed = Regressed::open(alloc, Table::new(alloc), step)?;
         self.effects_in(alloc, &mut regressed)
@@ -67,12 +68,15 @@ impl Monitor {
         // They are of its own atoms.
         ensures own { IfOk result (AreOwn self.now.base self.now.modal) }
         // The other atoms are as without them.
-        ensures others { IfOk result (LeavesOthers self.now.base self.now.modal regressed.old.effects) }
+        ensures others { IfOk result
+            (LeavesOthers self.now.base self.now.modal regressed.old.effects) }
         // They read no atoms but its own and those of the constraint and of the step's conditions.
-        ensures atoms { IfOk result (HasConditions self.now.base self.now.modal regressed.old.effects) }
+        ensures atoms { IfOk result
+            (HasConditions self.now.base self.now.modal regressed.old.effects) }
         // They are few and small.
         ensures few { IfOk result (λ effects. length effects ≤ 2) }
-        ensures size { IfOk result (λ effects. condition_nodes effects ≤ most_nodes regressed.old.effects self.now.modal) }
+        ensures size { IfOk result (λ effects.
+            condition_nodes effects ≤ most_nodes regressed.old.effects self.now.modal) }
         // The regression keeps its step, its nodes and its answers.
         ensures extends { Extends regressed.old regressed.new }
     {

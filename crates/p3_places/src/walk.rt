@@ -25,7 +25,8 @@ struct Walk {
 
 /// A word.
 fn with_word(walk: Walk, text: &[u8]) -> Option<Walk>
-    ensures { option_map the_stack result ≡ step grammar_table (the_stack walk) (marks.Names (str_to_ascii_lowercase text.now)) }
+    ensures { option_map the_stack result
+        ≡ step grammar_table (the_stack walk) (marks.Names (str_to_ascii_lowercase text.now)) }
 {
     let Walk { top, outer } = walk;
     let top = on_word(top, text)?;
@@ -34,7 +35,8 @@ fn with_word(walk: Walk, text: &[u8]) -> Option<Walk>
 
 /// A list that opens.
 fn opened(walk: Walk) -> Result<Option<Walk>, NoMemory>
-    ensures { IfOk result (λ next. option_map the_stack next ≡ step grammar_table (the_stack walk) marks.Opens) }
+    ensures { IfOk result (λ next.
+        option_map the_stack next ≡ step grammar_table (the_stack walk) marks.Opens) }
 {
     let Walk { top, mut outer } = walk;
     let Some(first) = on_open(top) else {
@@ -60,7 +62,8 @@ fn closed(walk: Walk) -> Option<Walk>
 
 /// One token more.
 fn moved(walk: Walk, text: &[u8]) -> Result<Option<Walk>, NoMemory>
-    ensures { IfOk result (λ next. option_map the_stack next ≡ step grammar_table (the_stack walk) (mark_in text.now)) }
+    ensures { IfOk result (λ next.
+        option_map the_stack next ≡ step grammar_table (the_stack walk) (mark_in text.now)) }
 {
     if text == b"(".as_slice() {
         opened(walk)

@@ -103,7 +103,12 @@ pub(crate) fn is_keyword_word(word: &[u8]) -> bool
 }
 
 fn is_reserved_form(word: &[u8]) -> bool
-    ensures { result ≡ has_name (map codes ("and" ∷ "or" ∷ "not" ∷ "imply" ∷ "exists" ∷ "forall" ∷ "when" ∷ "preference" ∷ "increase" ∷ "either" ∷ "define" ∷ "is-violated" ∷ "total-time" ∷ [])) (str_to_ascii_lowercase word.now) }
+    ensures { result
+        ≡ has_name
+        (map codes
+        ("and" ∷ "or" ∷ "not" ∷ "imply" ∷ "exists" ∷ "forall" ∷ "when" ∷ "preference"
+        ∷ "increase" ∷ "either" ∷ "define" ∷ "is-violated" ∷ "total-time" ∷ []))
+        (str_to_ascii_lowercase word.now) }
 {
     is(word, b"and")
         || is(word, b"or")
@@ -121,7 +126,13 @@ fn is_reserved_form(word: &[u8]) -> bool
 }
 
 fn is_reserved_operator(word: &[u8]) -> bool
-    ensures { result ≡ has_name (map codes ("always" ∷ "sometime" ∷ "at-most-once" ∷ "sometime-after" ∷ "sometime-before" ∷ "within" ∷ "always-within" ∷ "hold-during" ∷ "hold-after" ∷ "assign" ∷ "decrease" ∷ "scale-up" ∷ "scale-down" ∷ [])) (str_to_ascii_lowercase word.now) }
+    ensures { result
+        ≡ has_name
+        (map codes
+        ("always" ∷ "sometime" ∷ "at-most-once" ∷ "sometime-after" ∷ "sometime-before"
+        ∷ "within" ∷ "always-within" ∷ "hold-during" ∷ "hold-after" ∷ "assign"
+        ∷ "decrease" ∷ "scale-up" ∷ "scale-down" ∷ []))
+        (str_to_ascii_lowercase word.now) }
 {
     is(word, b"always")
         || is(word, b"sometime")
@@ -152,7 +163,9 @@ pub(crate) fn is_function_word(word: &[u8]) -> bool
 
 #[tactic(auto, using(crate::proofs::WordLemmas::same_name_sym))]
 fn is_free(word: &[u8]) -> bool
-    ensures { result ≡ (not (has_name reserved_words (str_to_ascii_lowercase word.now)) && not (same_name (str_to_ascii_lowercase word.now) total_cost)) }
+    ensures { result
+        ≡ (not (has_name reserved_words (str_to_ascii_lowercase word.now))
+        && not (same_name (str_to_ascii_lowercase word.now) total_cost)) }
 {
     !is_reserved(word) && !is(word, b"total-cost")
 }

@@ -81,7 +81,8 @@ fn begun(steps: u32, offset: u32, text: &[u8]) -> Result<Before, Refusal>
 fn named(steps: u32, begin: u32, offset: u32, text: &[u8]) -> Result<Before, Refusal>
     requires short { length text.now ≤ 16777216 }
     ensures first { Leads (before.Begun steps begin) (token_of offset text.now) result }
-    ensures later { text.now ≢ codes ")" → Leads (before.Named steps begin) (token_of offset text.now) result }
+    ensures later { text.now ≢ codes ")"
+        → Leads (before.Named steps begin) (token_of offset text.now) result }
 {
     if text == b"(".as_slice() || text == b")".as_slice() {
         Err(refusal(Code::Malformed, offset, 1))

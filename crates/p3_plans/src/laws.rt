@@ -22,5 +22,6 @@ pub fn steps_before_offences()
 
 /// The slices that a reader gives of a plan's text are texts of its steps, in order.
 pub fn slices_are_texts_of_steps()
-    ensures { (text : List ℕ) (plan : Plan) → IsPlanText text plan → length plan ≤ step_limit → AreTextsOf (all_of text).steps plan }
+    ensures { (text : List ℕ) (plan : Plan) → IsPlanText text plan → length plan ≤ step_limit
+        → AreTextsOf (all_of text).steps plan }
 {}

@@ -24,7 +24,8 @@ pub fn read_plan(alloc: Global, text: &[u8]) -> Result<Plan, PlanFail>
     // A text with an offence has no plan.
     ensures free { IfOk result (λ _. plan_offence text.now ≡ None) }
     // A text is refused at its first offence.
-    ensures refused { IfErr result (λ fail. IfRefused fail (λ refusal. plan_offence text.now ≡ Some refusal)) }
+    ensures refused { IfErr result (λ fail.
+        IfRefused fail (λ refusal. plan_offence text.now ≡ Some refusal)) }
 {
     let mut draft = Draft::Outside {
         plan: List::new(alloc),

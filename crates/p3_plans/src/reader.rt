@@ -46,7 +46,13 @@ impl<'a> Model for PlanReader<'a> {
 
     ghost Value = { Progress };
 
-    ghost view = { λ reader. record { source = reader.text.now; at = reader.lexer.at; given = reader.given; stopped = reader.stopped } };
+    ghost view = { λ reader. record {
+      source = reader.text.now;
+      at = reader.lexer.at;
+      given = reader.given;
+      stopped =
+          reader.stopped;
+    } };
 
     ghost invariant = { λ reader. (reader.lexer.source ≡ reader.text.now) × (length reader.text.now ≤ 16777216) };
 }
@@ -104,7 +110,8 @@ fn next_step<'a>(text: &'a [u8], lexer: &mut Lexer<'a>, given: u32) -> (NextStep
     requires source { lexer.old.source ≡ text.now }
     requires short { length text.now ≤ 16777216 }
     ensures source { lexer.new.source ≡ text.now }
-    ensures steps { parts text.now (Outside given) 0 (lexing.left lexer.old) ≡ with_next result.0 (parts text.now (Outside result.1) 0 (lexing.left lexer.new)) }
+    ensures steps { parts text.now (Outside given) 0 (lexing.left lexer.old)
+        ≡ with_next result.0 (parts text.now (Outside result.1) 0 (lexing.left lexer.new)) }
     ensures slice { Takes text.now result.0 lexer.new.at }
     ensures gap { IsBehindGap text.now lexer.old.at result.0 }
     ensures ends { Ends result.0 (lexing.left lexer.new) }
@@ -148,7 +155,8 @@ fn step_at(text: &[u8], begin: u32, close: u32) -> PlanStep<'_>
 /// At the end of the text, inside a step or not.
 fn end_of(text: &[u8], before: Before) -> NextStep<'_>
     requires short { length text.now ≤ 16777216 }
-    ensures offence { (later : Left) → with_next result later ≡ nothing (end_offence (length text.now) (the_before before)) }
+    ensures offence { (later : Left)
+        → with_next result later ≡ nothing (end_offence (length text.now) (the_before before)) }
     ensures slice { (source : List ℕ) (end : ℕ) → Takes source result end }
     ensures gap { (source : List ℕ) (at : ℕ) → IsBehindGap source at result }
 {

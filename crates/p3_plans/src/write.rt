@@ -33,7 +33,8 @@ fn push_step(out: &mut Vec<u8>, step: &Step) -> Result<(), NoMemory>
 }
 
 fn push_arguments(out: &mut Vec<u8>, arguments: &[Name]) -> Result<(), NoMemory>
-    ensures { OnOk result (out.new.items ≡ out.old.items ++ flat_map layout.argument_layout arguments.now) }
+    ensures { OnOk result
+        (out.new.items ≡ out.old.items ++ flat_map layout.argument_layout arguments.now) }
 {
     for argument in arguments {
         push(out, " ")?;

@@ -19,7 +19,10 @@ fn preferred(name: u32, atom: usize) -> GroundPref
 }
 
 fn three_prefs(alloc: Global) -> Result<List<GroundPref>, NoMemory>
-    ensures { IfOk result (λ prefs. prefs ≡ record { name = Some 0; body = Form.Atom 1 } ∷ record { name = Some 1; body = Form.Atom 2 } ∷ record { name = Some 2; body = Form.Atom 3 } ∷ []) }
+    ensures { IfOk result (λ prefs.
+        prefs ≡ record { name = Some 0; body = Form.Atom 1 }
+        ∷ record { name = Some 1; body = Form.Atom 2 }
+        ∷ record { name = Some 2; body = Form.Atom 3 } ∷ []) }
 {
     let mut prefs = List::new(alloc);
     prefs.push(preferred(0, 1))?;

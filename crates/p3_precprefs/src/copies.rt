@@ -30,18 +30,29 @@ pub fn split(
     requires cost { IsSome step.now.cost }
     requires names { AreNamedBelow (length weights.now.by_name) step.now.prefs }
     requires few { length (weighted weights.now.by_name step.now.prefs) ≤ 8 }
-    requires room { weighted_cost weights.now step.now + sum_by (weight_of weights.now.by_name) step.now.prefs < 2 ^ 62 }
+    requires room { weighted_cost weights.now step.now + sum_by
+        (weight_of weights.now.by_name) step.now.prefs
+        < 2 ^ 62 }
     // Where the step fits, so does one copy, which shows what is violated and costs its weights.
-    ensures one_copy { IfOk result (λ copies. (state : State) → truth state step.now.pre ≡ true → made.HasOneCopy weights.now step.now copies state) }
+    ensures one_copy { IfOk result (λ copies.
+        (state : State) → truth state step.now.pre ≡ true
+        → made.HasOneCopy weights.now step.now copies state) }
     // Elsewhere no copy fits.
-    ensures no_copy { IfOk result (λ copies. (state : State) → truth state step.now.pre ≡ false → made.fitting state copies ≡ []) }
+    ensures no_copy { IfOk result (λ copies.
+        (state : State) → truth state step.now.pre ≡ false → made.fitting state copies ≡ []) }
     // Each choice has a copy.
-    ensures patterns { IfOk result (λ copies. made.violated_lists copies ≡ made.patterns (length (weighted weights.now.by_name step.now.prefs))) }
+    ensures patterns { IfOk result (λ copies.
+        made.violated_lists copies
+        ≡ made.patterns (length (weighted weights.now.by_name step.now.prefs))) }
     // No two copies show the same, and each has an entry for each weighted preference.
     ensures apart { IfOk result (λ copies. made.AreApart (made.violated_lists copies)) }
-    ensures entries { IfOk result (λ copies. All (λ (copy : StepCopy). length copy.violated ≡ length (weighted weights.now.by_name step.now.prefs)) copies) }
+    ensures entries { IfOk result (λ copies.
+        All (λ (copy : StepCopy). length copy.violated
+        ≡ length (weighted weights.now.by_name step.now.prefs)) copies) }
     // They read no atoms but those of the step.
-    ensures atoms { IfOk result (λ copies. (allowed : ℕ → Bool) → made.HasPartsIn allowed step.now → All (λ (copy : StepCopy). made.HasAtomsIn allowed copy.pre) copies) }
+    ensures atoms { IfOk result (λ copies.
+        (allowed : ℕ → Bool) → made.HasPartsIn allowed step.now
+        → All (λ (copy : StepCopy). made.HasAtomsIn allowed copy.pre) copies) }
 {
     split_all(alloc, step, weights)
 }
@@ -53,8 +64,12 @@ fn split_all(
     weights: &Weights,
 ) -> Result<List<StepCopy>, NoMemory>
     requires names { AreNamedBelow (length weights.now.by_name) step.now.prefs }
-    requires room { weighted_cost weights.now step.now + sum_by (weight_of weights.now.by_name) step.now.prefs < 2 ^ 62 }
-    ensures { IfOk result (λ copies. copies ≡ made.split_all weights.now.by_name step.now.prefs (made.first_copy weights.now step.now ∷ [])) }
+    requires room { weighted_cost weights.now step.now + sum_by
+        (weight_of weights.now.by_name) step.now.prefs
+        < 2 ^ 62 }
+    ensures { IfOk result (λ copies.
+        copies ≡ made.split_all weights.now.by_name step.now.prefs
+        (made.first_copy weights.now step.now ∷ [])) }
 {
     let mut copies = first_copies(alloc, step, weights)?;
     for pref in step.prefs.items() {

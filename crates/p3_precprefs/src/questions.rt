@@ -33,7 +33,8 @@ pub fn ask(
     requires names { weigh.AreNamedBelow (length weights.now.by_name) step.now.prefs }
     requires wide { 9 ≤ weigh.width_of weights.now.by_name step.now }
     requires few { weigh.width_of weights.now.by_name step.now ≤ greatest_width }
-    requires room { weigh.weighted_cost weights.now step.now + sum_by (weigh.weight_of weights.now.by_name) step.now.prefs < cost_limit }
+    requires room { weigh.weighted_cost weights.now step.now + sum_by
+        (weigh.weight_of weights.now.by_name) step.now.prefs < cost_limit }
     requires step { is_step_below go step.now ≡ true }
     requires effects { list_all (is_sized_change go) effects.now ≡ true }
     requires questions { go < first }
@@ -41,7 +42,8 @@ pub fn ask(
     // What its actions are.
     ensures actions { IfOk result (made.IsChain go first current weights.now step.now effects.now) }
     // From open bits where the step fits, one list of them leads back to open bits; else none fits.
-    ensures one_way { IfOk result (made.LeadsOneWay go first current weights.now step.now effects.now) }
+    ensures one_way { IfOk result
+        (made.LeadsOneWay go first current weights.now step.now effects.now) }
     ensures no_way { IfOk result (made.LeadsNoWay go first current step.now) }
     // Where they may fit, and that one at most does.
     ensures guarded { IfOk result (made.IsGuarded go current) }
@@ -101,7 +103,9 @@ fn push_questions(
     requires few { weigh.width_of by_name.now step.now ≤ greatest_width }
     requires current { first + greatest_width < current }
     ensures count { IfOk result (λ count. count ≡ weigh.width_of by_name.now step.now) }
-    ensures pushed { OnOk result (made.IsAsked first current step.now.number by_name.now (weigh.weighted by_name.now step.now.prefs) actions.old actions.new) }
+    ensures pushed { OnOk result
+        (made.IsAsked first current step.now.number by_name.now
+        (weigh.weighted by_name.now step.now.prefs) actions.old actions.new) }
 {
     let mut place = 0;
     for pref in step.prefs.items() {
@@ -142,7 +146,9 @@ fn push_answers(
     weight: u64,
 ) -> Result<(), NoMemory>
     requires { at.now.first + at.now.place + 1 < 2 ^ 64 }
-    ensures { OnOk result (made.HasBothAnswers at.now.first at.now.current at.now.number at.now.place body.now weight actions.old actions.new) }
+    ensures { OnOk result
+        (made.HasBothAnswers at.now.first at.now.current at.now.number at.now.place body.now weight
+        actions.old actions.new) }
 {
     let agree = answer_action(alloc, at, body, true, 0)?;
     let deny = answer_action(alloc, at, body, false, weight)?;
@@ -180,7 +186,8 @@ fn answer_action(
     cost: u64,
 ) -> Result<TargetAction, NoMemory>
     requires { at.now.first + at.now.place + 1 < 2 ^ 64 }
-    ensures { IfOk result (made.IsAnswer at.now.first at.now.current at.now.number at.now.place holds body.now cost) }
+    ensures { IfOk result
+        (made.IsAnswer at.now.first at.now.current at.now.number at.now.place holds body.now cost) }
 {
     let atom = at.first + at.place;
     let next = at.first + (at.place + 1);
@@ -236,8 +243,10 @@ fn signed(alloc: Global, form: &Form, holds: bool) -> Result<Form, NoMemory>
 
 #[tactic(auto, using(crate::proofs::NameLaws::lowered_begin))]
 fn begin_text(alloc: Global, number: u32) -> Result<String, NoMemory>
-    ensures text { IfOk result (λ text. string_bytes text ≡ codes "s" ++ (decimal number ++ codes "v")) }
-    ensures lowered { str_to_ascii_lowercase (codes "s" ++ (decimal number ++ codes "v")) ≡ codes "s" ++ (decimal number ++ codes "v") }
+    ensures text { IfOk result (λ text.
+        string_bytes text ≡ codes "s" ++ (decimal number ++ codes "v")) }
+    ensures lowered { str_to_ascii_lowercase (codes "s" ++ (decimal number ++ codes "v"))
+        ≡ codes "s" ++ (decimal number ++ codes "v") }
 {
     Ok(format!(in alloc; "s{number}v")?)
 }
@@ -245,7 +254,8 @@ fn begin_text(alloc: Global, number: u32) -> Result<String, NoMemory>
 #[tactic(auto, using(crate::proofs::NameLaws::lowered_agree))]
 fn agree_text(alloc: Global, number: u32, place: usize) -> Result<String, NoMemory>
     ensures text { IfOk result (λ text. string_bytes text ≡ made.answer_name true number place) }
-    ensures lowered { str_to_ascii_lowercase (made.answer_name true number place) ≡ made.answer_name true number place }
+    ensures lowered { str_to_ascii_lowercase (made.answer_name true number place)
+        ≡ made.answer_name true number place }
 {
     Ok(format!(in alloc; "q{number}y{place}")?)
 }
@@ -253,7 +263,8 @@ fn agree_text(alloc: Global, number: u32, place: usize) -> Result<String, NoMemo
 #[tactic(auto, using(crate::proofs::NameLaws::lowered_deny))]
 fn deny_text(alloc: Global, number: u32, place: usize) -> Result<String, NoMemory>
     ensures text { IfOk result (λ text. string_bytes text ≡ made.answer_name false number place) }
-    ensures lowered { str_to_ascii_lowercase (made.answer_name false number place) ≡ made.answer_name false number place }
+    ensures lowered { str_to_ascii_lowercase (made.answer_name false number place)
+        ≡ made.answer_name false number place }
 {
     Ok(format!(in alloc; "q{number}n{place}")?)
 }

@@ -34,7 +34,10 @@ fn preferred(place: u32) -> GroundPref
 /// Three more preferences, from a place on.
 fn push_three(prefs: &mut List<GroundPref>, from: u32) -> Result<(), NoMemory>
     requires { from < 10 }
-    ensures { OnOk result (prefs.new ≡ prefs.old ++ map (λ place. record { name = Some place; body = Form.Atom place }) (from ∷ (from + 1) ∷ (from + 2) ∷ [])) }
+    ensures { OnOk result
+        (prefs.new
+        ≡ prefs.old ++ map (λ place. record { name = Some place; body = Form.Atom place })
+        (from ∷ (from + 1) ∷ (from + 2) ∷ [])) }
 {
     prefs.push(preferred(from))?;
     prefs.push(preferred(from + 1))?;
@@ -43,7 +46,9 @@ fn push_three(prefs: &mut List<GroundPref>, from: u32) -> Result<(), NoMemory>
 }
 
 fn all_preferred(alloc: Global) -> Result<List<GroundPref>, NoMemory>
-    ensures { IfOk result (λ prefs. prefs ≡ map (λ place. record { name = Some place; body = Form.Atom place }) (0 ∷ 1 ∷ 2 ∷ 3 ∷ 4 ∷ 5 ∷ 6 ∷ 7 ∷ 8 ∷ [])) }
+    ensures { IfOk result (λ prefs.
+        prefs ≡ map (λ place. record { name = Some place; body = Form.Atom place })
+        (0 ∷ 1 ∷ 2 ∷ 3 ∷ 4 ∷ 5 ∷ 6 ∷ 7 ∷ 8 ∷ [])) }
 {
     let mut prefs = List::new(alloc);
     push_three(&mut prefs, 0)?;
@@ -53,7 +58,8 @@ fn all_preferred(alloc: Global) -> Result<List<GroundPref>, NoMemory>
 }
 
 fn weights(alloc: Global) -> Result<Weights, NoMemory>
-    ensures by_name { IfOk result (λ weights. weights.by_name ≡ 1 ∷ 2 ∷ 3 ∷ 4 ∷ 5 ∷ 6 ∷ 7 ∷ 8 ∷ 9 ∷ []) }
+    ensures by_name { IfOk result (λ weights.
+        weights.by_name ≡ 1 ∷ 2 ∷ 3 ∷ 4 ∷ 5 ∷ 6 ∷ 7 ∷ 8 ∷ 9 ∷ []) }
     ensures cost { IfOk result (λ weights. weights.total_cost ≡ 2) }
 {
     let by_name = Vec::from_slice(alloc, [1, 2, 3, 4, 5, 6, 7, 8, 9].as_slice())?;
@@ -77,7 +83,9 @@ fn effects(alloc: Global) -> Result<Effects, NoMemory>
 
 #[tactic(auto, using(p3_formula::proofs::FormLemmas::atom_laws))]
 fn wide_step(alloc: Global) -> Result<GroundStep, NoMemory>
-    ensures prefs { IfOk result (λ step. step.prefs ≡ map (λ place. record { name = Some place; body = Form.Atom place }) (0 ∷ 1 ∷ 2 ∷ 3 ∷ 4 ∷ 5 ∷ 6 ∷ 7 ∷ 8 ∷ [])) }
+    ensures prefs { IfOk result (λ step.
+        step.prefs ≡ map (λ place. record { name = Some place; body = Form.Atom place })
+        (0 ∷ 1 ∷ 2 ∷ 3 ∷ 4 ∷ 5 ∷ 6 ∷ 7 ∷ 8 ∷ [])) }
     ensures below { IfOk result (λ step. is_step_below GO step ≡ true) }
     ensures cost { IfOk result (λ step. step.cost ≡ Some 3) }
 {

@@ -13,7 +13,8 @@ use std::test::Fail;
 
 /// The atom is set.
 fn adds(alloc: Global, atom: usize) -> Result<Effects, NoMemory>
-    ensures { IfOk result (λ effects. effects ≡ record { cond = Form.True; atom = atom; add = true } ∷ []) }
+    ensures { IfOk result (λ effects.
+        effects ≡ record { cond = Form.True; atom = atom; add = true } ∷ []) }
 {
     let mut effects = List::new(alloc);
     effects.push(Change {
@@ -26,7 +27,15 @@ fn adds(alloc: Global, atom: usize) -> Result<Effects, NoMemory>
 
 /// A step without preferences that sets an atom.
 fn step(alloc: Global, number: u32, pre: Form, atom: usize) -> Result<GroundStep, NoMemory>
-    ensures { IfOk result (λ step. step ≡ record { number = number; pre = pre; prefs = []; effects = record { cond = Form.True; atom = atom; add = true } ∷ []; cost = Some 0 }) }
+    ensures { IfOk result (λ step.
+        step ≡ record {
+          number = number;
+          pre = pre;
+          prefs = [];
+          effects = record
+              { cond = Form.True; atom = atom; add = true } ∷ [];
+          cost = Some 0;
+        }) }
 {
     let effects = adds(alloc, atom)?;
     Ok(GroundStep {

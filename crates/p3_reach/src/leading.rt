@@ -31,7 +31,8 @@ fn link_atom(theory: &mut Theory, given: usize, atom: usize, gives: usize) -> Re
     requires given { given < length theory.old.facts }
     requires atom { atom < length theory.old.facts }
     requires gives { gives < length theory.old.facts }
-    ensures { OnOk result (Says (leads given (λ set. is_set set atom) gives) theory.old theory.new) }
+    ensures { OnOk result
+        (Says (leads given (λ set. is_set set atom) gives) theory.old theory.new) }
 {
     theory.add(Rule {
         first: given,
@@ -53,7 +54,8 @@ fn lead(
     requires below { IsBelow theory.old.atoms form.now }
     requires given { given < length theory.old.facts }
     requires gives { gives < length theory.old.facts }
-    ensures { OnOk result (Says (leads given (λ set. may.may_be holds set form.now) gives) theory.old theory.new) }
+    ensures { OnOk result
+        (Says (leads given (λ set. may.may_be holds set form.now) gives) theory.old theory.new) }
 {
     match form {
         Form::True => lead_where(theory, holds, given, gives),
@@ -109,7 +111,9 @@ fn lead_by_all(
     requires below { AreBelow theory.old.atoms parts.now }
     requires given { given < length theory.old.facts }
     requires gives { gives < length theory.old.facts }
-    ensures { OnOk result (Says (leads given (λ set. list_all (may.may_be holds set) parts.now) gives) theory.old theory.new) }
+    ensures { OnOk result
+        (Says (leads given (λ set. list_all (may.may_be holds set) parts.now) gives) theory.old
+        theory.new) }
 {
     let mut reached = given;
     for part in parts {
@@ -132,7 +136,9 @@ fn lead_by_some(
     requires below { AreBelow theory.old.atoms parts.now }
     requires given { given < length theory.old.facts }
     requires gives { gives < length theory.old.facts }
-    ensures { OnOk result (Says (leads given (λ set. list_any (may.may_be holds set) parts.now) gives) theory.old theory.new) }
+    ensures { OnOk result
+        (Says (leads given (λ set. list_any (may.may_be holds set) parts.now) gives) theory.old
+        theory.new) }
 {
     for part in parts {
         lead(theory, part, holds, given, gives)?;
@@ -144,7 +150,10 @@ fn lead_by_some(
 fn lead_changes(theory: &mut Theory, changes: &[Change], fits: usize) -> Result<(), NoMemory>
     requires below { list_all (is_sized_change theory.old.atoms) changes.now ≡ true }
     requires fits { fits < length theory.old.facts }
-    ensures { OnOk result (Says (λ set. not (is_set set fits) || list_all (change_keeps set) changes.now) theory.old theory.new) }
+    ensures { OnOk result
+        (Says (λ set.
+        not (is_set set fits) || list_all (change_keeps set) changes.now) theory.old
+        theory.new) }
 {
     for change in changes {
         if change.add {
@@ -158,7 +167,8 @@ fn lead_changes(theory: &mut Theory, changes: &[Change], fits: usize) -> Result<
 pub fn lead_step(theory: &mut Theory, step: &GroundStep, given: usize) -> Result<(), NoMemory>
     requires below { is_step_below theory.old.atoms step.now ≡ true }
     requires given { given < length theory.old.facts }
-    ensures { OnOk result (Says (λ set. not (is_set set given) || step_keeps set step.now) theory.old theory.new) }
+    ensures { OnOk result
+        (Says (λ set. not (is_set set given) || step_keeps set step.now) theory.old theory.new) }
 {
     let fits = theory.proposition()?;
     lead(theory, &step.pre, true, given, fits)?;

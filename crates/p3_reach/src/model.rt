@@ -67,7 +67,9 @@ fn empty_files(alloc: Global, count: usize) -> Result<Vec<List<Rule>>, NoMemory>
 /// The rule goes into the file of the proposition.
 fn file(files: &mut Vec<List<Rule>>, proposition: usize, rule: Rule) -> Result<(), NoMemory>
     requires { proposition < length files.old.items }
-    ensures { OnOk result (files.new.items ≡ slice_set files.old.items proposition (slice_index_or files.old.items proposition [] ++ rule ∷ [])) }
+    ensures { OnOk result
+        (files.new.items ≡ slice_set files.old.items proposition
+        (slice_index_or files.old.items proposition [] ++ rule ∷ [])) }
 {
     files[proposition].push(rule)?;
     Ok(())

@@ -47,7 +47,9 @@ fn theory_of_atoms(alloc: Global, atoms: &Bits) -> Result<Theory, NoMemory>
 fn lead_steps(theory: &mut Theory, steps: &[GroundStep], given: usize) -> Result<(), NoMemory>
     requires below { list_all (is_step_below theory.old.atoms) steps.now ≡ true }
     requires given { given < length theory.old.facts }
-    ensures { OnOk result (Says (λ set. not (is_set set given) || list_all (step_keeps set) steps.now) theory.old theory.new) }
+    ensures { OnOk result
+        (Says (λ set.
+        not (is_set set given) || list_all (step_keeps set) steps.now) theory.old theory.new) }
 {
     for step in steps {
         lead_step(theory, step, given)?;

@@ -13,7 +13,8 @@ use std::test::Fail;
 /// Atom 0 is cleared where atom 1 is set, and set where atom 2 is.
 #[tactic(auto, using(p3_formula::proofs::FormLemmas::atom_laws))]
 fn two_changes(alloc: Global) -> Result<Effects, NoMemory>
-    ensures { IfOk result (λ effects. IsTrue (list_all (λ change. has_atoms (λ atom. nat_lt atom 3) change.cond) effects)) }
+    ensures { IfOk result (λ effects.
+        IsTrue (list_all (λ change. has_atoms (λ atom. nat_lt atom 3) change.cond) effects)) }
 {
     let mut effects = List::new(alloc);
     effects.push(Change {

@@ -32,7 +32,8 @@ impl Memory {
     /// Notes the answer to a number. Other answers stay.
     pub(crate) fn note(&mut self, number: usize, before: usize) -> Result<(), NoMemory>
         ensures table { self.new.table ≡ self.old.table }
-        ensures others { (other : ℕ) → other ≢ number → answer_in self.new other ≡ answer_in self.old other }
+        ensures others { (other : ℕ) → other ≢ number
+            → answer_in self.new other ≡ answer_in self.old other }
         ensures noted { OnOk result (answer_in self.new number ≡ Some before) }
         ensures err { OnErr result (answer_in self.new number ≡ answer_in self.old number) }
     {
@@ -43,7 +44,8 @@ impl Memory {
     pub(crate) fn node(&self, number: usize) -> Result<Node, NoMemory>
         requires { number < length self.now.table }
         ensures below { IfOk result (IsNodeBelow number) }
-        ensures stands { IfOk result (λ node. form_of self.now.table number ≡ node_form (form_of self.now.table) node) }
+        ensures stands { IfOk result (λ node.
+            form_of self.now.table number ≡ node_form (form_of self.now.table) node) }
     {
         match self.table.node(number) {
             Some(node) => copied(self.alloc, node),
@@ -57,7 +59,8 @@ impl Memory {
         ensures grows { Grows self.old.table self.new.table }
         ensures answers { self.new.answers ≡ self.old.answers }
         ensures within { IfOk result (λ number. number < length self.new.table) }
-        ensures stands { IfOk result (λ number. form_of self.new.table number ≡ node_form (form_of self.old.table) node) }
+        ensures stands { IfOk result (λ number.
+            form_of self.new.table number ≡ node_form (form_of self.old.table) node) }
     {
         self.table.add(node)
     }
@@ -75,9 +78,11 @@ impl Memory {
 
 /// Notes the answer to a number. Other answers stay.
 fn put(answers: &mut Vec<Option<usize>>, number: usize, before: usize) -> Result<(), NoMemory>
-    ensures others { (other : ℕ) → other ≢ number → answer_of answers.new.items other ≡ answer_of answers.old.items other }
+    ensures others { (other : ℕ) → other ≢ number
+        → answer_of answers.new.items other ≡ answer_of answers.old.items other }
     ensures noted { OnOk result (answer_of answers.new.items number ≡ Some before) }
-    ensures err { OnErr result (answer_of answers.new.items number ≡ answer_of answers.old.items number) }
+    ensures err { OnErr result
+        (answer_of answers.new.items number ≡ answer_of answers.old.items number) }
 {
     widen(answers, number)?;
     answers[number] = Some(before);
@@ -88,7 +93,8 @@ fn put(answers: &mut Vec<Option<usize>>, number: usize, before: usize) -> Result
 #[tactic(auto, using(crate::proofs::MemoryLemmas::wider))]
 fn widen(answers: &mut Vec<Option<usize>>, number: usize) -> Result<(), NoMemory>
     ensures room { OnOk result (number < vec_len answers.new) }
-    ensures same { (other : ℕ) → answer_of answers.new.items other ≡ answer_of answers.old.items other }
+    ensures same { (other : ℕ)
+        → answer_of answers.new.items other ≡ answer_of answers.old.items other }
 {
     while answers.len() <= number {
         answers.push(None)?;

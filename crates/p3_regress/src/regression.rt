@@ -86,8 +86,10 @@ impl<'e> Regressed<'e> {
     /// that has this one's atoms.
     pub fn form(&mut self, alloc: Global, form: &Form) -> Result<Form, NoMemory>
         ensures truth { IfOk result (λ before. IsTrueBefore self.old.effects form.now before) }
-        ensures untouched { IsUntouched self.old.effects form.now → IfOk result (λ before. before ≡ form.now) }
-        ensures size { IfOk result (λ before. nodes before ≤ nodes form.now + growth self.old.effects form.now) }
+        ensures untouched { IsUntouched self.old.effects form.now
+            → IfOk result (λ before. before ≡ form.now) }
+        ensures size { IfOk result (λ before.
+            nodes before ≤ nodes form.now + growth self.old.effects form.now) }
         ensures atoms { IfOk result (λ before. HasAtomsOfBoth self.old.effects form.now before) }
         // Nodes, effects and answers that are there stay.
         ensures extends { Extends self.old self.new }
@@ -114,8 +116,10 @@ impl<'e> Regressed<'e> {
 /// and what is made.
 pub fn regress(alloc: Global, form: &Form, effects: &Effects) -> Result<Form, NoMemory>
     ensures truth { IfOk result (λ before. IsTrueBefore effects.now form.now before) }
-    ensures untouched { IsUntouched effects.now form.now → IfOk result (λ before. before ≡ form.now) }
-    ensures size { IfOk result (λ before. nodes before ≤ nodes form.now + growth effects.now form.now) }
+    ensures untouched { IsUntouched effects.now form.now
+        → IfOk result (λ before. before ≡ form.now) }
+    ensures size { IfOk result (λ before.
+        nodes before ≤ nodes form.now + growth effects.now form.now) }
     ensures atoms { IfOk result (λ before. HasAtomsOfBoth effects.now form.now before) }
 {
     let mut regressed = Regressed::open(alloc, Table::new(alloc), effects)?;
@@ -208,7 +212,8 @@ fn all_before(
     requires rising { IsRising changes.now }
     requires right { IsRight (lent changes.now) memory.old }
     ensures goes_on { Continues (lent changes.now) memory.old memory.new }
-    ensures below { IfOk result (λ befores. All (λ before. before < length memory.new.table) befores) }
+    ensures below { IfOk result (λ befores.
+        All (λ before. before < length memory.new.table) befores) }
     ensures stand { IfOk result (λ befores. map (form_of memory.new.table) befores
         ≡ map (made.regressed (lent changes.now)) (map (form_of memory.old.table) numbers.now)) }
 {

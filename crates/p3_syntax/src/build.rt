@@ -40,7 +40,8 @@ fn is_done(building: &Building) -> bool
 #[tactic(auto, using(crate::proofs::BuildLemmas::reversed_length))]
 fn opened(limit: usize, building: Building, at: u32) -> Result<Option<Building>, NoMemory>
     requires few { length building.nodes.items ≤ 268435456 }
-    ensures { IfOk result (λ next. option_map the_built next ≡ opened limit at (the_built building)) }
+    ensures { IfOk result (λ next.
+        option_map the_built next ≡ opened limit at (the_built building)) }
 {
     let Building {
         mut nodes,
@@ -91,7 +92,9 @@ fn with_token(
 ) -> Result<Option<Building>, NoMemory>
     requires few { length building.nodes.items ≤ 268435456 }
     requires short { length text.now ≤ 268435456 }
-    ensures { IfOk result (λ next. option_map the_built next ≡ with_token limit (the_built building) (token_of offset text.now)) }
+    ensures { IfOk result (λ next.
+        option_map the_built next
+        ≡ with_token limit (the_built building) (token_of offset text.now)) }
 {
     if is_done(&building) {
         Ok(None)
@@ -113,7 +116,9 @@ pub(crate) fn build(
     room: usize,
 ) -> Result<Option<Vec<Node>>, NoMemory>
     requires { length text.now ≤ 268435456 }
-    ensures { IfOk result (λ found. option_map (λ nodes. expressions_in text.now nodes.items) found ≡ option_map (λ e. e ∷ []) (expression_of_text limit text.now)) }
+    ensures { IfOk result (λ found.
+        option_map (λ nodes. expressions_in text.now nodes.items) found
+        ≡ option_map (λ e. e ∷ []) (expression_of_text limit text.now)) }
 {
     let mut building = Building {
         nodes: Vec::with_capacity(alloc, room)?,

@@ -176,7 +176,8 @@ fn head_shown(around: Around, head: TextWord<'_>, least: Option<Found>) -> Optio
 /// An increase of something else than the total cost.
 fn other_increase(is_increase: bool, behind: Parts<'_, '_>, least: Option<Found>) -> Option<Found>
     ensures { result
-        ≡ least_with least (if is_increase then other_increase (expressions_of behind.entry) else []) }
+        ≡ least_with least
+        (if is_increase then other_increase (expressions_of behind.entry) else []) }
 {
     if !is_increase {
         return least;
@@ -275,7 +276,8 @@ fn place_shown(
 ) -> Option<Found>
     requires short { length head.text.now < 4294967296 }
     ensures { result
-        ≡ least_with least (place_shown around (the_word head.entry) (expressions_of behind.entry)) }
+        ≡ least_with least
+        (place_shown around (the_word head.entry) (expressions_of behind.entry)) }
 {
     let text = head.text;
     let is_timed = is(text, b"at") && around.is_right_in_init && second_is_number(behind);

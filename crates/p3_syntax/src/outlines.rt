@@ -33,9 +33,12 @@ pub fn outline<'a>(alloc: Global, role: Role, text: &'a [u8]) -> Result<Outline<
     requires of_a_task { role ≢ Plan }
     requires short { length text.now ≤ 268435456 }
     ensures outline { IfOk result (λ outline. IsOutline role text.now outline) }
-    ensures refused { IfErr result (λ fail. IfRefused fail (λ refusal. outline_refusal role text.now ≡ Some refusal)) }
+    ensures refused { IfErr result (λ fail.
+        IfRefused fail (λ refusal. outline_refusal role text.now ≡ Some refusal)) }
     // It is the first refusal that the text shows by itself.
-    ensures first { IfErr result (λ fail. IfRefused fail (λ refusal. text_refusal (side_of role) (half_of role) text.now ≡ Some refusal)) }
+    ensures first { IfErr result (λ fail.
+        IfRefused fail (λ refusal.
+        text_refusal (side_of role) (half_of role) text.now ≡ Some refusal)) }
 {
     let limit = level_limit(role);
     let (refusal, count) = first_refusal(role, limit, text);

@@ -82,8 +82,11 @@ fn split(nodes: &[Node], count: usize) -> (&[Node], &[Node])
 
 /// The first node with those below it, and the others.
 fn first_view<'o, 'a>(text: &'a [u8], nodes: &'o [Node]) -> Option<(View<'o, 'a>, &'o [Node])>
-    ensures parts { MatchOption result (expressions_in text.now nodes.now ≡ []) (λ found. expressions_in text.now nodes.now ≡ expression_of found.0 ∷ expressions_in text.now found.1.now) }
-    ensures less { IfSome result (λ found. length found.0.below.now + length found.1.now + 1 ≡ length nodes.now) }
+    ensures parts { MatchOption result (expressions_in text.now nodes.now ≡ []) (λ found.
+        expressions_in text.now nodes.now
+        ≡ expression_of found.0 ∷ expressions_in text.now found.1.now) }
+    ensures less { IfSome result (λ found.
+        length found.0.below.now + length found.1.now + 1 ≡ length nodes.now) }
     ensures source { IfSome result (λ found. found.0.text.now ≡ text.now) }
 {
     match nodes {
@@ -100,8 +103,10 @@ impl<'o, 'a> Parts<'o, 'a> {
     /// The next element; None where none is left.
     #[expect(clippy::should_implement_trait)]
     pub fn next(&mut self) -> Option<View<'o, 'a>>
-        ensures parts { MatchOption result (expressions_of self.old ≡ []) (λ view. expressions_of self.old ≡ expression_of view ∷ expressions_of self.new) }
-        ensures less { IfSome result (λ view. length view.below.now + length self.new.nodes.now + 1 ≡ length self.old.nodes.now) }
+        ensures parts { MatchOption result (expressions_of self.old ≡ []) (λ view.
+            expressions_of self.old ≡ expression_of view ∷ expressions_of self.new) }
+        ensures less { IfSome result (λ view.
+            length view.below.now + length self.new.nodes.now + 1 ≡ length self.old.nodes.now) }
         // A view shows the same text.
         ensures source { IfSome result (λ view. view.text.now ≡ self.old.text.now) }
         ensures rest { self.new.text.now ≡ self.old.text.now }
@@ -142,9 +147,12 @@ impl<'o, 'a> View<'o, 'a> {
 
     /// The word as it stands in the text; None where the view is a list.
     pub fn word(&self) -> Option<&'a [u8]>
-        ensures word { MatchOption result (IsList (expression_of self.now)) (λ word. IsWordOf (expression_of self.now) word.now) }
+        ensures word { MatchOption result (IsList (expression_of self.now)) (λ word.
+            IsWordOf (expression_of self.now) word.now) }
         // It is a slice of the text, at the view's offset.
-        ensures slice { IfSome result (λ word. word.now ≡ slice_of self.now.text.now (offset_of (expression_of self.now)) (length word.now)) }
+        ensures slice { IfSome result (λ word.
+            word.now ≡ slice_of self.now.text.now (offset_of (expression_of self.now))
+            (length word.now)) }
         ensures short { IfSome result (λ word. length word.now < 4294967296) }
     {
         match self.node {

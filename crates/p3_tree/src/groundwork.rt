@@ -34,7 +34,8 @@ pub fn effects_are_their_literals()
 /// A constraint is satisfied where all its operators are.
 pub fn constraints_are_their_operators()
     ensures { (T : Task) (W : List State) (env : Environment) (c : Constraint)
-        → sat T W env c ≡ list_all (λ (h : HardModal). satisfies T W h.env h.modal) (operators T env c) }
+        → sat T W env c
+        ≡ list_all (λ (h : HardModal). satisfies T W h.env h.modal) (operators T env c) }
 {}
 
 /// Where a formula or a hard goal holds, so does each atom that `and` alone joins in it.

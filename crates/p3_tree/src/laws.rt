@@ -44,12 +44,16 @@ pub fn one_task_at_most()
 /// The order of types is the reflexive and transitive closure of the declared pairs, with `object`
 /// above every type.
 pub fn below_is_the_closure()
-    ensures { (T : Task) (low high : Name) → IsTrue (below T low high) ↔ ((high ≡ object_type) ⊎ Chain (declared_pairs T) low high) }
+    ensures { (T : Task) (low high : Name) → IsTrue (below T low high)
+        ↔ ((high ≡ object_type) ⊎ Chain (declared_pairs T) low high) }
 {}
 
 /// An atom is in the next state exactly where it is added, or was there and is not deleted.
 pub fn atoms_of_the_next_state()
-    ensures { (T : Task) (s : State) (env : Environment) (e : Effect) (fact : Fact) → has_fact (next T s env e) fact ≡ (has_fact (adds T s env e) fact || (has_fact s fact && not (has_fact (dels T s env e) fact))) }
+    ensures { (T : Task) (s : State) (env : Environment) (e : Effect) (fact : Fact)
+        → has_fact (next T s env e) fact
+        ≡ (has_fact (adds T s env e) fact ||
+        (has_fact s fact && not (has_fact (dels T s env e) fact))) }
 {}
 
 /// A task is well-formed exactly where it has no first offence.
@@ -64,14 +68,19 @@ pub fn valid_where_no_fault()
 
 /// The decimal places of a metric are the same at all counts and costs.
 pub fn places_of_a_metric_are_fixed()
-    ensures { (T : Task) (counts : Name → ℕ) (total : ℕ) → (metric_quantity T counts total).places ≡ metric_places T }
+    ensures { (T : Task) (counts : Name → ℕ) (total : ℕ)
+        → (metric_quantity T counts total).places ≡ metric_places T }
 {}
 
 /// A preference under `forall` counts once for each binding that leaves it unsatisfied, and one whose
 /// body is a `forall` counts once.
 pub fn counts_by_place()
-    ensures states { (T : Task) (s : State) (env : Environment) (variables : List Typed) (at : ℕ) (name : Ref) (body : Formula) → StateCounts T s env variables at name body }
-    ensures trajectories { (T : Task) (W : List State) (env : Environment) (variables : List Typed) (at : ℕ) (name : Ref) (body : Constraint) → TrajectoryCounts T W env variables at name body }
+    ensures states { (T : Task) (s : State) (env : Environment) (variables : List Typed) (at : ℕ)
+        (name : Ref)
+        (body : Formula) → StateCounts T s env variables at name body }
+    ensures trajectories { (T : Task) (W : List State) (env : Environment) (variables : List Typed)
+        (at : ℕ)
+        (name : Ref) (body : Constraint) → TrajectoryCounts T W env variables at name body }
 {}
 
 /// The cheapest plans of a faithful translation lift to best plans.
@@ -110,7 +119,8 @@ pub fn worked_cases()
 
 /// What a command reads shows one first refusal at most.
 pub fn one_first_refusal()
-    ensures { (given : Given) (r s : Refusal) → IsFirstRefusal given r → IsFirstRefusal given s → r ≡ s }
+    ensures { (given : Given) (r s : Refusal) → IsFirstRefusal given r → IsFirstRefusal given s
+        → r ≡ s }
 {}
 
 /// Nothing is refused of accepted texts.

@@ -106,7 +106,8 @@ fn forgo(alloc: Global) -> Result<TargetAction, NoMemory>
 }
 
 fn example_predicates(alloc: Global) -> Result<List<Name>, NoMemory>
-    ensures { IfOk result (λ names. names ≡ codes "f0" ∷ codes "go" ∷ codes "e0" ∷ codes "e1" ∷ []) }
+    ensures { IfOk result (λ names.
+        names ≡ codes "f0" ∷ codes "go" ∷ codes "e0" ∷ codes "e1" ∷ []) }
 {
     let mut names = List::new(alloc);
     names.push(Name::of(alloc, b"f0")?)?;
@@ -118,7 +119,9 @@ fn example_predicates(alloc: Global) -> Result<List<Name>, NoMemory>
 
 fn example_actions(alloc: Global) -> Result<List<TargetAction>, NoMemory>
     ensures sized { IfOk result (λ actions. IsTrue (list_all (is_sized_action 4) actions)) }
-    ensures names { IfOk result (λ actions. map (λ action. action.name) actions ≡ codes "s0v" ∷ codes "finish" ∷ codes "collect0" ∷ codes "forgo0" ∷ []) }
+    ensures names { IfOk result (λ actions.
+        map (λ action. action.name) actions
+        ≡ codes "s0v" ∷ codes "finish" ∷ codes "collect0" ∷ codes "forgo0" ∷ []) }
 {
     let mut actions = List::new(alloc);
     actions.push(step(alloc)?)?;
@@ -274,7 +277,8 @@ fn a_deep_goal_is_written(rt: HostRuntime) -> Result<(), Fail> {
 /// So many actions, all alike: the writer does not ask that names differ.
 fn alike(alloc: Global, count: u32) -> Result<List<TargetAction>, NoMemory>
     ensures sized { IfOk result (λ actions. IsTrue (list_all (is_sized_action 2) actions)) }
-    ensures names { IfOk result (λ actions. IsTrue (list_all is_name (map (λ action. action.name) actions))) }
+    ensures names { IfOk result (λ actions.
+        IsTrue (list_all is_name (map (λ action. action.name) actions))) }
     ensures spelled { IfOk result (λ actions. AreSpelled (map (λ action. action.name) actions)) }
 {
     let mut actions = List::new(alloc);

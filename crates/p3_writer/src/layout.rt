@@ -106,7 +106,8 @@ fn push_form(out: &mut Vec<u8>, names: &[Name], form: &Form) -> Result<(), NoMem
 #[cycle(forms)]
 fn push_negated(out: &mut Vec<u8>, names: &[Name], part: &Form) -> Result<(), NoMemory>
     requires { IsBelow (length names.now) part.now }
-    ensures { OnOk result (out.new.items ≡ out.old.items ++ negated_text (form_text names.now part.now)) }
+    ensures { OnOk result
+        (out.new.items ≡ out.old.items ++ negated_text (form_text names.now part.now)) }
 {
     push(out, "(not ")?;
     push_form(out, names, part)?;
@@ -122,7 +123,8 @@ fn push_joined(
     parts: &[Form],
 ) -> Result<(), NoMemory>
     requires { AreBelow (length names.now) parts.now }
-    ensures { OnOk result (out.new.items ≡ out.old.items ++ joined_text names.now head.now parts.now) }
+    ensures { OnOk result
+        (out.new.items ≡ out.old.items ++ joined_text names.now head.now parts.now) }
 {
     push(out, head)?;
     for part in parts {
@@ -199,7 +201,8 @@ fn push_action(
     action: &TargetAction,
 ) -> Result<(), NoMemory>
     requires { IsTrue (is_sized_action (length names.now) action.now) }
-    ensures layout { OnOk result (out.new.items ≡ out.old.items ++ action_text names.now action.now) }
+    ensures layout { OnOk result
+        (out.new.items ≡ out.old.items ++ action_text names.now action.now) }
     ensures small { OnOk result (action.now.cost < 2 ^ 64) }
 {
     push_action_head(out, &action.name)?;
@@ -224,7 +227,8 @@ fn push_effect(
     action: &TargetAction,
 ) -> Result<(), NoMemory>
     requires { IsTrue (is_sized_action (length names.now) action.now) }
-    ensures layout { OnOk result (out.new.items ≡ out.old.items ++ effect_text names.now action.now) }
+    ensures layout { OnOk result
+        (out.new.items ≡ out.old.items ++ effect_text names.now action.now) }
     ensures small { OnOk result (action.now.cost < 2 ^ 64) }
 {
     push(out, "(and")?;
@@ -240,7 +244,8 @@ fn push_actions(
     actions: &[TargetAction],
 ) -> Result<(), NoMemory>
     requires { IsTrue (list_all (is_sized_action (length names.now)) actions.now) }
-    ensures layout { OnOk result (out.new.items ≡ out.old.items ++ actions_text names.now actions.now) }
+    ensures layout { OnOk result
+        (out.new.items ≡ out.old.items ++ actions_text names.now actions.now) }
     ensures small { OnOk result (IsTrue (list_all is_small actions.now)) }
 {
     for action in actions {

@@ -66,7 +66,8 @@ fn constraints(
     may_be_soft: bool,
     parts: Parts<'_, '_>,
 ) -> Result<List<Constraint>, Fault>
-    ensures { Gives (λ trees. trees) result (each_at (constraint_at may_be_soft) (expressions_of parts.entry)) }
+    ensures { Gives (λ trees. trees) result
+        (each_at (constraint_at may_be_soft) (expressions_of parts.entry)) }
 {
     let mut left = parts;
     let mut found = List::new(alloc);
@@ -116,7 +117,8 @@ fn constraint_by(
     word: TextWord<'_>,
     behind: Parts<'_, '_>,
 ) -> Result<Constraint, Fault>
-    ensures { Gives (λ tree. tree) result (constraint_by may_be_soft view.entry word.entry behind.entry) }
+    ensures { Gives (λ tree. tree) result
+        (constraint_by may_be_soft view.entry word.entry behind.entry) }
 {
     if may_be_soft && is(word.text, b"preference") {
         preference_form(alloc, word, behind)

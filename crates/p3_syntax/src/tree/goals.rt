@@ -30,7 +30,8 @@ pub struct NamedBody<'o, 'a> {
 /// What is preferred, behind its name where it has one.
 pub fn named<'o, 'a>(alloc: Global, mut parts: Parts<'o, 'a>) -> Result<NamedBody<'o, 'a>, Fault>
     ensures named { Gives the_named result (preferred Some (expressions_of parts.entry)) }
-    ensures less { IfOk result (λ found. length found.body.below.now < length parts.entry.nodes.now) }
+    ensures less { IfOk result (λ found.
+        length found.body.below.now < length parts.entry.nodes.now) }
 {
     let Some(first) = parts.next() else {
         return Err(Fault::Malformed);

@@ -111,8 +111,10 @@ impl<'o, 'a> Groups<'o, 'a> {
 
     /// The next item of the group; None where none of it is left.
     fn next_of_group(&mut self) -> Option<TypedItem<'o, 'a>>
-        ensures next { IfSome result (λ item. groups_left self.old ≡ item_before (the_item item) (groups_left self.new)) }
-        ensures end { result ≡ None → groups_left self.old ≡ all_grouped (expressions_of self.old.behind) }
+        ensures next { IfSome result (λ item.
+            groups_left self.old ≡ item_before (the_item item) (groups_left self.new)) }
+        ensures end { result ≡ None
+            → groups_left self.old ≡ all_grouped (expressions_of self.old.behind) }
         ensures behind { self.new.behind ≡ self.old.behind }
         ensures less { IfSome result (λ item. self.new.count < self.old.count) }
     {
@@ -128,7 +130,8 @@ impl<'o, 'a> Groups<'o, 'a> {
     /// The first item of the next group.
     fn next_group(&mut self) -> Result<Option<TypedItem<'o, 'a>>, Fault>
         ensures items { GivesNext result (all_grouped (expressions_of self.old.behind)) self.new }
-        ensures less { IfFound result (λ item. groups_size self.new < length self.old.behind.nodes.now) }
+        ensures less { IfFound result (λ item.
+            groups_size self.new < length self.old.behind.nodes.now) }
     {
         let Some((item, groups)) = first_item(self.behind)? else {
             return Ok(None);

@@ -110,7 +110,8 @@ pub fn types(alloc: Global, view: View<'_, '_>) -> Result<List<Ref>, Fault>
 
 /// A variable with its types.
 fn typed_variable(alloc: Global, typed: TypedItem<'_, '_>) -> Result<Typed, Fault>
-    ensures { Gives (λ typed. typed) result (typed_at variable_place type_place (the_item typed.entry)) }
+    ensures { Gives (λ typed. typed) result
+        (typed_at variable_place type_place (the_item typed.entry)) }
 {
     let name = variable(alloc, typed.item)?;
     let types = match typed.kind {
@@ -142,7 +143,8 @@ pub fn variables(alloc: Global, view: View<'_, '_>) -> Result<List<Typed>, Fault
 
 /// An object with its type.
 fn typed_object(alloc: Global, typed: TypedItem<'_, '_>) -> Result<Typed, Fault>
-    ensures { Gives (λ typed. typed) result (typed_at name_place one_type_place (the_item typed.entry)) }
+    ensures { Gives (λ typed. typed) result
+        (typed_at name_place one_type_place (the_item typed.entry)) }
 {
     let name = name(alloc, typed.item)?;
     let types = match typed.kind {

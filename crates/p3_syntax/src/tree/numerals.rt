@@ -20,7 +20,8 @@ use p3_tree::Numeral;
 /// The bytes before the first point, and those behind it where there is one.
 fn at_point(word: &[u8]) -> (&[u8], Option<&[u8]>)
     ensures before { (at_point word.now).0 ≡ result.0.now }
-    ensures behind { MatchOption result.1 ((at_point word.now).1 ≡ None) (λ behind. (at_point word.now).1 ≡ Some behind.now) }
+    ensures behind { MatchOption result.1 ((at_point word.now).1 ≡ None) (λ behind.
+        (at_point word.now).1 ≡ Some behind.now) }
 {
     for (index, byte) in word.iter().enumerate() {
         if *byte == b'.' {
@@ -56,7 +57,8 @@ struct Decimal<'a> {
 
 /// The digits of a word that is a number.
 fn digits_of(word: &[u8]) -> Option<Decimal<'_>>
-    ensures { MatchOption result (is_decimal word.now ≡ false) (λ decimal. IsDecimalOf decimal word.now) }
+    ensures { MatchOption result (is_decimal word.now ≡ false) (λ decimal.
+        IsDecimalOf decimal word.now) }
 {
     let (whole, places) = at_point(word);
     if !are_digits(whole) {
@@ -79,7 +81,8 @@ fn with_digit(value: u64, digit: u8) -> Option<u64>
 
 /// A number with more digits behind it, where it fits.
 fn with_digits(start: u64, digits: &[u8]) -> Option<u64>
-    ensures { SomeIff result (fold with_digit start digits.now < 2 ^ 64) (fold with_digit start digits.now) }
+    ensures { SomeIff result (fold with_digit start digits.now < 2 ^ 64)
+        (fold with_digit start digits.now) }
 {
     let mut value = start;
     for digit in digits {
@@ -104,7 +107,8 @@ fn value_of(decimal: Decimal<'_>) -> Option<u64>
 
 /// A number of these digits, where there is room for it.
 fn numeral_of(text: &[u8], at: u32, decimal: Decimal<'_>) -> Option<Numeral>
-    ensures { SomeIff result (HasRoomFor text.now decimal.entry) (numeral_with text.now at decimal.entry) }
+    ensures { SomeIff result (HasRoomFor text.now decimal.entry)
+        (numeral_with text.now at decimal.entry) }
 {
     Some(Numeral {
         at,
@@ -116,8 +120,10 @@ fn numeral_of(text: &[u8], at: u32, decimal: Decimal<'_>) -> Option<Numeral>
 
 /// The number that a word is.
 fn numeral_word(text: &[u8], at: u32) -> Result<Numeral, Fault>
-    ensures numeral { Gives (λ numeral. numeral) result (numeral_place (Word at (str_to_ascii_lowercase text.now))) }
-    ensures room { HasRoom (str_to_ascii_lowercase text.now) → IfErr result (λ fault. fault ≡ Malformed) }
+    ensures numeral { Gives (λ numeral. numeral) result
+        (numeral_place (Word at (str_to_ascii_lowercase text.now))) }
+    ensures room { HasRoom (str_to_ascii_lowercase text.now)
+        → IfErr result (λ fault. fault ≡ Malformed) }
 {
     let Some(decimal) = digits_of(text) else {
         return Err(Fault::Malformed);
@@ -132,7 +138,8 @@ fn numeral_word(text: &[u8], at: u32) -> Result<Numeral, Fault>
 pub fn numeral(view: View<'_, '_>) -> Result<Numeral, Fault>
     ensures numeral { Gives (λ numeral. numeral) result (numeral_place (expression_of view.entry)) }
     // Every other number is read.
-    ensures room { HasRoomAt (expression_of view.entry) → IfErr result (λ fault. fault ≡ Malformed) }
+    ensures room { HasRoomAt (expression_of view.entry)
+        → IfErr result (λ fault. fault ≡ Malformed) }
 {
     match view.word() {
         Some(text) => numeral_word(text, view.offset()),

@@ -61,7 +61,8 @@ pub struct HeadedParts<'o, 'a> {
 /// The word at the head, and what stands behind it.
 pub fn headed<'o, 'a>(parts: Parts<'o, 'a>) -> Result<HeadedParts<'o, 'a>, Fault>
     ensures headed { Gives the_head result (headed (λ e. e) (expressions_of parts.entry)) }
-    ensures less { IfOk result (λ list. length list.behind.nodes.now < length parts.entry.nodes.now) }
+    ensures less { IfOk result (λ list.
+        length list.behind.nodes.now < length parts.entry.nodes.now) }
 {
     let mut behind = parts;
     let Some(first) = behind.next() else {
