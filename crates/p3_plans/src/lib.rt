@@ -8,6 +8,7 @@ mod cases;
 mod draft;
 mod error;
 mod laws;
+mod offence;
 mod read;
 mod reader;
 mod write;
@@ -16,6 +17,7 @@ pub use error::PlanFail;
 pub use laws::{
     a_plan_where_no_offence, one_plan_at_most, slices_are_texts_of_steps, steps_before_offences,
 };
+pub use offence::first_plan_offence;
 pub use read::read_plan;
 pub use reader::{NextStep, PlanReader, PlanStep};
 pub use write::write_plan;

@@ -1,0 +1,22 @@
+//! The first offence of a plan text, by itself.
+
+ghost use Rattle.std.specs.Prelude.{◌≡◌, ◌≤◌, length};
+ghost use Rattle.p3_tree.specs.PlanTexts.{plan_offence};
+
+use crate::reader::{NextStep, PlanReader};
+use p3_base::Refusal;
+
+/// The first offence of a plan text, where it has one. It takes no memory.
+pub fn first_plan_offence(text: &[u8]) -> Option<Refusal>
+    requires short { length text.now ≤ 16777216 }
+    ensures { result ≡ plan_offence text.now }
+{
+    let mut reader = PlanReader::new(text);
+    loop {
+        match reader.next() {
+            NextStep::Step(_) => {}
+            NextStep::End => return None,
+            NextStep::Bad(refusal) => return Some(refusal),
+        }
+    }
+}
