@@ -1,0 +1,10 @@
+//! A run of a ground task, step by step, which judges a plan.
+#![tactic(auto)]
+
+mod answers;
+mod groups;
+mod readers;
+mod stages;
+mod tallies;
+
+pub use answers::{Stepped, Verdict};
