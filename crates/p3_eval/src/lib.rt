@@ -1,5 +1,5 @@
 //! Whole tasks: a checked task with the ground task that stands for it and the weights of its
-//! metric, of which nothing is refused.
+//! metric, of which nothing is refused; and runs of them, which judge plans.
 #![tactic(auto)]
 
 mod error;
@@ -8,5 +8,8 @@ mod parts;
 mod whole;
 
 pub use error::WholeFail;
-pub use laws::accepted_tasks_can_be_compiled;
+pub use laws::{
+    accepted_tasks_can_be_compiled, accepted_tasks_can_be_run, runs_tell_costs_and_values,
+    runs_tell_the_first_fault,
+};
 pub use whole::Whole;
