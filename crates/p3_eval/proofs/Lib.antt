@@ -6,3 +6,6 @@ pub mod SizeLaws
 pub mod BaseLaws
 pub mod RunReady
 pub mod RunLaws
+pub mod RunKept
+pub mod JudgeLaws
+pub mod WholeRuns

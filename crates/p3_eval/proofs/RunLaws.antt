@@ -14,7 +14,7 @@ use Rattle.p3_tree.specs.Goals.{hard_holds}
 use Rattle.p3_tree.specs.Costs.{initial_cost}
 use Rattle.p3_tree.specs.Metrics.{cost, direction, loss, loss_at, metric_quantity, signed, value, violated}
 use Rattle.p3_tree.specs.Plans.{Plan, arguments, action_named, cost_by, fits, fits_by, last_state, moves_from, state_after, step_cost, steps_fit, visited}
-use Rattle.p3_tree.specs.Constraints.{HardModal, hard_list, satisfies}
+use Rattle.p3_tree.specs.Constraints.{hard_list}
 use Rattle.p3_tree.specs.StepNumbers.{HasNumber, HasStepNumbers}
 use Rattle.p3_tree.specs.Validity.{Misfit, Fault, AtStep, AtGoal, AtConstraint, Arguments, Precondition, NoCost, constraint_fault, fault_at, first_fault, goal_fault, goal_holds, is_met, misfit, misfit_by, step_fault}
 use Rattle.p3_tree.specs.declared.state.Fact.{Fact}
@@ -24,7 +24,6 @@ use Rattle.p3_tree.specs.declared.task.Task.{Task}
 use Rattle.p3_formula.specs.Forms.{State, truth}
 use Rattle.p3_formula.specs.GroundSat.{ground_sat}
 use Rattle.p3_formula.specs.GroundPlans.{GroundPlan, ground_cost, ground_loss, ground_fits, ground_visited, state_by, step_of, visited_from}
-use Rattle.p3_formula.specs.declared.modal.GroundModal.{GroundModal}
 use Rattle.p3_formula.specs.declared.target.Weights.{Weights}
 use Rattle.p3_formula.specs.declared.task.GroundStep.{GroundStep}
 use Rattle.p3_formula.specs.declared.task.GroundTask.{GroundTask}

@@ -1,5 +1,5 @@
 -- An accepted task has what is asked of a ground task before it is run.
-use Rattle.std.proofs.Common.{◌≡◌, ◌∙◌, ℕ, ◌+◌, ◌<◌, ◌≤◌, ◌^◌, refl, sym, ap, true, List, [], ◌∷◌, get_or, length, Option, None, Some, arith}
+use Rattle.std.proofs.Common.{◌≡◌, ◌∙◌, ℕ, ◌<◌, ◌≤◌, ◌^◌, refl, sym, ap, true, List, [], ◌∷◌, get_or, length, Option, None, Some, arith}
 use Rattle.std.specs.Prelude.{IfSome, IsTrue}
 use Rattle.std.proofs.lemmas.Bool.{and_parts}
 use Rattle.std.proofs.lemmas.List.Folds.{list_all-append}
@@ -8,7 +8,6 @@ use Rattle.std.specs.Int.RustNames.{unsigned_abs}
 use Rattle.std.specs.List.{list_all}
 use Rattle.p3_base.specs.declared.refusal.Side.{Side}
 use Rattle.p3_base.specs.declared.refusal.Side.TheVariants.{Source, Written}
-use Rattle.p3_tree.specs.Costs.{amount_numerals, initial_cost, value_numerals}
 use Rattle.p3_tree.specs.Metrics.{prefs_by, step_prefs}
 use Rattle.p3_tree.specs.Names.{same_name}
 use Rattle.p3_tree.specs.Offences.{WellFormed}
@@ -17,7 +16,7 @@ use Rattle.p3_tree.specs.Refusals.First.{task_refusal}
 use Rattle.p3_tree.specs.Refusals.Metric.{metric_refusals}
 use Rattle.p3_tree.specs.Refusals.Places.{first_some}
 use Rattle.p3_tree.specs.Sides.{size_limit}
-use Rattle.p3_tree.specs.StepNumbers.{HasStepNumbers, IsOwn}
+use Rattle.p3_tree.specs.StepNumbers.{IsOwn}
 use Rattle.p3_tree.specs.declared.state.Fact.{Fact}
 use Rattle.p3_tree.specs.declared.task.Action.{Action}
 use Rattle.p3_tree.specs.declared.task.Task.{Task}
@@ -29,7 +28,7 @@ use Rattle.p3_formula.specs.declared.task.GroundTask.{GroundTask}
 use Rattle.p3_types.specs.Texts.{has_short_numbers, is_short, metric_numerals}
 use Rattle.p3_ground.specs.StandsFor.{PrefStands, StandsBy, StandsFor, StepStands}
 use Rattle.p3_metric.specs.Refused.{dear_amount_of, dear_value_of, early_refusals, large_of, nonlinear_of, too_many_places_of}
-use Rattle.p3_metric.specs.Weighed.{HasWeights, IsLinearMetric, IsWeights}
+use Rattle.p3_metric.specs.Weighed.{HasWeights, IsWeights}
 use Rattle.p3_metric.proofs.AcceptedLaws.{linear_where_accepted}
 use Rattle.p3_metric.proofs.CheapLemmas.{short_start}
 use Rattle.p3_metric.proofs.MentionLaws.{counts_names}

@@ -1,6 +1,6 @@
 -- The expanded sizes of an action bound its preferences and its increases; and short numbers bound what it costs.
-use Rattle.std.proofs.Common.{◌≡◌, ◌∙◌, ℕ, zero, suc, ◌+◌, ◌-◌, ◌*◌, ◌^◌, ◌<◌, ◌≤◌, max, refl, sym, ap, Bool, true, false, ◌&&◌, cond, List, [], ◌∷◌, ◌++◌, map, filter_map, fold, sum, sum_by, length, slice_get, Option, Some, None, arith, length-append}
-use Rattle.std.specs.Prelude.{flat_map, nat_le, nat_lt, unwrap_or}
+use Rattle.std.proofs.Common.{◌≡◌, ◌∙◌, ℕ, zero, suc, ◌+◌, ◌-◌, ◌*◌, ◌^◌, ◌<◌, ◌≤◌, max, sym, ap, Bool, true, false, cond, List, [], ◌∷◌, ◌++◌, map, filter_map, fold, sum, sum_by, length, slice_get, Some, None, arith, length-append}
+use Rattle.std.specs.Prelude.{flat_map, nat_lt, unwrap_or}
 use Rattle.std.specs.List.{cons_option, list_all}
 use Rattle.std.proofs.Math.Nat.{suc-mul, pow-le-pow_right, mul-le-mul_right}
 use Rattle.std.proofs.lemmas.Bool.{and_parts, leb-true, ltb-true}
@@ -14,7 +14,7 @@ use Rattle.p3_tree.specs.Bindings.{bind}
 use Rattle.p3_tree.specs.Costs.{amount_numeral, amount_numerals, cost_places, cost_units, increases, increases_layer, value_numeral, value_numerals}
 use Rattle.p3_tree.specs.Folds.{fold_effects, fold_goals}
 use Rattle.p3_tree.specs.Goals.{StatePref, prefs, prefs_layer}
-use Rattle.p3_tree.specs.Limits.{binding_count, effect_layer, effect_size, goal_layer, goal_size, greatest_amount, value_of_entry}
+use Rattle.p3_tree.specs.Limits.{effect_layer, effect_size, goal_layer, goal_size, greatest_amount, value_of_entry}
 use Rattle.p3_tree.specs.Names.{Name, same_name}
 use Rattle.p3_tree.specs.Sides.{digit_limit, place_limit, size_limit}
 use Rattle.p3_tree.proofs.OnceLemmas.{Some-injective}

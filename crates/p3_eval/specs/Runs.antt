@@ -1,6 +1,6 @@
 -- What a run of a ground task tells of the tasks that it is of.
 use Prim.{∥◌∥₁}
-use Rattle.std.specs.Prelude.{◌≡◌, ℕ, ◌+◌, true, List, ◌∷◌, ◌++◌, length, Option, Some, None, IsTrue}
+use Rattle.std.specs.Prelude.{◌≡◌, ℕ, ◌+◌, true, ◌∷◌, ◌++◌, length, Option, Some, None, IsTrue}
 use Rattle.p3_base.specs.declared.refusal.Side.{Side}
 use Rattle.p3_tree.specs.Offences.{WellFormed}
 use Rattle.p3_tree.specs.Plans.{Plan, last_state, visited}

@@ -3,13 +3,18 @@
 #![tactic(auto)]
 
 mod error;
+mod fault;
+mod judge;
 mod laws;
 mod parts;
+mod run;
 mod whole;
 
 pub use error::WholeFail;
+pub use fault::{FaultKind, PlanFault};
 pub use laws::{
     accepted_tasks_can_be_compiled, accepted_tasks_can_be_run, runs_tell_costs_and_values,
     runs_tell_the_first_fault,
 };
+pub use run::Run;
 pub use whole::Whole;

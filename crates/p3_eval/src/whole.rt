@@ -5,10 +5,13 @@ ghost use Rattle.p3_tree.specs.Refusals.First.{task_refusal};
 ghost use Rattle.p3_formula.specs.Conditions.{IsReady};
 ghost use Rattle.p3_ground.specs.Sparse.{IsGroundingOf};
 ghost use Rattle.p3_metric.specs.Weighed.{HasWeights, IsLinearMetric};
+ghost use Rattle.p3_run.specs.Runs.{begun};
 ghost use Rattle.p3_eval.specs.Accepted.{ArePartsOf, IsFailOf, is_accepted};
+ghost use Rattle.p3_eval.specs.Runs.{BelongTogether};
 
-use crate::WholeFail;
 use crate::parts::{Parts, parts_of};
+use crate::{Run, WholeFail};
+use p3_base::NoMemory;
 use p3_formula::{GroundTask, Weights};
 use p3_types::Checked;
 use std::alloc::Global;
@@ -90,5 +93,19 @@ impl Whole {
         ensures ready { IsReady self.now.ground_task self.now.weights }
     {
         &self.weights
+    }
+
+    /// The run of no step of the task, with the memory that it ever needs.
+    ///
+    /// # Errors
+    ///
+    /// Want of memory.
+    pub fn begin<'a>(&'a self, alloc: Global) -> Result<Run<'a>, NoMemory>
+        ensures task { BelongTogether
+            self.now.checked.task self.now.ground_task self.now.weights }
+        ensures begun { IfOk result
+            (λ run. run ≡ begun self.now.ground_task self.now.weights) }
+    {
+        Run::open(alloc, &self.ground_task, &self.weights)
     }
 }
