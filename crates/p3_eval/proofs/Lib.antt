@@ -9,3 +9,4 @@ pub mod RunLaws
 pub mod RunKept
 pub mod JudgeLaws
 pub mod WholeRuns
+pub mod StepCounts

@@ -53,7 +53,7 @@ stages side T well =
 
 -- ---- where nothing is refused
 
-unmapped : {A B : Type 0} (f : A → B) (o : Option A) → option_map f o ≡ None → o ≡ None
+pub unmapped : {A B : Type 0} (f : A → B) (o : Option A) → option_map f o ≡ None → o ≡ None
 unmapped f None e = refl
 unmapped f (Some x) e = absurd (cc)
 
@@ -105,7 +105,7 @@ module _ (side : Side) (T : Task) (well : WellFormed T) (none : task_refusal sid
   pub no_metric : first_some (metric_refusals side T) ≡ None
   no_metric = (none_of_both (metric_refusals side T) (size_refusals side T) parts.0).0
 
-  no_size : first_some (size_refusals side T) ≡ None
+  pub no_size : first_some (size_refusals side T) ≡ None
   no_size = (none_of_both (metric_refusals side T) (size_refusals side T) parts.0).1
 
   pub few_instances : length (instances T) ≤ instance_limit

@@ -1,5 +1,5 @@
 -- Faults as values of the code, and what judging one step more tells of a plan.
-use Rattle.std.specs.Prelude.{◌≡◌, ℕ, ◌<◌, ◌∷◌, ◌++◌, Option, Some, None}
+use Rattle.std.specs.Prelude.{◌≡◌, ℕ, ◌<◌, ◌∷◌, ◌++◌, Option, Some, None, option_map}
 use Rattle.p3_tree.specs.Plans.{Plan, last_state, visited}
 use Rattle.p3_tree.specs.Validity as why
 use Rattle.p3_tree.specs.Validity.{AtConstraint, AtGoal, AtStep, Fault, first_fault, misfit}
@@ -9,6 +9,7 @@ use Rattle.p3_formula.specs.declared.task.GroundTask.{GroundTask}
 use Rattle.p3_types.specs.Finds.{IsFound}
 use Rattle.p3_types.specs.declared.finding.Found.{Found}
 use Rattle.p3_types.specs.declared.finding.Found.TheVariants.{Number, UnknownAction, Arguments}
+use Rattle.p3_ground.specs.PlansByNumber.{AreNumbers}
 use Rattle.p3_run.specs.Runs.{Ran, ran_after}
 use Rattle.p3_run.specs.declared.answers.Stepped.{Stepped}
 use Rattle.p3_run.specs.declared.answers.Stepped.TheVariants.{Done, Precondition, NoCost}
@@ -58,3 +59,16 @@ ran_with ran (Number number) None = ran_after ran number Done
 ran_with ran (Number number) (Some fault) = ran
 ran_with ran UnknownAction fault = ran
 ran_with ran Arguments fault = ran
+
+-- ---- a whole plan
+
+-- a run of the same parts that has done these steps
+pub record HasDone (T : Task) (plan : Plan) (before now : Ran) : Type 0 where
+  pub task : now.task ≡ before.task
+  pub weights : now.weights ≡ before.weights
+  pub numbers : AreNumbers T plan now.plan
+
+-- the first fault of the plan; and where it has none, all its steps are done
+pub record IsJudged (T : Task) (plan : Plan) (before now : Ran) (found : Option PlanFault) : Type 0 where
+  pub fault : first_fault T plan ≡ option_map fault_in found
+  pub done : found ≡ None → HasDone T plan before now

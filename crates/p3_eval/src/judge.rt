@@ -1,20 +1,22 @@
 //! Plans judged step by step, as what each step is found.
 
-ghost use Rattle.std.specs.Prelude.{◌≡◌, ◌<◌, length, option_map};
+ghost use Rattle.std.specs.Prelude.{◌≡◌, ◌<◌, ◌≤◌, [], length, option_map};
 ghost use Rattle.p3_tree.specs.Validity.{first_fault};
 ghost use Rattle.p3_run.specs.Runs.{most_steps};
 ghost use Rattle.p3_eval.specs.Judged.{
+  IsJudged,
   IsKnown,
   TellsOfFound,
   fault_in,
   fault_of_step,
   ran_with,
 };
-ghost use Rattle.p3_eval.specs.Runs.{OfItsPlan};
+ghost use Rattle.p3_eval.specs.Runs.{BelongTogether, OfItsPlan};
 
 use crate::{FaultKind, PlanFault, Run};
 use p3_run::{Stepped, Verdict};
-use p3_types::Found;
+use p3_tree::Step;
+use p3_types::{Checked, Found};
 
 /// The fault of a step that was tried, if it has one.
 fn fault_of(step: u32, stepped: Stepped) -> Option<PlanFault>
@@ -71,5 +73,21 @@ impl<'a> Run<'a> {
                 kind: FaultKind::Unmet(place),
             }),
         }
+    }
+
+    /// Does the steps of a plan of the task until one does not fit: the first fault of the plan, if
+    /// it has one.
+    pub fn judge_plan(&mut self, task: &Checked, plan: &[Step]) -> Option<PlanFault>
+        requires task { BelongTogether task.now.task self.old.task self.old.weights }
+        requires begun { self.old.plan ≡ [] }
+        requires room { length plan.now ≤ most_steps }
+        ensures { IsJudged task.now.task plan.now self.old self.new result }
+    {
+        for step in plan {
+            if let Some(fault) = self.follow(task.find(step)) {
+                return Some(fault);
+            }
+        }
+        self.judge()
     }
 }

@@ -1,6 +1,7 @@
 //! A task with all that belongs to it.
 
-ghost use Rattle.std.specs.Prelude.{◌≡◌, None, IfOk, IfErr, OnOk, IsTrue};
+ghost use Rattle.std.specs.Prelude.{◌≡◌, ◌≤◌, None, IfOk, IfErr, OnOk, IsTrue};
+ghost use Rattle.p3_tree.specs.Limits.{step_count};
 ghost use Rattle.p3_tree.specs.Refusals.First.{task_refusal};
 ghost use Rattle.p3_formula.specs.Conditions.{IsReady};
 ghost use Rattle.p3_ground.specs.Sparse.{IsGroundingOf};
@@ -72,10 +73,11 @@ impl Whole {
         }
     }
 
-    /// The checked task. Nothing is refused of it.
+    /// The checked task. Nothing is refused of it, so its steps are few enough to be found.
     pub fn checked(&self) -> &Checked
         ensures checked { result.now ≡ self.now.checked }
         ensures accepted { task_refusal self.now.checked.side self.now.checked.task ≡ None }
+        ensures few { step_count self.now.checked.task ≤ 20000000 }
     {
         &self.checked
     }
