@@ -1,1 +1,5 @@
 pub mod StageLaws
+pub mod AtomLists
+pub mod ReaderLaws
+pub mod TallyLaws
+pub mod RenewLaws

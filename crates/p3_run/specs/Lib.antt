@@ -2,3 +2,4 @@ pub mod Runs
 pub mod Stages
 pub mod Tallies
 pub mod Groups
+pub mod Readers

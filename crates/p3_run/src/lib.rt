@@ -3,6 +3,7 @@
 
 mod answers;
 mod groups;
+mod modals;
 mod readers;
 mod stages;
 mod tallies;
