@@ -117,6 +117,9 @@ read_named modal atom =
     ∙ ap not (all_flat (is_other atom) atoms_of (forms_of modal))
     ∙ some_not atom (modal_atoms modal)
 
+pub same_reader : (reader other : Reader) → reader.group ≡ other.group → reader.place ≡ other.place → reader ≡ other
+same_reader reader other group place = λ i. record { group = group i; place = place i }
+
 -- ---- the operators of a task are below its count of atoms
 
 module _ (G : GroundTask) (below : HasAtomsBelow G) where
@@ -131,9 +134,6 @@ module _ (G : GroundTask) (below : HasAtomsBelow G) where
   modal_below reader is = AllPass-from_list_all (is_modal_below G.atoms) (modals_at G reader.group) (group_below reader.group is.group) reader.place (AtEnd True) is.place
 
   -- ---- one operator more, and one group more
-
-  same_reader : (reader other : Reader) → reader.group ≡ other.group → reader.place ≡ other.place → reader ≡ other
-  same_reader reader other group place = λ i. record { group = group i; place = place i }
 
   pub filed_one : (readers : List (List Reader)) (reader : Reader) → IsReader G reader → AreFiledTo G reader.group reader.place readers
       → AreFiledTo G reader.group (reader.place + 1) (filed_all reader readers (modal_atoms (modal_at G reader)))

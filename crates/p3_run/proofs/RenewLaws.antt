@@ -20,6 +20,23 @@ use Rattle.p3_run.proofs.TallyLaws.{can_add, can_remove, recount_law}
 pub few_groups : (G : GroundTask) → length G.soft ≤ 100000 → length (modals_of G) ≤ 100001
 few_groups G few = let l : length (map (λ (soft : GroundSoft). soft.parts) G.soft) ≡ length G.soft = simp length-map in omega (arith, l, few)
 
+-- there is a stage for each operator still
+pub shape_kept : (G : GroundTask) (state : State) (watches : List Watch) → HasShape G watches → (reader : Reader) → IsReader G reader → HasShape G (renewed_at G state watches reader)
+shape_kept G state watches shape reader is = record { groups = length-set watches reader.group then_is ∙ shape.groups; places = places } where
+  then_is : Watch
+  then_is = later (modal_at G reader) state watches reader
+
+  places : (group : ℕ) → length (watch_at (renewed_at G state watches reader) group).stages ≡ length (modals_at G group)
+  places group = by (cases_eq group reader.group) where
+    by : (group ≡ reader.group) ⊎ (group ≡ reader.group → ⊥) → length (watch_at (renewed_at G state watches reader) group).stages ≡ length (modals_at G group)
+    by (inl same) =
+        ap (λ (g : ℕ). length (watch_at (renewed_at G state watches reader) g).stages) same
+        ∙ ap (λ (w : Watch). length w.stages) (get_or-set_same watches reader.group (later (modal_at G reader) state watches reader) _ (let g = is.group in let s = shape.groups in omega (arith, g, s)))
+        ∙ length-set (watch_at watches reader.group).stages reader.place _
+        ∙ shape.places reader.group
+        ∙ ap (λ (g : ℕ). length (modals_at G g)) (sym same)
+    by (inr other) = ap (λ (w : Watch). length w.stages) (get_or-set_other watches reader.group group (later (modal_at G reader) state watches reader) _ other) ∙ shape.places group
+
 module _ (G : GroundTask) (by_name : List ℕ) (state : State) (watches : List Watch) (tally : Counted) (can : CanRenew G by_name state watches tally) (reader : Reader) (is : IsReader G reader) where
   abbrev watch : Watch
   watch = watch_at watches reader.group
@@ -48,23 +65,12 @@ module _ (G : GroundTask) (by_name : List ℕ) (state : State) (watches : List W
   pub remove_fits : All (λ w. w < 2 ^ 64) by_name → is_met watch.stages ≡ false → is_met then_is.stages ≡ true → CanRemove by_name watch.name tally
   remove_fits small was now = can_remove by_name watches reader.group then_is group_within refl small tally name_below can.counted was now
 
-  places : (group : ℕ) → length (watch_at (renewed_at G state watches reader) group).stages ≡ length (modals_at G group)
-  places group = by (cases_eq group reader.group) where
-    by : (group ≡ reader.group) ⊎ (group ≡ reader.group → ⊥) → length (watch_at (renewed_at G state watches reader) group).stages ≡ length (modals_at G group)
-    by (inl same) =
-        ap (λ (g : ℕ). length (watch_at (renewed_at G state watches reader) g).stages) same
-        ∙ ap (λ (w : Watch). length w.stages) (get_or-set_same watches reader.group then_is _ group_within)
-        ∙ length-set watch.stages reader.place _
-        ∙ can.shape.places reader.group
-        ∙ ap (λ (g : ℕ). length (modals_at G g)) (sym same)
-    by (inr apart) = ap (λ (w : Watch). length w.stages) (get_or-set_other watches reader.group group then_is _ apart) ∙ can.shape.places group
-
   pub renews : CanRenew G by_name state (renewed_at G state watches reader) (recounted by_name watch.name (is_met watch.stages) (is_met then_is.stages) tally)
   renews = record {
     below = can.below;
     bits = can.bits;
     few = can.few;
     named = All-set (λ (w : Watch). HasNameBelow (length by_name) w.name) watches reader.group then_is name_below can.named;
-    shape = record { groups = length-set watches reader.group then_is ∙ can.shape.groups; places = places };
+    shape = shape_kept G state watches can.shape reader is;
     counted = recount_law by_name watches reader.group then_is group_within refl tally name_below can.counted;
   }

@@ -3,3 +3,4 @@ pub mod Stages
 pub mod Tallies
 pub mod Groups
 pub mod Readers
+pub mod Changing
