@@ -5,3 +5,7 @@ pub mod TallyLaws
 pub mod RenewLaws
 pub mod ChangeLaws
 pub mod FollowLaws
+pub mod RoomLaws
+pub mod FindLaws
+pub mod WalkLaws
+pub mod SumLaws

@@ -4,3 +4,4 @@ pub mod Tallies
 pub mod Groups
 pub mod Readers
 pub mod Changing
+pub mod Steps

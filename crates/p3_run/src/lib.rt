@@ -3,8 +3,10 @@
 
 mod answers;
 mod changing;
+mod finding;
 mod groups;
 mod modals;
+mod preferring;
 mod readers;
 mod stages;
 mod tallies;
