@@ -9,3 +9,4 @@ pub mod RoomLaws
 pub mod FindLaws
 pub mod WalkLaws
 pub mod SumLaws
+pub mod RunLaws

@@ -56,12 +56,14 @@ module _ (G : GroundTask) (W : List State) where
   pub violating_is : (name : ℕ) → violating name (watches_of W G) ≡ count_by (λ (soft : GroundSoft). is_numbered name soft.name && bad soft) G.soft
   violating_is name =
       let f : Watch → ℕ = λ watch. cond (is_numbered name watch.name && not (is_met watch.stages)) 1 0 in
-      sum_by-cons f (watch_of W None G.hard) (map (λ (soft : GroundSoft). watch_of W soft.name soft.parts) G.soft)
-      ∙ sum_mapped f (λ (soft : GroundSoft). watch_of W soft.name soft.parts) G.soft
-      ∙ sum_same (λ (soft : GroundSoft). cond (is_numbered name soft.name && not (is_met (map (stage_of W) soft.parts))) 1 0) (λ (soft : GroundSoft). cond (is_numbered name soft.name && bad soft) 1 0) G.soft
-      (λ soft. ap (λ b. cond (is_numbered name soft.name && not b) 1 0) (met_is soft.parts))
+      let softs = map (λ (soft : GroundSoft). watch_of W soft.name soft.parts) G.soft in
+      let a = sum_by-cons f (watch_of W None G.hard) softs in
+      let b = sum_mapped f (λ (soft : GroundSoft). watch_of W soft.name soft.parts) G.soft in
+      let c = sum_same (λ (soft : GroundSoft). cond {A = ℕ} (is_numbered name soft.name && not (is_met (map (stage_of W) soft.parts))) 1 0) (λ (soft : GroundSoft). cond {A = ℕ} (is_numbered name soft.name && bad soft) 1 0) G.soft
+          (λ soft. ap (λ b. cond {A = ℕ} (is_numbered name soft.name && not b) 1 0) (met_is soft.parts)) in
+      omega (arith, a, b, c)
 
-  none_weighs : (b : Bool) → cond b 0 0 ≡ 0
+  none_weighs : (b : Bool) → ◌≡◌ {A = ℕ} (cond b 0 0) 0
   none_weighs true = refl
   none_weighs false = refl
 
@@ -69,12 +71,14 @@ module _ (G : GroundTask) (W : List State) where
       ≡ sum_by (λ name. slice_index_or by_name name 0 * count_by (λ (soft : GroundSoft). is_numbered name soft.name && bad soft) G.soft) (range_with_len 0 (length by_name))
   violating_weight_is by_name =
       let f : Watch → ℕ = λ watch. cond (not (is_met watch.stages)) (named_weight by_name watch.name) 0 in
-      sum_by-cons f (watch_of W None G.hard) (map (λ (soft : GroundSoft). watch_of W soft.name soft.parts) G.soft)
-      ∙ ap (λ n. n + sum_by f (map (λ (soft : GroundSoft). watch_of W soft.name soft.parts) G.soft)) (none_weighs (not (is_met (map (stage_of W) G.hard))))
-      ∙ sum_mapped f (λ (soft : GroundSoft). watch_of W soft.name soft.parts) G.soft
-      ∙ sum_same (λ (soft : GroundSoft). cond (not (is_met (map (stage_of W) soft.parts))) (named_weight by_name soft.name) 0) (λ (soft : GroundSoft). cond (bad soft) (named_weight by_name soft.name) 0) G.soft
-      (λ soft. ap (λ b. cond (not b) (named_weight by_name soft.name) 0) (met_is soft.parts))
-      ∙ sym (loss_by_instances (λ (soft : GroundSoft). soft.name) bad by_name G.soft)
+      let softs = map (λ (soft : GroundSoft). watch_of W soft.name soft.parts) G.soft in
+      let a = sum_by-cons f (watch_of W None G.hard) softs in
+      let n = none_weighs (not (is_met (map (stage_of W) G.hard))) in
+      let b = sum_mapped f (λ (soft : GroundSoft). watch_of W soft.name soft.parts) G.soft in
+      let c = sum_same (λ (soft : GroundSoft). cond (not (is_met (map (stage_of W) soft.parts))) (named_weight by_name soft.name) 0) (λ (soft : GroundSoft). cond (bad soft) (named_weight by_name soft.name) 0) G.soft
+          (λ soft. ap (λ b. cond (not b) (named_weight by_name soft.name) 0) (met_is soft.parts)) in
+      let d = loss_by_instances (λ (soft : GroundSoft). soft.name) bad by_name G.soft in
+      omega (arith, a, n, b, c, d)
 
 -- ---- the counters of one step
 
@@ -98,8 +102,8 @@ module _ (by_name : List ℕ) (state : State) where
       none false = refl
 
       by : (b : Bool) → IsTally by_name (λ n. count n + cond (is_numbered n pref.name && b) 1 0) (weight + cond b (named_weight by_name pref.name) 0) (cond b (added by_name pref.name tally) tally)
-      by true = tally_like by_name (λ n. ap (λ b. count n + cond b 1 0) (sym (both (is_numbered n pref.name)))) refl (add_law by_name count weight pref.name tally is (named 0 pref (omega arith)))
-      by false = tally_like by_name (λ n. let z = ap (λ b. cond b 1 0) (none (is_numbered n pref.name)) in omega (arith, z)) (omega arith) is
+      by true = tally_like by_name (λ n. ap (λ b. count n + cond {A = ℕ} b 1 0) (sym (both (is_numbered n pref.name)))) refl (add_law by_name count weight pref.name tally is (named 0 pref (omega arith)))
+      by false = tally_like by_name (λ n. let z = ap (λ b. cond {A = ℕ} b 1 0) (none (is_numbered n pref.name)) in omega (arith, z)) (omega arith) is
 
 pub step_counted : (weights : Weights) (state : State) (step : GroundStep) (count : ℕ → ℕ) (weight : ℕ) (tally : Counted) → AreNamedBelow (length weights.by_name) step.prefs → IsTally weights.by_name count weight tally
     → IsTally weights.by_name (λ n. count n + false_prefs state n (Some step)) (weight + step_weight state weights (Some step)) (counted_step state weights tally step)

@@ -5,3 +5,4 @@ pub mod Groups
 pub mod Readers
 pub mod Changing
 pub mod Steps
+pub mod Kept

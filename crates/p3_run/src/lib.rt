@@ -8,7 +8,9 @@ mod groups;
 mod modals;
 mod preferring;
 mod readers;
+mod running;
 mod stages;
 mod tallies;
 
 pub use answers::{Stepped, Verdict};
+pub use running::GroundRun;
