@@ -1,10 +1,11 @@
 -- The operators of the hard constraints, and those of each instance of a preference, as groups that are satisfied where each of theirs is.
-use Rattle.std.specs.Prelude.{◌≡◌, ℕ, ◌<◌, Bool, not, ◌&&◌, cond, List, [], ◌∷◌, length, map, slice_index_or, slice_set, count_by, sum_by, Option, None, fold, IsTrue, false}
-use Rattle.std.specs.List.{list_all}
+use Rattle.std.specs.Prelude.{◌≡◌, ℕ, ◌<◌, ◌≤◌, Bool, not, ◌&&◌, cond, List, [], ◌∷◌, length, map, slice_index_or, slice_set, count_by, sum_by, Option, None, fold, IsTrue, false}
+use Rattle.std.specs.List.{All, list_all}
+use Rattle.p3_formula.specs.Conditions.{HasAtomsBelow}
 use Rattle.p3_formula.specs.Forms.{State}
 use Rattle.p3_formula.specs.GroundPlans.{is_numbered}
 use Rattle.p3_formula.specs.Modals.{is_modal_below}
-use Rattle.p3_formula.specs.Weighted.{named_weight}
+use Rattle.p3_formula.specs.Weighted.{HasNameBelow, named_weight}
 use Rattle.p3_formula.specs.declared.form.Form.TheVariants.{True}
 use Rattle.p3_formula.specs.declared.modal.GroundModal.{GroundModal}
 use Rattle.p3_formula.specs.declared.modal.GroundModal.TheVariants.{AtEnd}
@@ -73,18 +74,23 @@ pub record IsReader (G : GroundTask) (reader : Reader) : Type 0 where
   pub place : reader.place < length (modals_at G reader.group)
 
 -- it is in one state more
+abbrev pub later : GroundModal → State → List Watch → Reader → Watch
+later modal state watches reader = renewed state modal (watch_at watches reader.group) reader.place
+
+abbrev pub put_renewed : GroundModal → State → List Watch → Reader → List Watch
+put_renewed modal state watches reader = slice_set watches reader.group (later modal state watches reader)
+
 abbrev pub renewed_at : GroundTask → State → List Watch → Reader → List Watch
-renewed_at G state watches reader = slice_set watches reader.group (renewed state (modal_at G reader) (watch_at watches reader.group) reader.place)
+renewed_at G state watches reader = put_renewed (modal_at G reader) state watches reader
 
 -- so are those of a list
 abbrev pub renewed_all : GroundTask → State → List Watch → List Reader → List Watch
 renewed_all G state watches readers = fold (renewed_at G state) watches readers
 
--- there is a stage for each operator, and each group has its name
+-- there is a stage for each operator
 pub record HasShape (G : GroundTask) (watches : List Watch) : Type 0 where
   pub groups : length watches ≡ length (modals_of G)
   pub places : (group : ℕ) → length (watch_at watches group).stages ≡ length (modals_at G group)
-  pub names : (group : ℕ) → (watch_at watches group).name ≡ (watch_at (watches_of [] G) group).name
 
 -- ---- what the instances that are not satisfied come to
 
@@ -98,3 +104,16 @@ violating_weight by_name watches = sum_by (λ (watch : Watch). cond (not (is_met
 -- the counters are right of the groups
 abbrev pub IsCounted : List ℕ → List Watch → Counted → Type 0
 IsCounted by_name watches tally = IsTally by_name (λ name. violating name watches) (violating_weight by_name watches) tally
+
+-- each name of theirs is below the count
+abbrev pub AreNamedBelow : ℕ → List Watch → Type 0
+AreNamedBelow count watches = All (λ (watch : Watch). HasNameBelow count watch.name) watches
+
+-- what is known while operators of a task come to be in one state more
+pub record CanRenew (G : GroundTask) (by_name : List ℕ) (state : State) (watches : List Watch) (tally : Counted) : Type 0 where
+  pub below : HasAtomsBelow G
+  pub bits : length state ≡ G.atoms
+  pub few : length G.soft ≤ 100000
+  pub named : AreNamedBelow (length by_name) watches
+  pub shape : HasShape G watches
+  pub counted : IsCounted by_name watches tally

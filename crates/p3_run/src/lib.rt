@@ -2,9 +2,15 @@
 #![tactic(auto)]
 
 mod answers;
+mod changing;
+mod finding;
 mod groups;
+mod modals;
+mod preferring;
 mod readers;
+mod running;
 mod stages;
 mod tallies;
 
 pub use answers::{Stepped, Verdict};
+pub use running::GroundRun;

@@ -1,7 +1,6 @@
 //! Counters of violations.
 
-ghost use Rattle.std.specs.Prelude.{◌≡◌, ◌+◌, ◌^◌, ◌<◌, ◌≤◌, ℕ, length, replicate, IfOk};
-ghost use Rattle.p3_formula.specs.Weighted as weigh;
+ghost use Rattle.std.specs.Prelude.{◌≡◌, ◌+◌, ◌^◌, ◌<◌, length, replicate, IfOk};
 ghost use Rattle.p3_run.specs.Tallies as tally;
 
 use p3_base::NoMemory;
@@ -36,10 +35,7 @@ impl Tally {
 
     /// One violation more, which counts only where it has a name.
     pub(crate) fn add(&mut self, name: Option<u32>, by_name: &[u64])
-        requires named { weigh.HasNameBelow (length by_name.now) name }
-        requires names { length self.old.counts ≡ length by_name.now }
-        requires room { tally.count_at name self.old.counts + 1 < 2 ^ 64 }
-        requires worth { self.old.worth + weigh.named_weight by_name.now name < 2 ^ 128 }
+        requires { tally.CanAdd by_name.now name self.old }
         ensures { self.new ≡ tally.added by_name.now name self.old }
     {
         if let Some(name) = name {
@@ -50,10 +46,7 @@ impl Tally {
 
     /// One violation less.
     pub(crate) fn remove(&mut self, name: Option<u32>, by_name: &[u64])
-        requires named { weigh.HasNameBelow (length by_name.now) name }
-        requires names { length self.old.counts ≡ length by_name.now }
-        requires some { (number : ℕ) → name ≡ Some number → 0 < tally.count_at name self.old.counts }
-        requires worth { weigh.named_weight by_name.now name ≤ self.old.worth }
+        requires { tally.CanRemove by_name.now name self.old }
         ensures { self.new ≡ tally.removed by_name.now name self.old }
     {
         if let Some(name) = name {
