@@ -2,14 +2,10 @@
 use Rattle.std.proofs.Common.{◌≡◌, ◌∙◌, ℕ, suc, ◌+◌, ◌<◌, ◌≤◌, refl, sym, ap, subst, Bool, not, List, [], ◌∷◌, ◌++◌, length, get_or, take, drop, arith, Option, Some, None}
 use Rattle.std.specs.Prelude.{IsTrue, is_some, option_map, if◌then◌else◌}
 use Rattle.std.specs.List.{AllZip}
-use Rattle.std.proofs.Props.{props}
-use Rattle.std.proofs.Math.Logic.{∥∥₁_elim}
 use Rattle.std.proofs.Math.Seq.{drop-cons}
 use Rattle.std.proofs.lemmas.List.{length-take, take-append-drop, take_all, take_more}
-use Rattle.std.proofs.lemmas.Option.{slice_get_within}
 use Rattle.std.proofs.lemmas.Slice.Zip.{AllZip-long}
 use Rattle.p3_tree.specs.Goals.{hard_holds}
-use Rattle.p3_tree.specs.Lifting.{steps}
 use Rattle.p3_tree.specs.Plans.{Plan, arguments, cost_by, steps_fit}
 use Rattle.p3_tree.specs.States.{State}
 use Rattle.p3_tree.specs.StepNumbers.{HasNumber}
@@ -23,7 +19,7 @@ use Rattle.p3_ground.specs.PlansByNumber.{AreNumbers}
 use Rattle.p3_run.specs.Runs.{Ran, most_steps}
 use Rattle.p3_run.specs.declared.answers.Stepped.{Stepped}
 use Rattle.p3_run.specs.declared.answers.Stepped.TheVariants as stepped
-use Rattle.p3_eval.specs.Judged.{HasDone, IsJudged, IsKnown, TellsOfFound, fault_in, fault_of_step, ran_with}
+use Rattle.p3_eval.specs.Judged.{HasDone, IsJudged, TellsOfFound, fault_in, fault_of_step, ran_with}
 use Rattle.p3_eval.specs.Runs.{BelongTogether, IsFaultOfAll, IsStepped, OfItsPlan, OfItsStep}
 use Rattle.p3_eval.specs.declared.fault.FaultKind.TheVariants as kind
 use Rattle.p3_eval.specs.declared.fault.PlanFault.{PlanFault}
@@ -77,13 +73,6 @@ module _ (T : Task) (before now : Ran) (all : BelongTogether T before.task befor
   module _ (done : Plan) (has : HasDone T done before now) where
     pub still_together : BelongTogether T now.task now.weights
     still_together = subst (λ G. BelongTogether T G now.weights) (sym has.task) (subst (BelongTogether T before.task) (sym has.weights) all)
-
-    pub is_known : (step : Step) (answer : Found) → IsFound T step answer → IsKnown now.task answer
-    is_known step (found.Number number) is =
-        let within = slice_get_within (steps T) number step is in
-        ∥∥₁_elim still_together.stands (Prim.hlevel props) (λ stands. let count = stands.stands.step_count in omega (arith, within, count))
-    is_known step found.UnknownAction is = tt
-    is_known step found.Arguments is = tt
 
   pub end_is_judged : (plan : Plan) (place : ℕ) → length plan ≤ place → HasDone T (take place plan) before now → (fault : Option PlanFault) → OfItsPlan now (λ T plan. first_fault T plan ≡ option_map fault_in fault)
       → IsJudged T plan before now fault

@@ -1,11 +1,10 @@
 -- Faults as values of the code, and what judging one step more tells of a plan.
-use Rattle.std.specs.Prelude.{◌≡◌, ℕ, ◌<◌, ◌∷◌, ◌++◌, Option, Some, None, option_map}
+use Rattle.std.specs.Prelude.{◌≡◌, ℕ, ◌∷◌, ◌++◌, Option, Some, None, option_map}
 use Rattle.p3_tree.specs.Plans.{Plan, last_state, visited}
 use Rattle.p3_tree.specs.Validity as why
 use Rattle.p3_tree.specs.Validity.{AtConstraint, AtGoal, AtStep, Fault, first_fault, misfit}
 use Rattle.p3_tree.specs.declared.task.Step.{Step}
 use Rattle.p3_tree.specs.declared.task.Task.{Task}
-use Rattle.p3_formula.specs.declared.task.GroundTask.{GroundTask}
 use Rattle.p3_types.specs.Finds.{IsFound}
 use Rattle.p3_types.specs.declared.finding.Found.{Found}
 use Rattle.p3_types.specs.declared.finding.Found.TheVariants.{Number, UnknownAction, Arguments}
@@ -37,12 +36,6 @@ fault_of_step step Precondition = Some (record { step = step; kind = kind.Precon
 fault_of_step step NoCost = Some (record { step = step; kind = kind.NoCost })
 
 -- ---- one step more
-
--- a number as which a step is found is below the count of steps
-abbrev pub IsKnown : GroundTask → Found → Type 0
-IsKnown G (Number number) = number < G.step_count
-IsKnown G UnknownAction = Unit {0}
-IsKnown G Arguments = Unit {0}
 
 -- without a fault the step fits behind the plan; and else it is the first fault of each plan that goes on with it
 abbrev pub TellsOf : Option PlanFault → Task → Plan → Step → Type 0

@@ -5,7 +5,6 @@ ghost use Rattle.p3_tree.specs.Validity.{first_fault};
 ghost use Rattle.p3_run.specs.Runs.{most_steps};
 ghost use Rattle.p3_eval.specs.Judged.{
   IsJudged,
-  IsKnown,
   TellsOfFound,
   fault_in,
   fault_of_step,
@@ -39,8 +38,7 @@ impl<'a> Run<'a> {
     /// Does the step that is found so, where it fits. Where it does not, nothing has changed, and
     /// the answer is the first fault of each plan that goes on with it.
     pub fn follow(&mut self, found: Found) -> Option<PlanFault>
-        requires known { IsKnown self.old.task found }
-        requires room { length self.old.plan < most_steps }
+        requires { length self.old.plan < most_steps }
         ensures told { TellsOfFound self.old found result }
         ensures ran { self.new ≡ ran_with self.old found result }
     {

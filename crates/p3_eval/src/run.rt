@@ -67,8 +67,7 @@ impl<'a> Run<'a> {
     /// Does the step of a number, where it fits in the state behind the steps done. Where it does
     /// not, nothing has changed, and it is the first fault of each plan that goes on with it.
     pub fn step(&mut self, number: u32) -> Stepped
-        requires known { number < self.old.task.step_count }
-        requires room { length self.old.plan < most_steps }
+        requires { length self.old.plan < most_steps }
         ensures misfit { OfItsStep self.old number (IsStepped result) }
         ensures fault { OfItsStep self.old number (IsFaultOfAll result) }
         ensures ran { self.new ≡ ran_after self.old number result }

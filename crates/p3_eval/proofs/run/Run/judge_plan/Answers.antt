@@ -1,18 +1,14 @@
 use Rattle.std.proofs.Common.{◌+◌, sym, subst, take}
 use Rattle.p3_eval.specs.Judged.{HasDone}
-use Rattle.p3_eval.proofs.JudgeLaws.{end_is_judged, fault_is_judged, has_room, is_known, none_done, step_is_done}
+use Rattle.p3_eval.proofs.JudgeLaws.{end_is_judged, fault_is_judged, has_room, none_done, step_is_done}
 use Rattle.p3_eval.proofs.StepCounts.{few_steps}
 use Rattle.p3_eval.proofs.run.Run.judge_plan.Goals as goal
 
 pub find-requires : goal.find-requires
 find-requires c = record { few = few_steps c.requires.task.side c.args.task.now.task c.requires.task.well c.requires.task.accepted }
 
-pub follow-requires-clause-known : goal.follow-requires-clause-known
-follow-requires-clause-known c =
-    is_known c.args.task.now.task c.args.self.now c.loop-step.self c.requires.task (take c.loop-step.step-index c.args.plan.now) c.loop-step.invariant c.step-item.result c.find.result c.find.ensures
-
-pub follow-requires-clause-room : goal.follow-requires-clause-room
-follow-requires-clause-room c =
+pub follow-requires : goal.follow-requires
+follow-requires c =
     has_room c.args.task.now.task c.args.self.now c.loop-step.self c.requires.task c.args.plan.now c.loop-step.step-index c.step-item.result c.loop-step-test.true c.step-item.is c.loop-step.invariant
     c.requires.room
 
