@@ -69,10 +69,10 @@ impl<'a> GroundRun<'a> {
         requires { CanBeRun task.now weights.now }
         ensures { IfOk result (λ run. run ≡ runs.begun task.now weights.now) }
     {
-        let by_name = weights.by_name.items();
+        let by_name = bounded(weights.by_name.items());
         let readers = readers_of(alloc, task)?;
         let found = room_for(alloc, task.steps.items())?;
-        let done = vec![in alloc; 0; 1_000_000]?;
+        let done = no_steps(alloc)?;
         let state = task.initial.copied(alloc)?;
         let groups = groups_of(alloc, task)?;
         let soft = tally_of(alloc, by_name, groups.as_slice())?;
@@ -173,6 +173,21 @@ impl<'a> GroundRun<'a> {
     {
         self.soft.count(name as usize) + self.prefs.count(name as usize)
     }
+}
+
+/// The weights, each of 64 bits.
+fn bounded(by_name: &[u64]) -> &[u64]
+    ensures are { result.now ≡ by_name.now }
+    ensures small { All (λ weight. weight < 2 ^ 64) by_name.now }
+{
+    by_name
+}
+
+/// Room for the numbers of all steps.
+fn no_steps(alloc: Global) -> Result<Vec<u32>, NoMemory>
+    ensures { IfOk result (λ done. length done.items ≡ most_steps) }
+{
+    Ok(vec![in alloc; 0; 1_000_000]?)
 }
 
 /// The total cost at the start.
