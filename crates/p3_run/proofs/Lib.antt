@@ -10,3 +10,4 @@ pub mod FindLaws
 pub mod WalkLaws
 pub mod SumLaws
 pub mod RunLaws
+pub mod TellLaws

@@ -40,7 +40,7 @@ use Rattle.p3_run.proofs.WalkLaws.{front, reached, state_is, visited_ends, visit
 -- ---- what is known of a step that is found
 
 -- what all steps have, a step of the task has
-has_of : (P : GroundStep → Type 0) (G : GroundTask) → All P G.steps → (number : ℕ) (step : GroundStep) → step_of G number ≡ Some step → P step
+pub has_of : (P : GroundStep → Type 0) (G : GroundTask) → All P G.steps → (number : ℕ) (step : GroundStep) → step_of G number ≡ Some step → P step
 has_of P G all number step is = subst (λ found. IfSome found P) is (found_has P (λ (one : GroundStep). one.number == number) G.steps all)
 
 module _ (G : GroundTask) (weights : Weights) (can : CanBeRun G weights) (number : ℕ) (step : GroundStep) (is : step_of G number ≡ Some step) where

@@ -107,7 +107,7 @@ module _ (by_name : List ℕ) where
       by true = omega arith
       by false = named_small w.name
 
-    few_violating : (all : List Watch) (n : ℕ) → length all ≤ 100001 → violating n all ≤ 100001
+    pub few_violating : (all : List Watch) (n : ℕ) → length all ≤ 100001 → violating n all ≤ 100001
     few_violating all n few = let h = count_by-le-length (counts_for n) all in omega (arith, h, few)
 
     pub light_violating : (all : List Watch) → length all ≤ 100001 → violating_weight by_name all ≤ 100001 * 2 ^ 64

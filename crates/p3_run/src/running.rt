@@ -1,7 +1,8 @@
 //! A run of a ground task.
 
-ghost use Rattle.std.specs.Prelude.{◌≡◌, ◌<◌, ℤ, pos, IfOk, length, true};
+ghost use Rattle.std.specs.Prelude.{◌≡◌, ◌<◌, ◌^◌, pos, ◌+ℤ◌, IfOk, length, true};
 ghost use Rattle.p3_formula.specs.GroundPlans.{ground_violated};
+ghost use Rattle.std.specs.Int.RustNames.{unsigned_abs};
 ghost use Rattle.std.specs.List.{All};
 ghost use Rattle.p3_run.specs.Kept.{HasChangesUpTo};
 ghost use Rattle.p3_run.specs.Runs as runs;
@@ -68,10 +69,10 @@ impl<'a> GroundRun<'a> {
         requires { CanBeRun task.now weights.now }
         ensures { IfOk result (λ run. run ≡ runs.begun task.now weights.now) }
     {
-        let by_name = weights.by_name.items();
+        let by_name = bounded(weights.by_name.items());
         let readers = readers_of(alloc, task)?;
         let found = room_for(alloc, task.steps.items())?;
-        let done = vec![in alloc; 0; 1_000_000]?;
+        let done = no_steps(alloc)?;
         let state = task.initial.copied(alloc)?;
         let groups = groups_of(alloc, task)?;
         let soft = tally_of(alloc, by_name, groups.as_slice())?;
@@ -153,7 +154,8 @@ impl<'a> GroundRun<'a> {
     pub fn total_cost(&self) -> i128
         ensures { result ≡ pos (runs.ground_total self.now.task self.now.plan) }
     {
-        (u128::from(self.task.initial_cost) + self.cost) as i128
+        let first = initial_cost(self.task);
+        (u128::from(first) + self.cost) as i128
     }
 
     /// The value of the metric.
@@ -161,11 +163,7 @@ impl<'a> GroundRun<'a> {
         ensures { result ≡ runs.ground_metric self.now.task self.now.weights self.now.plan }
     {
         let more = self.soft.worth() + self.prefs.worth();
-        let loss = self.weights.base + more as i128;
-        match self.weights.direction {
-            Direction::Minimize => loss,
-            Direction::Maximize => -loss,
-        }
+        value_of(self.weights.direction, self.weights.base, more)
     }
 
     /// How often the name of that number is violated.
@@ -174,6 +172,41 @@ impl<'a> GroundRun<'a> {
         ensures { result ≡ ground_violated self.now.task self.now.plan name }
     {
         self.soft.count(name as usize) + self.prefs.count(name as usize)
+    }
+}
+
+/// The weights, each of 64 bits.
+fn bounded(by_name: &[u64]) -> &[u64]
+    ensures are { result.now ≡ by_name.now }
+    ensures small { All (λ weight. weight < 2 ^ 64) by_name.now }
+{
+    by_name
+}
+
+/// Room for the numbers of all steps.
+fn no_steps(alloc: Global) -> Result<Vec<u32>, NoMemory>
+    ensures { IfOk result (λ done. length done.items ≡ most_steps) }
+{
+    Ok(vec![in alloc; 0; 1_000_000]?)
+}
+
+/// The total cost at the start.
+fn initial_cost(task: &GroundTask) -> u64
+    ensures { result ≡ task.now.initial_cost }
+{
+    task.initial_cost
+}
+
+/// The value whose loss is the base with so much more.
+fn value_of(direction: Direction, base: i128, more: u128) -> i128
+    requires base { unsigned_abs base < 2 ^ 126 }
+    requires more { more < 2 ^ 126 }
+    ensures { result ≡ runs.signed_by direction (base +ℤ pos more) }
+{
+    let loss = base + more as i128;
+    match direction {
+        Direction::Minimize => loss,
+        Direction::Maximize => -loss,
     }
 }
 

@@ -4,5 +4,5 @@ use Rattle.p3_run.proofs.running.most_changes.Goals as goal
 
 pub loop-step-preserved : goal.loop-step-preserved
 loop-step-preserved c =
-    changes_more c.args.steps.now c.loop-step.step-index c.loop-step.most c.max.result c.step-item.result c.loop-step-test.true c.step-item.is c.loop-step.invariant
-    (omega (arith, c.max.ensures)) (omega (arith, c.max.ensures, c.len.ensures))
+    changes_more c.args.steps.now c.loop-step.step-index c.loop-step.most c.max-most.result c.step-item.result c.loop-step-test.true c.step-item.is c.loop-step.invariant
+    (omega (arith, c.max-most.ensures)) (omega (arith, c.max-most.ensures, c.len.ensures))
