@@ -24,7 +24,7 @@ use Rattle.p3_run.specs.declared.answers.Verdict.TheVariants.{Valid, Goal, Unmet
 
 -- ---- a task with what belongs to it
 
--- the ground task stands for the task, the weights are its own, and nothing is refused of it
+-- the task is well-formed, its numbers are short, and nothing is refused of it on that side; the ground task stands for it, and the weights are its own
 pub record BelongTogether (T : Task) (G : GroundTask) (w : Weights) : Type 0 where
   pub side : Side
   pub well : WellFormed T
