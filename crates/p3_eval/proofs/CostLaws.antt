@@ -85,7 +85,7 @@ module _ (T : Task) where
   abbrev greatest_cost : Action → ℕ
   greatest_cost action = sum_by (greatest_amount T) (increases action.effect.body)
 
-  step_cost_within : (step : Step) (action : Action) (c : ℕ) → action_named T step.action ≡ Some action → step_cost T step ≡ Some c → c ≤ greatest_cost action
+  pub step_cost_within : (step : Step) (action : Action) (c : ℕ) → action_named T step.action ≡ Some action → step_cost T step ≡ Some c → c ≤ greatest_cost action
   unfolding step_cost effect_cost
   step_cost_within step action c named e = total_within (arguments action step) (increases action.effect.body) c (sym (ap (option_and_then (cost_by T step)) named) ∙ e)
 

@@ -2,3 +2,11 @@ pub mod RefusalLaws
 pub mod CostLaws
 pub mod ReadyLaws
 pub mod ReadyProps
+pub mod SizeLaws
+pub mod BaseLaws
+pub mod RunReady
+pub mod RunLaws
+pub mod RunKept
+pub mod JudgeLaws
+pub mod WholeRuns
+pub mod StepCounts

@@ -1,6 +1,6 @@
 -- What a well-formed task is refused for, stage by stage, and what is so where nothing is refused.
 use Rattle.std.proofs.Common.{◌≡◌, ◌∙◌, ℕ, zero, suc, ◌+◌, ◌≤◌, refl, sym, ap, nat_lt, Bool, true, false, not, List, [], ◌∷◌, ◌++◌, map, length, find, slice_get, option_map, Option, Some, None, arith, pos, cond}
-use Rattle.std.specs.Prelude.{IsTrue, int_lt, is_none}
+use Rattle.std.specs.Prelude.{IsTrue, codes, flat_map, int_lt, is_none}
 use Rattle.std.specs.Option.{option_or}
 use Rattle.std.proofs.lemmas.Bool.{ltb-false, not-false}
 use Rattle.std.proofs.lemmas.List.{length-append, length-map}
@@ -8,20 +8,21 @@ use Rattle.p3_base.specs.declared.refusal.Code.{Code}
 use Rattle.p3_base.specs.declared.refusal.Code.TheVariants.{CostTooLarge, SplitTooWide}
 use Rattle.p3_base.specs.declared.refusal.Side.{Side}
 use Rattle.p3_tree.specs.Constraints.{domain_instances, instances, problem_instances}
-use Rattle.p3_tree.specs.FirstOffence.{Offence, first_offence}
-use Rattle.p3_tree.specs.Limits.{cost_bound, width}
+use Rattle.p3_tree.specs.FirstOffence.{Offence, first_offence, least_word}
+use Rattle.p3_tree.specs.Limits.{constraint_size, cost_bound, effect_size, goal_size, width}
 use Rattle.p3_tree.specs.Names.{Name, same_name}
 use Rattle.p3_tree.specs.Offences.{WellFormed}
 use Rattle.p3_tree.specs.Plans.{action_named}
-use Rattle.p3_tree.specs.Refusals.Counts.{action_refusals, first_action, preference_word, preference_words, size_refusals, too_dear, too_many_preferences, too_wide}
+use Rattle.p3_tree.specs.Refusals.Counts.{action_refusals, first_action, large_action_parts, large_domain_parts, large_part, preference_word, preference_words, size_refusals, too_dear, too_large, too_many_preferences, too_wide}
 use Rattle.p3_tree.specs.Refusals.First.{refusal_of, task_refusal}
 use Rattle.p3_tree.specs.Refusals.Metric.{metric_refusals}
-use Rattle.p3_tree.specs.Refusals.Places.{first_some}
-use Rattle.p3_tree.specs.Sides.{InDomain, InProblem, instance_limit, weight_bound, width_limit}
+use Rattle.p3_tree.specs.Refusals.Places.{first_some, word_at}
+use Rattle.p3_tree.specs.Sides.{InDomain, InProblem, instance_limit, size_limit, weight_bound, width_limit}
+use Rattle.p3_tree.specs.declared.term.Ref.{Ref}
 use Rattle.p3_tree.specs.declared.task.Action.{Action}
 use Rattle.p3_tree.specs.declared.task.Task.{Task}
 use Rattle.p3_tree.proofs.OffenceLemmas.{well_formed_where_no_offence}
-use Rattle.p3_tree.proofs.OnceLemmas.{Some-injective, find_found}
+use Rattle.p3_tree.proofs.OnceLemmas.{Some-injective, find_found, nil_left, nil_right}
 use Rattle.p3_types.specs.Tables.{is_well_formed}
 use Rattle.p3_ground.specs.Whole as whole
 use Rattle.p3_ground.specs.declared.error.GroundFail.{GroundFail}
@@ -52,7 +53,7 @@ stages side T well =
 
 -- ---- where nothing is refused
 
-unmapped : {A B : Type 0} (f : A → B) (o : Option A) → option_map f o ≡ None → o ≡ None
+pub unmapped : {A B : Type 0} (f : A → B) (o : Option A) → option_map f o ≡ None → o ≡ None
 unmapped f None e = refl
 unmapped f (Some x) e = absurd (cc)
 
@@ -70,7 +71,7 @@ none_past [] n e = omega arith
 none_past (x ∷ xs) zero e = absurd (cc)
 none_past (x ∷ xs) (suc n) e = let rest = none_past xs n e in omega (arith, rest)
 
-each_none : {A : Type 0} (all : List (Option A)) → first_some all ≡ None → (k : ℕ) (o : Option A) → slice_get all k ≡ Some o → o ≡ None
+pub each_none : {A : Type 0} (all : List (Option A)) → first_some all ≡ None → (k : ℕ) (o : Option A) → slice_get all k ≡ Some o → o ≡ None
 each_none [] none k o at = absurd (cc)
 each_none (None ∷ all) none zero o at = sym (Some-injective None o at)
 each_none (None ∷ all) none (suc k) o at = each_none all none k o at
@@ -81,6 +82,22 @@ none_of_both [] ys none = (refl, none)
 none_of_both (None ∷ xs) ys none = none_of_both xs ys none
 none_of_both (Some x ∷ xs) ys none = absurd (cc)
 
+none_of_any : {A B : Type 0} (f : A → List B) (xs : List A) → flat_map f xs ≡ [] → (k : ℕ) (x : A) → slice_get xs k ≡ Some x → f x ≡ []
+none_of_any f [] none k x at = absurd (cc)
+none_of_any f (y ∷ xs) none zero x at = ap f (sym (Some-injective y x at)) ∙ nil_left (f y) (flat_map f xs) none
+none_of_any f (y ∷ xs) none (suc k) x at = none_of_any f xs (nil_right (f y) (flat_map f xs) none) k x at
+
+no_word : (words : List Ref) → least_word words ≡ None → words ≡ []
+no_word [] none = refl
+no_word (word ∷ words) none = absurd (cc)
+
+not_large : (side : Side) (keyword : List ℕ) (at size : ℕ) → large_part side keyword at size ≡ [] → size ≤ size_limit side
+not_large side keyword at size none = by (nat_lt (size_limit side) size) refl none
+  where
+    by : (t : Bool) → nat_lt (size_limit side) size ≡ t → cond t (word_at keyword at ∷ []) [] ≡ [] → size ≤ size_limit side
+    by true e none = absurd (cc)
+    by false e none = let h = ltb-false (size_limit side) size e in omega (arith, h)
+
 module _ (side : Side) (T : Task) (well : WellFormed T) (none : task_refusal side T ≡ None) where
   parts : (first_some (metric_refusals side T ++ size_refusals side T) ≡ None) × (first_some (action_refusals side T) ≡ None)
   parts = none_of_both (metric_refusals side T ++ size_refusals side T) (action_refusals side T) (sym (behind_offences side T well) ∙ none)
@@ -88,7 +105,7 @@ module _ (side : Side) (T : Task) (well : WellFormed T) (none : task_refusal sid
   pub no_metric : first_some (metric_refusals side T) ≡ None
   no_metric = (none_of_both (metric_refusals side T) (size_refusals side T) parts.0).0
 
-  no_size : first_some (size_refusals side T) ≡ None
+  pub no_size : first_some (size_refusals side T) ≡ None
   no_size = (none_of_both (metric_refusals side T) (size_refusals side T) parts.0).1
 
   pub few_instances : length (instances T) ≤ instance_limit
@@ -114,6 +131,20 @@ module _ (side : Side) (T : Task) (well : WellFormed T) (none : task_refusal sid
 
     pub narrow : width T action ≤ width_limit
     narrow = let h = ltb-false width_limit (width T action) (passes_none (λ action. nat_lt width_limit (width T action)) SplitTooWide (each_none (action_refusals side T) parts.1 1 (too_wide side T) refl)) in omega (arith, h)
+
+    no_large_parts : large_action_parts side T action ≡ []
+    unfolding action_named
+    no_large_parts =
+        let (k, at, is) = find_found (λ (other : Action). same_name other.name.name name) T.domain.actions action named in
+        let words = large_part side (codes ":constraints") T.domain.constraints.at (constraint_size T T.domain.constraints.body) in
+        let all = no_word (large_domain_parts side T) (unmapped _ _ (each_none (size_refusals side T) no_size 1 (too_large side InDomain (large_domain_parts side T)) refl)) in
+        none_of_any (large_action_parts side T) T.domain.actions (nil_right words (flat_map (large_action_parts side T) T.domain.actions) all) k action at
+
+    pub small_precondition : goal_size T action.pre.body ≤ size_limit side
+    small_precondition = not_large side _ action.pre.at _ (nil_left (large_part side (codes ":precondition") action.pre.at (goal_size T action.pre.body)) _ no_large_parts)
+
+    pub small_effect : effect_size T action.effect.body ≤ size_limit side
+    small_effect = not_large side _ action.effect.at _ (nil_right (large_part side (codes ":precondition") action.pre.at (goal_size T action.pre.body)) _ no_large_parts)
 
     pub cheap : int_lt (cost_bound T action) (pos weight_bound) ≡ true
     cheap = not-false _ (passes_none (λ action. not (int_lt (cost_bound T action) (pos weight_bound))) CostTooLarge (each_none (action_refusals side T) parts.1 0 (too_dear side T) refl))

@@ -1,2 +1,4 @@
 pub mod Failing
 pub mod Accepted
+pub mod Runs
+pub mod Judged

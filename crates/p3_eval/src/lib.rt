@@ -1,12 +1,20 @@
 //! Whole tasks: a checked task with the ground task that stands for it and the weights of its
-//! metric, of which nothing is refused.
+//! metric, of which nothing is refused; and runs of them, which judge plans.
 #![tactic(auto)]
 
 mod error;
+mod fault;
+mod judge;
 mod laws;
 mod parts;
+mod run;
 mod whole;
 
 pub use error::WholeFail;
-pub use laws::accepted_tasks_can_be_compiled;
+pub use fault::{FaultKind, PlanFault};
+pub use laws::{
+    accepted_tasks_can_be_compiled, accepted_tasks_can_be_run, runs_tell_costs_and_values,
+    runs_tell_the_first_fault,
+};
+pub use run::Run;
 pub use whole::Whole;

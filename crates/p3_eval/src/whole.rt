@@ -1,14 +1,18 @@
 //! A task with all that belongs to it.
 
-ghost use Rattle.std.specs.Prelude.{◌≡◌, None, IfOk, IfErr, OnOk, IsTrue};
+ghost use Rattle.std.specs.Prelude.{◌≡◌, ◌≤◌, None, IfOk, IfErr, OnOk, IsTrue};
+ghost use Rattle.p3_tree.specs.Limits.{step_count};
 ghost use Rattle.p3_tree.specs.Refusals.First.{task_refusal};
 ghost use Rattle.p3_formula.specs.Conditions.{IsReady};
 ghost use Rattle.p3_ground.specs.Sparse.{IsGroundingOf};
 ghost use Rattle.p3_metric.specs.Weighed.{HasWeights, IsLinearMetric};
+ghost use Rattle.p3_run.specs.Runs.{begun};
 ghost use Rattle.p3_eval.specs.Accepted.{ArePartsOf, IsFailOf, is_accepted};
+ghost use Rattle.p3_eval.specs.Runs.{BelongTogether};
 
-use crate::WholeFail;
 use crate::parts::{Parts, parts_of};
+use crate::{Run, WholeFail};
+use p3_base::NoMemory;
 use p3_formula::{GroundTask, Weights};
 use p3_types::Checked;
 use std::alloc::Global;
@@ -69,10 +73,11 @@ impl Whole {
         }
     }
 
-    /// The checked task. Nothing is refused of it.
+    /// The checked task. Nothing is refused of it, so its steps are few enough to be found.
     pub fn checked(&self) -> &Checked
         ensures checked { result.now ≡ self.now.checked }
         ensures accepted { task_refusal self.now.checked.side self.now.checked.task ≡ None }
+        ensures few { step_count self.now.checked.task ≤ 20000000 }
     {
         &self.checked
     }
@@ -90,5 +95,19 @@ impl Whole {
         ensures ready { IsReady self.now.ground_task self.now.weights }
     {
         &self.weights
+    }
+
+    /// The run of no step of the task, with the memory that it ever needs.
+    ///
+    /// # Errors
+    ///
+    /// Want of memory.
+    pub fn begin<'a>(&'a self, alloc: Global) -> Result<Run<'a>, NoMemory>
+        ensures task { BelongTogether
+            self.now.checked.task self.now.ground_task self.now.weights }
+        ensures begun { IfOk result
+            (λ run. run ≡ begun self.now.ground_task self.now.weights) }
+    {
+        Run::open(alloc, &self.ground_task, &self.weights)
     }
 }

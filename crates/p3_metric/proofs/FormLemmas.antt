@@ -101,7 +101,7 @@ module _ (T : Task) (c d : Name → ℕ) (u v : ℕ) where
   mutual
     unfolding quantity mentions
 
-    agreed : (tree : Num) → Agree (mentions tree) → quantity T c u tree ≡ quantity T d v tree
+    pub agreed : (tree : Num) → Agree (mentions tree) → quantity T c u tree ≡ quantity T d v tree
     agreed (num.Number numeral) all = refl
     agreed (num.TotalCost at) all = λ i. record { places = cost_places T; units = pos (all.0 i) }
     agreed (num.Violated name) all = λ i. record { places = 0; units = pos (all.0 i) }

@@ -1,0 +1,91 @@
+//! Plans judged step by step, as what each step is found.
+
+ghost use Rattle.std.specs.Prelude.{◌≡◌, ◌<◌, ◌≤◌, [], length, option_map};
+ghost use Rattle.p3_tree.specs.Validity.{first_fault};
+ghost use Rattle.p3_run.specs.Runs.{most_steps};
+ghost use Rattle.p3_eval.specs.Judged.{
+  IsJudged,
+  TellsOfFound,
+  fault_in,
+  fault_of_step,
+  ran_with,
+};
+ghost use Rattle.p3_eval.specs.Runs.{BelongTogether, OfItsPlan};
+
+use crate::{FaultKind, PlanFault, Run};
+use p3_run::{Stepped, Verdict};
+use p3_tree::Step;
+use p3_types::{Checked, Found};
+
+/// The fault of a step that was tried, if it has one.
+fn fault_of(step: u32, stepped: Stepped) -> Option<PlanFault>
+    ensures { result ≡ fault_of_step step stepped }
+{
+    match stepped {
+        Stepped::Done => None,
+        Stepped::Precondition => Some(PlanFault {
+            step,
+            kind: FaultKind::Precondition,
+        }),
+        Stepped::NoCost => Some(PlanFault {
+            step,
+            kind: FaultKind::NoCost,
+        }),
+    }
+}
+
+impl<'a> Run<'a> {
+    /// Does the step that is found so, where it fits. Where it does not, nothing has changed, and
+    /// the answer is the first fault of each plan that goes on with it.
+    pub fn follow(&mut self, found: Found) -> Option<PlanFault>
+        requires { length self.old.plan < most_steps }
+        ensures told { TellsOfFound self.old found result }
+        ensures ran { self.new ≡ ran_with self.old found result }
+    {
+        let step = self.steps() + 1;
+        match found {
+            Found::Number(number) => fault_of(step, self.step(number)),
+            Found::UnknownAction => Some(PlanFault {
+                step,
+                kind: FaultKind::UnknownAction,
+            }),
+            Found::Arguments => Some(PlanFault {
+                step,
+                kind: FaultKind::Arguments,
+            }),
+        }
+    }
+
+    /// The first fault of the plan of the steps done, if it has one: it is valid where it has none.
+    pub fn judge(&self) -> Option<PlanFault>
+        ensures { OfItsPlan self.now (λ T plan. first_fault T plan ≡ option_map fault_in result) }
+    {
+        match self.finish() {
+            Verdict::Valid => None,
+            Verdict::Goal => Some(PlanFault {
+                step: 0,
+                kind: FaultKind::Goal,
+            }),
+            Verdict::Unmet(place) => Some(PlanFault {
+                step: 0,
+                kind: FaultKind::Unmet(place),
+            }),
+        }
+    }
+
+    /// Does the steps of a plan of the task until one does not fit: the first fault of the plan, if
+    /// it has one.
+    pub fn judge_plan(&mut self, task: &Checked, plan: &[Step]) -> Option<PlanFault>
+        requires task { BelongTogether task.now.task self.old.task self.old.weights }
+        requires begun { self.old.plan ≡ [] }
+        requires room { length plan.now ≤ most_steps }
+        ensures { IsJudged task.now.task plan.now self.old self.new result }
+    {
+        for step in plan {
+            if let Some(fault) = self.follow(task.find(step)) {
+                return Some(fault);
+            }
+        }
+        self.judge()
+    }
+}

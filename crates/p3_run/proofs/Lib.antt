@@ -1,0 +1,13 @@
+pub mod StageLaws
+pub mod AtomLists
+pub mod ReaderLaws
+pub mod TallyLaws
+pub mod RenewLaws
+pub mod ChangeLaws
+pub mod FollowLaws
+pub mod RoomLaws
+pub mod FindLaws
+pub mod WalkLaws
+pub mod SumLaws
+pub mod RunLaws
+pub mod TellLaws

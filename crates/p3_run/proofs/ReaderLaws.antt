@@ -1,0 +1,201 @@
+-- Where an operator is filed with each of its atoms, it stands with each atom that it reads.
+use Rattle.std.proofs.Common.{◌≡◌, ◌∙◌, ◌≢◌, ℕ, zero, suc, ◌+◌, ◌<◌, ◌≤◌, ◌==◌, nat_lt, Bool, true, false, not, ◌&&◌, ◌||◌, List, [], ◌∷◌, ◌++◌, length, get_or, map, refl, sym, ap, subst, arith, length-set}
+use Rattle.std.specs.Prelude.{◌⊎◌, slice_set, slice_index_or, fold, replicate}
+use Rattle.std.specs.List.{All, flat_map, list_any, list_all}
+use Rattle.std.proofs.lemmas.Bool.{cases_eq, cases_lt, cases_order, or_left, or_right, or_cases, eq-eqb, eqb-true, and_from, and_parts}
+use Rattle.std.proofs.lemmas.List.{length-replicate, get_or-set_same, get_or-set_other, set_past, get_or-map, get_or-replicate}
+use Rattle.std.proofs.lemmas.List.Elements.{All-append, All-nil}
+use Rattle.std.proofs.lemmas.List.Folds.{list_any-append, list_all-append, list_all-map}
+use Rattle.std.proofs.lemmas.List.Sums.{AllPass-from_list_all}
+use Rattle.std.proofs.Math.ListN.{get_or-eq_default}
+use mathlib.Core.Logic.{inl, inr, ⊎_elim}
+use Rattle.p3_formula.specs.Conditions.{HasAtomsBelow}
+use Rattle.p3_formula.specs.Forms.{has_atoms, is_other}
+use Rattle.p3_formula.specs.Modals.{forms_of, is_read, is_modal_below, IsModalBelow}
+use Rattle.p3_formula.specs.declared.form.Form.{Form}
+use Rattle.p3_formula.specs.declared.form.Form.TheVariants.{True}
+use Rattle.p3_formula.specs.declared.modal.GroundModal.{GroundModal}
+use Rattle.p3_formula.specs.declared.modal.GroundModal.TheVariants.{AtEnd}
+use Rattle.p3_formula.specs.declared.modal.GroundSoft.{GroundSoft}
+use Rattle.p3_formula.specs.declared.task.GroundTask.{GroundTask}
+use Rattle.p3_formula.proofs.ReadAtoms.{read_below, same_number}
+use Rattle.p3_run.specs.Groups.{AreModalsBelow, modals_of, modals_at, modal_at, IsReader}
+use Rattle.p3_run.specs.Readers.{atoms_of, modal_atoms, readers_at, filed, filed_all, is_same, IsFiled, IsBefore, AreFiledTo, AreReaders}
+use Rattle.p3_run.specs.declared.readers.Reader.{Reader}
+use Rattle.p3_run.proofs.AtomLists.{has_listed}
+
+-- ---- one operator is filed
+
+module _ (reader : Reader) where
+  pub length-filed_all : (atoms : List ℕ) (readers : List (List Reader)) → length (filed_all reader readers atoms) ≡ length readers
+  length-filed_all [] readers = refl
+  length-filed_all (atom ∷ atoms) readers = length-filed_all atoms (filed reader readers atom) ∙ length-set readers atom (readers_at readers atom ++ reader ∷ [])
+
+  -- the readers of an atom are those before, and the operator behind them where it reads the atom
+  module _ (readers : List (List Reader)) (atom : ℕ) where
+    here : atom < length readers → readers_at (filed reader readers atom) atom ≡ readers_at readers atom ++ reader ∷ []
+    here within = get_or-set_same readers atom (readers_at readers atom ++ reader ∷ []) [] within
+
+    elsewhere : (one : ℕ) → one ≢ atom → readers_at (filed reader readers atom) one ≡ readers_at readers one
+    elsewhere one other = get_or-set_other readers atom one (readers_at readers atom ++ reader ∷ []) [] other
+
+    past : (one : ℕ) → length readers ≤ atom → readers_at (filed reader readers atom) one ≡ readers_at readers one
+    past one beyond = ap (λ list. readers_at list one) (set_past readers atom (readers_at readers atom ++ reader ∷ []) beyond)
+
+  -- what is filed stays filed
+  module _ (test : Reader → Bool) (one : ℕ) where
+    stays : (readers : List (List Reader)) (atom : ℕ) → list_any test (readers_at readers one) ≡ true → list_any test (readers_at (filed reader readers atom) one) ≡ true
+    stays readers atom there = by (cases_eq one atom) (cases_lt atom (length readers)) where
+      by : (one ≡ atom) ⊎ (one ≡ atom → ⊥) → (atom < length readers) ⊎ (length readers ≤ atom) → list_any test (readers_at (filed reader readers atom) one) ≡ true
+      by (inr other) within = ap (list_any test) (elsewhere readers atom one other) ∙ there
+      by (inl same) (inr beyond) = ap (list_any test) (past readers atom one beyond) ∙ there
+      by (inl same) (inl within) =
+          ap (λ a. list_any test (readers_at (filed reader readers atom) a)) same
+          ∙ ap (list_any test) (here readers atom within)
+          ∙ list_any-append test (readers_at readers atom) (reader ∷ [])
+          ∙ or_left (list_any test (readers_at readers atom)) (list_any test (reader ∷ [])) (ap (λ a. list_any test (readers_at readers a)) (sym same) ∙ there)
+
+    pub all_stays : (atoms : List ℕ) (readers : List (List Reader)) → list_any test (readers_at readers one) ≡ true → list_any test (readers_at (filed_all reader readers atoms) one) ≡ true
+    all_stays [] readers there = there
+    all_stays (atom ∷ atoms) readers there = all_stays atoms (filed reader readers atom) (stays readers atom there)
+
+  itself : is_same reader reader ≡ true
+  itself = and_from (reader.group == reader.group) (reader.place == reader.place) (same_number reader.group) (same_number reader.place)
+
+  -- it stands with each of the atoms
+  stands_here : (readers : List (List Reader)) (atom : ℕ) → atom < length readers → list_any (is_same reader) (readers_at (filed reader readers atom) atom) ≡ true
+  stands_here readers atom within =
+      ap (list_any (is_same reader)) (here readers atom within)
+      ∙ list_any-append (is_same reader) (readers_at readers atom) (reader ∷ [])
+      ∙ or_right (list_any (is_same reader) (readers_at readers atom)) (is_same reader reader || false) (or_left (is_same reader reader) false itself)
+
+  pub stands : (one : ℕ) (atoms : List ℕ) (readers : List (List Reader)) → one < length readers → list_any (λ atom. atom == one) atoms ≡ true → list_any (is_same reader) (readers_at (filed_all reader readers atoms) one) ≡ true
+  stands one [] readers within named = absurd (cc)
+  stands one (atom ∷ atoms) readers within named =
+      ⊎_elim
+      (λ same. all_stays (is_same reader) one atoms (filed reader readers atom)
+      (ap (λ a. list_any (is_same reader) (readers_at (filed reader readers atom) a)) (sym (eqb-true atom one same))
+      ∙ stands_here readers atom (subst (λ a. a < length readers) (sym (eqb-true atom one same)) within)))
+      (λ later. stands one atoms (filed reader readers atom) (let l = length-set readers atom (readers_at readers atom ++ reader ∷ []) in omega (arith, within, l)) later)
+      (or_cases (atom == one) (list_any (λ a. a == one) atoms) named)
+
+  -- and nothing else comes in
+  module _ (P : Reader → Type 0) (has : P reader) where
+    one_within : (readers : List (List Reader)) (atom : ℕ) → ((one : ℕ) → All P (readers_at readers one)) → (one : ℕ) → All P (readers_at (filed reader readers atom) one)
+    one_within readers atom all one = by (cases_eq one atom) (cases_lt atom (length readers)) where
+      by : (one ≡ atom) ⊎ (one ≡ atom → ⊥) → (atom < length readers) ⊎ (length readers ≤ atom) → All P (readers_at (filed reader readers atom) one)
+      by (inr other) within = subst (All P) (sym (elsewhere readers atom one other)) (all one)
+      by (inl same) (inr beyond) = subst (All P) (sym (past readers atom one beyond)) (all one)
+      by (inl same) (inl within) =
+          subst (λ a. All P (readers_at (filed reader readers atom) a)) (sym same)
+          (subst (All P) (sym (here readers atom within)) (All-append P (readers_at readers atom) (reader ∷ []) (all atom) single))
+        where
+          single : All P (reader ∷ [])
+          single zero d lt = has
+          single (suc k) d lt = absurd (omega (arith, lt))
+
+    pub all_within : (atoms : List ℕ) (readers : List (List Reader)) → ((one : ℕ) → All P (readers_at readers one)) → (one : ℕ) → All P (readers_at (filed_all reader readers atoms) one)
+    all_within [] readers all = all
+    all_within (atom ∷ atoms) readers all = all_within atoms (filed reader readers atom) (one_within readers atom all)
+
+-- ---- the atoms that an operator reads
+
+all_flat : {A B : Type 0} (test : B → Bool) (f : A → List B) (xs : List A) → list_all (λ x. list_all test (f x)) xs ≡ list_all test (flat_map f xs)
+all_flat test f [] = refl
+all_flat test f (x ∷ xs) = ap (λ b. list_all test (f x) && b) (all_flat test f xs) ∙ sym (list_all-append test (f x) (flat_map f xs))
+
+some_not : (one : ℕ) (atoms : List ℕ) → not (list_all (is_other one) atoms) ≡ list_any (λ atom. atom == one) atoms
+some_not one [] = refl
+some_not one (atom ∷ atoms) = outside (atom == one) (list_all (is_other one) atoms) ∙ ap (λ b. (atom == one) || b) (some_not one atoms) where
+  outside : (a b : Bool) → not (not a && b) ≡ (a || not b)
+  outside true b = refl
+  outside false b = refl
+
+read_named : (modal : GroundModal) (atom : ℕ) → is_read modal atom ≡ list_any (λ one. one == atom) (modal_atoms modal)
+read_named modal atom =
+    (λ i. not (list_all (λ form. has_listed (is_other atom) form i) (forms_of modal)))
+    ∙ ap not (all_flat (is_other atom) atoms_of (forms_of modal))
+    ∙ some_not atom (modal_atoms modal)
+
+pub same_reader : (reader other : Reader) → reader.group ≡ other.group → reader.place ≡ other.place → reader ≡ other
+same_reader reader other group place = λ i. record { group = group i; place = place i }
+
+-- ---- the operators of a task are below its count of atoms
+
+module _ (G : GroundTask) (below : HasAtomsBelow G) where
+  all_below : list_all (list_all (is_modal_below G.atoms)) (modals_of G) ≡ true
+  all_below = and_from (list_all (is_modal_below G.atoms) G.hard) _ below.hard
+      (list_all-map (list_all (is_modal_below G.atoms)) (λ (soft : GroundSoft). soft.parts) G.soft ∙ below.soft)
+
+  pub group_below : (group : ℕ) → group < length (modals_of G) → AreModalsBelow G.atoms (modals_at G group)
+  group_below group within = AllPass-from_list_all (list_all (is_modal_below G.atoms)) (modals_of G) all_below group [] within
+
+  pub modal_below : (reader : Reader) → IsReader G reader → IsModalBelow G.atoms (modal_at G reader)
+  modal_below reader is = AllPass-from_list_all (is_modal_below G.atoms) (modals_at G reader.group) (group_below reader.group is.group) reader.place (AtEnd True) is.place
+
+  -- ---- one operator more, and one group more
+
+  pub filed_one : (readers : List (List Reader)) (reader : Reader) → IsReader G reader → AreFiledTo G reader.group reader.place readers
+      → AreFiledTo G reader.group (reader.place + 1) (filed_all reader readers (modal_atoms (modal_at G reader)))
+  filed_one readers reader is to = record {
+    atoms = length-filed_all reader (modal_atoms (modal_at G reader)) readers ∙ to.atoms;
+    within = all_within reader (IsReader G) is (modal_atoms (modal_at G reader)) readers to.within;
+    filed = filed_now;
+  }
+    where
+      made : List (List Reader)
+      made = filed_all reader readers (modal_atoms (modal_at G reader))
+
+      earlier : (other : Reader) → IsReader G other → IsBefore reader.group reader.place other → IsFiled G (filed_all reader readers (modal_atoms (modal_at G reader))) other
+      earlier other has before atom read = all_stays reader (is_same other) atom (modal_atoms (modal_at G reader)) readers (to.filed other has before atom read)
+
+      this : IsFiled G (filed_all reader readers (modal_atoms (modal_at G reader))) reader
+      this atom read =
+          let low = read_below G.atoms (modal_at G reader) (modal_below reader is) atom read in
+          stands reader atom (modal_atoms (modal_at G reader)) readers (subst (λ count. atom < count) (sym to.atoms) low) (sym (read_named (modal_at G reader) atom) ∙ read)
+
+      filed_now : (other : Reader) → IsReader G other → IsBefore reader.group (reader.place + 1) other → IsFiled G (filed_all reader readers (modal_atoms (modal_at G reader))) other
+      filed_now other has (inl lower) = earlier other has (inl lower)
+      filed_now other has (inr (group, below_it)) = by (cases_eq other.place reader.place) where
+        by : (other.place ≡ reader.place) ⊎ (other.place ≡ reader.place → ⊥) → IsFiled G (filed_all reader readers (modal_atoms (modal_at G reader))) other
+        by (inl place) = subst (IsFiled G (filed_all reader readers (modal_atoms (modal_at G reader)))) (sym (same_reader other reader group place)) this
+        by (inr apart) = earlier other has (inr (group, omega (arith, below_it, apart)))
+
+  pub filed_group : (readers : List (List Reader)) (group : ℕ) → AreFiledTo G group (length (modals_at G group)) readers → AreFiledTo G (group + 1) 0 readers
+  filed_group readers group to = record {
+    atoms = to.atoms;
+    within = to.within;
+    filed = filed_now;
+  }
+    where
+      filed_now : (other : Reader) → IsReader G other → IsBefore (group + 1) 0 other → IsFiled G readers other
+      filed_now other has (inr (same, none)) = absurd (omega (arith, none))
+      filed_now other has (inl lower) = by (cases_eq other.group group) where
+        by : (other.group ≡ group) ⊎ (other.group ≡ group → ⊥) → IsFiled G readers other
+        by (inl same) = to.filed other has (inr (same, subst (λ g. other.place < length (modals_at G g)) same has.place))
+        by (inr apart) = to.filed other has (inl (omega (arith, lower, apart)))
+
+-- ---- from no operator to all
+
+module _ (G : GroundTask) where
+  pub filed_none : AreFiledTo G 0 0 (replicate G.atoms [])
+  filed_none = record {
+    atoms = length-replicate G.atoms [];
+    within = λ atom. subst (All (IsReader G)) (sym (empty atom)) (All-nil (IsReader G));
+    filed = λ reader is before. absurd (none reader before);
+  }
+    where
+      empty : (atom : ℕ) → readers_at (replicate G.atoms []) atom ≡ []
+      empty atom = ⊎_elim (λ lt. get_or-replicate G.atoms atom [] [] lt)
+          (λ ge. get_or-eq_default (replicate G.atoms []) [] (let l = length-replicate {A = List Reader} G.atoms [] in omega (arith, l, ge))) (cases_lt atom G.atoms)
+
+      none : (reader : Reader) → IsBefore 0 0 reader → ⊥
+      none reader (inl lower) = omega (arith, lower)
+      none reader (inr (same, lower)) = omega (arith, lower)
+
+  pub filed_all_groups : (readers : List (List Reader)) (count : ℕ) → count ≡ length (modals_of G) → AreFiledTo G count 0 readers → AreReaders G readers
+  filed_all_groups readers count all to = record {
+    atoms = to.atoms;
+    within = to.within;
+    filed = λ reader is. to.filed reader is (inl (omega (arith, all, is.group)));
+  }

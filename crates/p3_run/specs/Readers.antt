@@ -1,0 +1,63 @@
+-- Which operators read an atom: for each atom a list of them.
+use Rattle.std.specs.Prelude.{◌≡◌, ℕ, ◌+◌, ◌<◌, ◌==◌, Bool, true, ◌&&◌, ◌⊎◌, List, [], ◌∷◌, ◌++◌, length, slice_index_or, slice_set, fold}
+use Rattle.std.specs.List.{All, flat_map, list_any}
+use Rattle.p3_formula.specs.Folds.{fold_form}
+use Rattle.p3_formula.specs.Modals.{forms_of, is_read}
+use Rattle.p3_formula.specs.declared.form.Form.{Form}
+use Rattle.p3_formula.specs.declared.form.Form.TheOpen.{Form-F, True, False, Atom, Not, And, Or}
+use Rattle.p3_formula.specs.declared.modal.GroundModal.{GroundModal}
+use Rattle.p3_formula.specs.declared.task.GroundTask.{GroundTask}
+use Rattle.p3_run.specs.Groups.{modal_at, IsReader}
+use Rattle.p3_run.specs.declared.readers.Reader.{Reader}
+
+-- ---- the atoms of forms
+
+abbrev pub atoms_layer : Form-F (List ℕ) → List ℕ
+atoms_layer True = []
+atoms_layer False = []
+atoms_layer (Atom atom) = atom ∷ []
+atoms_layer (Not part) = part
+atoms_layer (And parts) = flat_map (λ part. part) parts
+atoms_layer (Or parts) = flat_map (λ part. part) parts
+
+-- the atoms that stand in a form, from left to right
+unfoldable pub atoms_of : Form → List ℕ
+atoms_of form = fold_form atoms_layer form
+
+abbrev pub modal_atoms : GroundModal → List ℕ
+modal_atoms modal = flat_map atoms_of (forms_of modal)
+
+-- ---- the readers of atoms
+
+abbrev pub readers_at : List (List Reader) → ℕ → List Reader
+readers_at readers atom = slice_index_or readers atom []
+
+-- it reads the atom, too
+abbrev pub filed : Reader → List (List Reader) → ℕ → List (List Reader)
+filed reader readers atom = slice_set readers atom (readers_at readers atom ++ reader ∷ [])
+
+abbrev pub filed_all : Reader → List (List Reader) → List ℕ → List (List Reader)
+filed_all reader readers atoms = fold (filed reader) readers atoms
+
+abbrev pub is_same : Reader → Reader → Bool
+is_same reader other = (other.group == reader.group) && (other.place == reader.place)
+
+-- it stands with each atom that it reads
+abbrev pub IsFiled : GroundTask → List (List Reader) → Reader → Type 0
+IsFiled G readers reader = (atom : ℕ) → is_read (modal_at G reader) atom ≡ true → list_any (is_same reader) (readers_at readers atom) ≡ true
+
+-- its group comes before that one, or it is that one and its place comes before that place
+abbrev pub IsBefore : ℕ → ℕ → Reader → Type 0
+IsBefore group place reader = (reader.group < group) ⊎ ((reader.group ≡ group) × (reader.place < place))
+
+-- all that come before are filed, and nothing else is
+pub record AreFiledTo (G : GroundTask) (group place : ℕ) (readers : List (List Reader)) : Type 0 where
+  pub atoms : length readers ≡ G.atoms
+  pub within : (atom : ℕ) → All (IsReader G) (readers_at readers atom)
+  pub filed : (reader : Reader) → IsReader G reader → IsBefore group place reader → IsFiled G readers reader
+
+-- each operator is filed, and nothing else is
+pub record AreReaders (G : GroundTask) (readers : List (List Reader)) : Type 0 where
+  pub atoms : length readers ≡ G.atoms
+  pub within : (atom : ℕ) → All (IsReader G) (readers_at readers atom)
+  pub filed : (reader : Reader) → IsReader G reader → IsFiled G readers reader

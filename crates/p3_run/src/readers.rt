@@ -1,0 +1,135 @@
+//! Which operators read an atom.
+
+ghost use Rattle.std.specs.Prelude.{◌≡◌, ◌+◌, ◌<◌, ◌≤◌, length, replicate, [], IfOk, OnOk};
+ghost use Rattle.p3_formula.specs.Conditions.{HasAtomsBelow};
+ghost use Rattle.p3_run.specs.Groups.{modals_of};
+ghost use Rattle.p3_run.specs.Readers.{atoms_of, modal_atoms, filed, filed_all, AreFiledTo, AreReaders};
+ghost use Rattle.std.specs.List.{flat_map};
+
+use crate::modals::{group_count, modals_at};
+use p3_base::{List, NoMemory};
+use p3_formula::{Form, GroundModal, GroundTask};
+use std::alloc::Global;
+
+/// The operator at a place of a group reads an atom.
+#[derive(Clone, Copy, Debug, Drop)]
+pub(crate) struct Reader {
+    /// The group.
+    pub(crate) group: usize,
+    /// The place.
+    pub(crate) place: usize,
+}
+
+/// The operator reads the atom, where there is one of that number.
+fn push_atom(
+    readers: &mut Vec<List<Reader>>,
+    atom: usize,
+    reader: Reader,
+) -> Result<(), NoMemory>
+    ensures { OnOk result (readers.new.items ≡ filed reader readers.old.items atom) }
+{
+    if atom < readers.len() {
+        let those = &mut readers[atom];
+        those.push(reader)?;
+    }
+    Ok(())
+}
+
+/// The operator reads the atoms of the form.
+#[cycle(atoms)]
+#[tactic(auto, using(crate::proofs::AtomLists::atoms_of_laws))]
+fn push_form(
+    readers: &mut Vec<List<Reader>>,
+    form: &Form,
+    reader: Reader,
+) -> Result<(), NoMemory>
+    ensures { OnOk result
+        (readers.new.items ≡ filed_all reader readers.old.items (atoms_of form.now)) }
+{
+    match form {
+        Form::True => Ok(()),
+        Form::False => Ok(()),
+        Form::Atom(atom) => push_atom(readers, *atom, reader),
+        Form::Not(part) => push_form(readers, part.get(), reader),
+        Form::And(parts) | Form::Or(parts) => push_forms(readers, parts.items(), reader),
+    }
+}
+
+/// The operator reads the atoms of the forms.
+#[cycle(atoms)]
+fn push_forms(
+    readers: &mut Vec<List<Reader>>,
+    forms: &[Form],
+    reader: Reader,
+) -> Result<(), NoMemory>
+    ensures { OnOk result
+        (readers.new.items ≡ filed_all reader readers.old.items (flat_map atoms_of forms.now)) }
+{
+    for form in forms {
+        push_form(readers, form, reader)?;
+    }
+    Ok(())
+}
+
+/// The operator reads the atoms of its formulas.
+fn push_modal(
+    readers: &mut Vec<List<Reader>>,
+    modal: &GroundModal,
+    reader: Reader,
+) -> Result<(), NoMemory>
+    ensures { OnOk result
+        (readers.new.items ≡ filed_all reader readers.old.items (modal_atoms modal.now)) }
+{
+    match modal {
+        GroundModal::AtEnd(form)
+        | GroundModal::Always(form)
+        | GroundModal::Sometime(form)
+        | GroundModal::AtMostOnce(form) => push_form(readers, form, reader),
+        GroundModal::SometimeAfter(first, second) | GroundModal::SometimeBefore(first, second) => {
+            push_form(readers, first, reader)?;
+            push_form(readers, second, reader)
+        }
+    }
+}
+
+/// The operators of a group read their atoms.
+fn push_group(
+    readers: &mut Vec<List<Reader>>,
+    task: &GroundTask,
+    group: usize,
+) -> Result<(), NoMemory>
+    requires below { HasAtomsBelow task.now }
+    requires within { group < length (modals_of task.now) }
+    requires filed { AreFiledTo task.now group 0 readers.old.items }
+    ensures { OnOk result (AreFiledTo task.now (group + 1) 0 readers.new.items) }
+{
+    let modals = modals_at(task, group);
+    for place in 0..modals.len() {
+        push_modal(readers, &modals[place], Reader { group, place })?;
+    }
+    Ok(())
+}
+
+/// No operator reads an atom.
+fn no_readers(alloc: Global, count: usize) -> Result<Vec<List<Reader>>, NoMemory>
+    ensures { IfOk result (λ readers. readers.items ≡ replicate count []) }
+{
+    let mut readers = Vec::new(alloc);
+    for _ in 0..count {
+        readers.push(List::new(alloc))?;
+    }
+    Ok(readers)
+}
+
+/// For each atom the operators that read it.
+pub(crate) fn readers_of(alloc: Global, task: &GroundTask) -> Result<Vec<List<Reader>>, NoMemory>
+    requires below { HasAtomsBelow task.now }
+    requires few { length task.now.soft ≤ 100000 }
+    ensures { IfOk result (λ readers. AreReaders task.now readers.items) }
+{
+    let mut readers = no_readers(alloc, task.atoms)?;
+    for group in 0..group_count(task) {
+        push_group(&mut readers, task, group)?;
+    }
+    Ok(readers)
+}
