@@ -219,11 +219,7 @@ pub(crate) fn renew_all(
 }
 
 /// The counters of groups.
-pub(crate) fn tally_of(
-    alloc: Global,
-    by_name: &[u64],
-    groups: &[Group],
-) -> Result<Tally, NoMemory>
+pub(crate) fn tally_of(alloc: Global, by_name: &[u64], groups: &[Group]) -> Result<Tally, NoMemory>
     requires named { AreNamedBelow (length by_name.now) groups.now }
     requires few { length groups.now ≤ 100001 }
     ensures { IfOk result (IsCounted by_name.now groups.now) }

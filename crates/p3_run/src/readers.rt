@@ -21,11 +21,7 @@ pub(crate) struct Reader {
 }
 
 /// The operator reads the atom, where there is one of that number.
-fn push_atom(
-    readers: &mut Vec<List<Reader>>,
-    atom: usize,
-    reader: Reader,
-) -> Result<(), NoMemory>
+fn push_atom(readers: &mut Vec<List<Reader>>, atom: usize, reader: Reader) -> Result<(), NoMemory>
     ensures { OnOk result (readers.new.items ≡ filed reader readers.old.items atom) }
 {
     if atom < readers.len() {
@@ -38,11 +34,7 @@ fn push_atom(
 /// The operator reads the atoms of the form.
 #[cycle(atoms)]
 #[tactic(auto, using(crate::proofs::AtomLists::atoms_of_laws))]
-fn push_form(
-    readers: &mut Vec<List<Reader>>,
-    form: &Form,
-    reader: Reader,
-) -> Result<(), NoMemory>
+fn push_form(readers: &mut Vec<List<Reader>>, form: &Form, reader: Reader) -> Result<(), NoMemory>
     ensures { OnOk result
         (readers.new.items ≡ filed_all reader readers.old.items (atoms_of form.now)) }
 {

@@ -40,7 +40,7 @@ returns-clause-can c =
     let is_is = c.turned-turn.ensures.is ∙ ap (λ (modal : GroundModal). is_met (later modal state watches reader).stages) modal_is in
     let groups_are = c.turned-turn.ensures.groups ∙ ap (λ (modal : GroundModal). put_renewed modal state watches reader) modal_is in
     let tally_is : c.recount.new.tally ≡ recounted by_name (watch_at watches reader.group).name (is_met (watch_at watches reader.group).stages) (is_met (later (modal_at G reader) state watches reader).stages) tally =
-        c.recount.ensures ∙ (λ i. recounted by_name (c.turned-turn.ensures.name i) (c.turned-turn.ensures.was i) (is_is i) tally) in
+    c.recount.ensures ∙ (λ i. recounted by_name (c.turned-turn.ensures.name i) (c.turned-turn.ensures.was i) (is_is i) tally) in
     subst (λ (list : List Watch). CanRenew G by_name state list c.recount.new.tally) (sym groups_are)
     (subst (λ (one : Counted). CanRenew G by_name state (renewed_at G state watches reader) one) (sym tally_is)
     (renews G by_name state watches tally c.requires.can reader c.requires.reader))
