@@ -1,15 +1,14 @@
 -- What the steps add to the counters and to the loss, one step after another.
-use Rattle.std.proofs.Common.{◌≡◌, ◌∙◌, ℕ, zero, suc, ◌+◌, ◌*◌, ◌^◌, ◌<◌, ◌≤◌, ◌==◌, Bool, true, false, not, ◌&&◌, cond, List, [], ◌∷◌, ◌++◌, length, map, get_or, take, Option, Some, None, sum_by, refl, sym, ap, subst, arith}
-use Rattle.std.specs.Prelude.{count_by, slice_index_or, fold, zip, unwrap_or, is_some, IsSome, IfSome}
-use Rattle.std.specs.List.{All, range_with_len, list_all}
+use Rattle.std.proofs.Common.{◌≡◌, ◌∙◌, ℕ, suc, ◌+◌, ◌*◌, Bool, true, false, not, ◌&&◌, cond, List, [], ◌∷◌, length, map, Option, Some, None, sum_by, refl, sym, ap, arith}
+use Rattle.std.specs.Prelude.{count_by, slice_index_or, fold, zip}
+use Rattle.std.specs.List.{range_with_len, list_all}
 use native.Mathlib.Nat.{mul-add, mul-zero}
 use Rattle.std.proofs.lemmas.List.Folds.{list_all-map}
-use Rattle.std.proofs.lemmas.List.Sums.{sum_by-cons, sum_by-append, sum_by_push, sum_by-le, count_by-le-length}
-use Rattle.p3_formula.specs.Conditions.{IsWithinLimits}
+use Rattle.std.proofs.lemmas.List.Sums.{sum_by-cons}
 use Rattle.p3_formula.specs.Forms.{State, truth}
-use Rattle.p3_formula.specs.GroundPlans.{GroundPlan, step_of, state_by, visited_from, ground_visited, ground_moves, is_numbered, false_prefs, ground_violated, cost_by, ground_cost, ground_loss}
+use Rattle.p3_formula.specs.GroundPlans.{GroundPlan, step_of, state_by, visited_from, ground_visited, is_numbered, false_prefs, ground_violated, cost_by, ground_cost, ground_loss}
 use Rattle.p3_formula.specs.GroundSat.{ground_sat}
-use Rattle.p3_formula.specs.Weighted.{HasNameBelow, AreNamedBelow, named_weight, weighted_cost}
+use Rattle.p3_formula.specs.Weighted.{AreNamedBelow, named_weight, weighted_cost}
 use Rattle.p3_formula.specs.declared.modal.GroundModal.{GroundModal}
 use Rattle.p3_formula.specs.declared.modal.GroundPref.{GroundPref}
 use Rattle.p3_formula.specs.declared.modal.GroundSoft.{GroundSoft}
@@ -21,7 +20,7 @@ use Rattle.p3_run.specs.Groups.{Watch, accepts, is_met, watch_of, watches_of, vi
 use Rattle.p3_run.specs.Stages.{stage_of}
 use Rattle.p3_run.specs.Steps.{added_if, false_weight, counted_step, step_weight, prefs_violated, steps_weight}
 use Rattle.p3_run.specs.Tallies.{Counted, added, IsTally}
-use Rattle.p3_run.proofs.TallyLaws.{one_of, add_law, tally_like}
+use Rattle.p3_run.proofs.TallyLaws.{add_law, tally_like}
 
 -- ---- sums
 

@@ -1,6 +1,6 @@
 -- Counters stay right of one violation more or less, and of a group that is replaced.
-use Rattle.std.proofs.Common.{◌≡◌, ◌∙◌, ◌≢◌, ℕ, zero, suc, ◌+◌, ◌-◌, ◌*◌, ◌^◌, ◌<◌, ◌≤◌, ◌==◌, Bool, true, false, not, ◌&&◌, cond, List, [], ◌∷◌, ◌++◌, length, get_or, Option, Some, None, sum_by, Fits, w64, refl, sym, ap, subst, arith, length-set}
-use Rattle.std.specs.Prelude.{slice_set, slice_index_or, count_by, replicate, IsSome}
+use Rattle.std.proofs.Common.{◌≡◌, ◌∙◌, ℕ, ◌+◌, ◌-◌, ◌*◌, ◌^◌, ◌<◌, ◌≤◌, ◌==◌, Bool, true, false, not, ◌&&◌, cond, List, [], ◌∷◌, ◌++◌, length, get_or, Option, Some, None, Fits, w64, refl, sym, ap, arith, length-set}
+use Rattle.std.specs.Prelude.{slice_set, replicate, IsSome}
 use Rattle.std.specs.List.{All}
 use Rattle.std.proofs.Math.Bool.{and-true}
 use Rattle.std.proofs.lemmas.Grind.{get_or_default_zero}
@@ -12,7 +12,7 @@ use Rattle.std.proofs.Math.ListN.{get_or-eq_default}
 use mathlib.Core.Logic.{◌⊎◌, inl, inr}
 use Rattle.p3_formula.specs.GroundPlans.{is_numbered}
 use Rattle.p3_formula.specs.Weighted.{HasNameBelow, named_weight}
-use Rattle.p3_run.specs.Groups.{Watch, is_met, watch_at, violating, violating_weight, IsCounted, AreNamedBelow}
+use Rattle.p3_run.specs.Groups.{Watch, is_met, watch_at, violating, violating_weight, IsCounted}
 use Rattle.p3_run.specs.Tallies.{Counted, added, removed, recounted, count_at, CanAdd, CanRemove, IsTally}
 
 and-false : (b : Bool) → (b && false) ≡ false

@@ -56,7 +56,9 @@ impl<'a> Model for GroundRun<'a> {
       plan = take run.count run.done.items;
     } };
 
-    ghost invariant = { λ run. IsRunOf run.task.now run.weights.now run.readers.items run.found.items run.done.items run.count run.state run.groups.items run.soft run.prefs run.cost };
+    ghost invariant = { λ run. IsRunOf run.task.now run.weights.now run.readers.items
+        run.found.items run.done.items run.count run.state run.groups.items
+        run.soft run.prefs run.cost };
 }
 
 impl<'a> GroundRun<'a> {

@@ -1,10 +1,9 @@
-use Rattle.std.proofs.Common.{◌≡◌, ◌∙◌, ◌<◌, ◌^◌, List, Bool, Option, ℕ, length, get_or, true, false, sym, ap, subst, arith}
-use Rattle.std.specs.List.{All}
+use Rattle.std.proofs.Common.{◌≡◌, ◌∙◌, List, Option, ℕ, length, sym, ap, subst}
 use Rattle.p3_formula.specs.Modals.{IsModalBelow}
 use Rattle.p3_formula.specs.declared.modal.GroundModal.{GroundModal}
 use Rattle.p3_run.specs.Groups.{Watch, is_met, modal_at, watch_at, later, put_renewed, renewed_at, CanRenew}
-use Rattle.p3_run.specs.Tallies.{Counted, recounted, CanAdd, CanRemove}
-use Rattle.p3_run.proofs.RenewLaws.{reader_below, add_fits, remove_fits, renews}
+use Rattle.p3_run.specs.Tallies.{Counted, recounted, CanAdd}
+use Rattle.p3_run.proofs.RenewLaws.{reader_below, add_fits, renews}
 use Rattle.p3_run.proofs.TallyLaws.{small_items}
 use Rattle.p3_run.proofs.groups.renew_at.Goals as goal
 

@@ -1,9 +1,9 @@
-use Rattle.std.proofs.Common.{◌≡◌, ◌∙◌, ◌+◌, ◌≤◌, ◌++◌, List, [], ◌∷◌, Bool, Option, ℕ, length, get_or, take, true, false, sym, ap, subst, arith}
+use Rattle.std.proofs.Common.{◌≡◌, ◌∙◌, ◌+◌, ◌≤◌, ◌++◌, List, [], ◌∷◌, Option, ℕ, length, take, true, sym, ap, subst, arith}
 use Rattle.std.proofs.lemmas.List.{take_more, length-take-le, length-append}
 use Rattle.p3_formula.specs.Weighted.{HasNameBelow}
 use Rattle.p3_run.specs.Groups.{Watch, is_met, IsCounted}
 use Rattle.p3_run.specs.Tallies.{Counted, recounted, CanAdd}
-use Rattle.p3_run.proofs.TallyLaws.{small_items, can_add_more, tally_more, tally_none}
+use Rattle.p3_run.proofs.TallyLaws.{small_items, can_add_more, tally_more}
 use Rattle.p3_run.proofs.groups.tally_of.Goals as goal
 
 pub recount-requires-clause-more : goal.recount-requires-clause-more

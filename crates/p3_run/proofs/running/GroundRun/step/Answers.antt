@@ -1,10 +1,9 @@
-use Rattle.std.proofs.Common.{◌≡◌, ◌∙◌, ◌+◌, ◌<◌, ◌≤◌, ◌^◌, List, ℕ, Option, Some, None, length, map, take, false, true, sym, ap, subst, arith}
+use Rattle.std.proofs.Common.{◌≡◌, ◌∙◌, ◌<◌, ◌≤◌, List, ℕ, Some, length, map, take, sym, ap, subst, arith}
 use Rattle.std.specs.Prelude.{IsTrue}
 use Rattle.std.specs.List.{All, list_all}
-use Rattle.p3_formula.specs.Forms.{State, IsBelow, truth}
+use Rattle.p3_formula.specs.Forms.{IsBelow}
 use Rattle.p3_formula.specs.GroundPlans.{step_of}
 use Rattle.p3_formula.specs.Targets.{is_sized_change}
-use Rattle.p3_formula.specs.Weighted.{AreNamedBelow}
 use Rattle.p3_formula.specs.declared.task.GroundStep.{GroundStep}
 use Rattle.p3_formula.specs.Next.{after}
 use Rattle.p3_formula.specs.declared.form.Change.{Change}
@@ -12,7 +11,7 @@ use Rattle.p3_formula.proofs.NextLaws.{length-after}
 use Rattle.p3_run.specs.Changing.{found_in, touched}
 use Rattle.p3_run.specs.Groups.{CanRenew, renewed_all}
 use Rattle.p3_run.specs.Runs.{Ran, most_steps}
-use Rattle.p3_run.specs.Steps.{IsByNumber, HasBodyBelow, HasRoom, numbered_step}
+use Rattle.p3_run.specs.Steps.{IsByNumber, HasBodyBelow, numbered_step}
 use Rattle.p3_run.proofs.RunLaws.{pre_below, bodies_below, effects_sized, prefs_named, light_cost, small_cost}
 use Rattle.p3_run.proofs.TellLaws.{bits, steps_by_number, room_for_prefs, room_for_changes, can_renew, cheap, count_is, one_more}
 use Rattle.p3_run.proofs.running.GroundRun.step.Goals as goal
