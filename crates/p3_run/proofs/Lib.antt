@@ -13,3 +13,4 @@ pub mod RunLaws
 pub mod TellLaws
 pub mod SmallReady
 pub mod RanLaws
+pub mod UnmetLaws

@@ -29,9 +29,8 @@ use Rattle.p3_run.specs.Tallies.{Counted, IsTally}
 use Rattle.p3_run.specs.declared.readers.Reader.{Reader}
 use Rattle.p3_run.proofs.FindLaws.{found_has}
 use Rattle.p3_run.proofs.FollowLaws.{all_follow, shape_of}
-use Rattle.p3_run.proofs.RoomLaws.{named_small}
 use Rattle.p3_run.proofs.SumLaws.{step_counted}
-use Rattle.p3_run.proofs.TallyLaws.{tally_like}
+use Rattle.p3_run.proofs.TallyLaws.{tally_like, named_small}
 use Rattle.p3_run.proofs.WalkLaws.{front, reached, state_is, visited_ends, visited_more, state_more, moves_more, length-moves}
 
 -- ---- what is known of a step that is found

@@ -94,7 +94,7 @@ module _ (by_name : List ℕ) where
   -- ---- no sum of the groups leaves its limits
 
   module _ (small : All (λ w. w < 2 ^ 64) by_name) where
-    named_small : (name : Option ℕ) → named_weight by_name name ≤ 2 ^ 64
+    pub named_small : (name : Option ℕ) → named_weight by_name name ≤ 2 ^ 64
     named_small None = omega arith
     named_small (Some m) = by (cases_lt m (length by_name)) where
       by : (m < length by_name) ⊎ (length by_name ≤ m) → get_or by_name m 0 ≤ 2 ^ 64

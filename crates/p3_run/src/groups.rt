@@ -90,10 +90,14 @@ impl Group {
         self.unmet = unmet_after(self.unmet, stage.accepts, later.accepts);
     }
 
-    /// The least place of an operator that is not satisfied.
+    /// The least place of an operator that is not satisfied. Where there is none, none is sought.
+    #[tactic(auto, using(crate::proofs::UnmetLaws::none_unmet))]
     pub(crate) fn first_unmet(&self) -> Option<usize>
         ensures { result ≡ position watched.rejects self.now.stages }
     {
+        if self.unmet == 0 {
+            return None;
+        }
         self.stages.iter().position(|stage| !stage.accepts)
     }
 }

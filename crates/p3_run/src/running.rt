@@ -26,14 +26,22 @@ use std::marker::Model;
 pub struct GroundRun<'a> {
     task: &'a GroundTask,
     weights: &'a Weights,
+    // For each atom the operators that read it.
     readers: Vec<List<Reader>>,
+    // Room for what the changes of a step find.
     found: Vec<Found>,
+    // The numbers of the steps done, of which there are so many, and room for all others.
     done: Vec<u32>,
     count: usize,
+    // The state that they lead to.
     state: Bits,
+    // The operators of the hard constraints, and behind them those of each instance.
     groups: Vec<Group>,
+    // The instances that are not satisfied.
     soft: Tally,
+    // The preferences of steps that were false, with the weighted costs of the steps.
     prefs: Tally,
+    // What the steps cost.
     cost: u128,
 }
 
