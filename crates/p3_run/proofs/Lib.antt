@@ -11,3 +11,6 @@ pub mod WalkLaws
 pub mod SumLaws
 pub mod RunLaws
 pub mod TellLaws
+pub mod SmallReady
+pub mod RanLaws
+pub mod UnmetLaws

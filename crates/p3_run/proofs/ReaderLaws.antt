@@ -1,18 +1,17 @@
 -- Where an operator is filed with each of its atoms, it stands with each atom that it reads.
-use Rattle.std.proofs.Common.{◌≡◌, ◌∙◌, ◌≢◌, ℕ, zero, suc, ◌+◌, ◌<◌, ◌≤◌, ◌==◌, nat_lt, Bool, true, false, not, ◌&&◌, ◌||◌, List, [], ◌∷◌, ◌++◌, length, get_or, map, refl, sym, ap, subst, arith, length-set}
-use Rattle.std.specs.Prelude.{◌⊎◌, slice_set, slice_index_or, fold, replicate}
+use Rattle.std.proofs.Common.{◌≡◌, ◌∙◌, ◌≢◌, ℕ, zero, suc, ◌+◌, ◌<◌, ◌≤◌, ◌==◌, Bool, true, false, not, ◌&&◌, ◌||◌, List, [], ◌∷◌, ◌++◌, length, refl, sym, ap, subst, arith, length-set, ◌-◌}
+use Rattle.std.specs.Prelude.{◌⊎◌, replicate, slice_get, if◌then◌else◌}
 use Rattle.std.specs.List.{All, flat_map, list_any, list_all}
-use Rattle.std.proofs.lemmas.Bool.{cases_eq, cases_lt, cases_order, or_left, or_right, or_cases, eq-eqb, eqb-true, and_from, and_parts}
-use Rattle.std.proofs.lemmas.List.{length-replicate, get_or-set_same, get_or-set_other, set_past, get_or-map, get_or-replicate}
+use Rattle.std.proofs.lemmas.Bool.{cases_eq, cases_lt, or_left, or_right, or_cases, eqb-true, and_from}
+use Rattle.std.proofs.lemmas.List.{length-replicate, get_or-set_same, get_or-set_other, set_past, get_or-replicate}
 use Rattle.std.proofs.lemmas.List.Elements.{All-append, All-nil}
 use Rattle.std.proofs.lemmas.List.Folds.{list_any-append, list_all-append, list_all-map}
 use Rattle.std.proofs.lemmas.List.Sums.{AllPass-from_list_all}
 use Rattle.std.proofs.Math.ListN.{get_or-eq_default}
 use mathlib.Core.Logic.{inl, inr, ⊎_elim}
 use Rattle.p3_formula.specs.Conditions.{HasAtomsBelow}
-use Rattle.p3_formula.specs.Forms.{has_atoms, is_other}
+use Rattle.p3_formula.specs.Forms.{is_other}
 use Rattle.p3_formula.specs.Modals.{forms_of, is_read, is_modal_below, IsModalBelow}
-use Rattle.p3_formula.specs.declared.form.Form.{Form}
 use Rattle.p3_formula.specs.declared.form.Form.TheVariants.{True}
 use Rattle.p3_formula.specs.declared.modal.GroundModal.{GroundModal}
 use Rattle.p3_formula.specs.declared.modal.GroundModal.TheVariants.{AtEnd}
@@ -20,27 +19,62 @@ use Rattle.p3_formula.specs.declared.modal.GroundSoft.{GroundSoft}
 use Rattle.p3_formula.specs.declared.task.GroundTask.{GroundTask}
 use Rattle.p3_formula.proofs.ReadAtoms.{read_below, same_number}
 use Rattle.p3_run.specs.Groups.{AreModalsBelow, modals_of, modals_at, modal_at, IsReader}
-use Rattle.p3_run.specs.Readers.{atoms_of, modal_atoms, readers_at, filed, filed_all, is_same, IsFiled, IsBefore, AreFiledTo, AreReaders}
+use Rattle.p3_run.specs.Readers.{atoms_of, modal_atoms, readers_at, filed, filed_all, is_same, IsFiled, IsBefore, AreFiledTo, AreReaders, is_same_by, ends, with_reader}
 use Rattle.p3_run.specs.declared.readers.Reader.{Reader}
 use Rattle.p3_run.proofs.AtomLists.{has_listed}
 
 -- ---- one operator is filed
 
 module _ (reader : Reader) where
+  -- where it is an item it is one of the list
+  is_among : (those : List Reader) (place : ℕ) → is_same_by reader (slice_get those place) ≡ true → list_any (is_same reader) those ≡ true
+  is_among [] place same = absurd (cc)
+  is_among (other ∷ those) zero same = or_left (is_same reader other) (list_any (is_same reader) those) same
+  is_among (other ∷ those) (suc place) same = or_right (is_same reader other) (list_any (is_same reader) those) (is_among those place same)
+
+  itself : is_same reader reader ≡ true
+  itself = and_from (reader.group == reader.group) (reader.place == reader.place) (same_number reader.group) (same_number reader.place)
+
+  -- it is one of them then
+  among_with : (those : List Reader) → list_any (is_same reader) (with_reader reader those) ≡ true
+  among_with those = by (ends reader those) refl where
+    by : (b : Bool) → ends reader those ≡ b → list_any (is_same reader) (if b then those else those ++ reader ∷ []) ≡ true
+    by true last = is_among those (length those - 1) last
+    by false last =
+        list_any-append (is_same reader) those (reader ∷ [])
+        ∙ or_right (list_any (is_same reader) those) (is_same reader reader || false) (or_left (is_same reader reader) false itself)
+
+  -- and so are the others
+  stays_with : (test : Reader → Bool) (those : List Reader) → list_any test those ≡ true → list_any test (with_reader reader those) ≡ true
+  stays_with test those there = by (ends reader those) where
+    by : (b : Bool) → list_any test (if b then those else those ++ reader ∷ []) ≡ true
+    by true = there
+    by false = list_any-append test those (reader ∷ []) ∙ or_left (list_any test those) (list_any test (reader ∷ [])) there
+
+  all_with : (P : Reader → Type 0) → P reader → (those : List Reader) → All P those → All P (with_reader reader those)
+  all_with P has those all = by (ends reader those) where
+    single : All P (reader ∷ [])
+    single zero d lt = has
+    single (suc k) d lt = absurd (omega (arith, lt))
+
+    by : (b : Bool) → All P (if b then those else those ++ reader ∷ [])
+    by true = all
+    by false = All-append P those (reader ∷ []) all single
+
   pub length-filed_all : (atoms : List ℕ) (readers : List (List Reader)) → length (filed_all reader readers atoms) ≡ length readers
   length-filed_all [] readers = refl
-  length-filed_all (atom ∷ atoms) readers = length-filed_all atoms (filed reader readers atom) ∙ length-set readers atom (readers_at readers atom ++ reader ∷ [])
+  length-filed_all (atom ∷ atoms) readers = length-filed_all atoms (filed reader readers atom) ∙ length-set readers atom (with_reader reader (readers_at readers atom))
 
   -- the readers of an atom are those before, and the operator behind them where it reads the atom
   module _ (readers : List (List Reader)) (atom : ℕ) where
-    here : atom < length readers → readers_at (filed reader readers atom) atom ≡ readers_at readers atom ++ reader ∷ []
-    here within = get_or-set_same readers atom (readers_at readers atom ++ reader ∷ []) [] within
+    here : atom < length readers → readers_at (filed reader readers atom) atom ≡ with_reader reader (readers_at readers atom)
+    here within = get_or-set_same readers atom (with_reader reader (readers_at readers atom)) [] within
 
     elsewhere : (one : ℕ) → one ≢ atom → readers_at (filed reader readers atom) one ≡ readers_at readers one
-    elsewhere one other = get_or-set_other readers atom one (readers_at readers atom ++ reader ∷ []) [] other
+    elsewhere one other = get_or-set_other readers atom one (with_reader reader (readers_at readers atom)) [] other
 
     past : (one : ℕ) → length readers ≤ atom → readers_at (filed reader readers atom) one ≡ readers_at readers one
-    past one beyond = ap (λ list. readers_at list one) (set_past readers atom (readers_at readers atom ++ reader ∷ []) beyond)
+    past one beyond = ap (λ list. readers_at list one) (set_past readers atom (with_reader reader (readers_at readers atom)) beyond)
 
   -- what is filed stays filed
   module _ (test : Reader → Bool) (one : ℕ) where
@@ -52,22 +86,15 @@ module _ (reader : Reader) where
       by (inl same) (inl within) =
           ap (λ a. list_any test (readers_at (filed reader readers atom) a)) same
           ∙ ap (list_any test) (here readers atom within)
-          ∙ list_any-append test (readers_at readers atom) (reader ∷ [])
-          ∙ or_left (list_any test (readers_at readers atom)) (list_any test (reader ∷ [])) (ap (λ a. list_any test (readers_at readers a)) (sym same) ∙ there)
+          ∙ stays_with test (readers_at readers atom) (ap (λ a. list_any test (readers_at readers a)) (sym same) ∙ there)
 
     pub all_stays : (atoms : List ℕ) (readers : List (List Reader)) → list_any test (readers_at readers one) ≡ true → list_any test (readers_at (filed_all reader readers atoms) one) ≡ true
     all_stays [] readers there = there
     all_stays (atom ∷ atoms) readers there = all_stays atoms (filed reader readers atom) (stays readers atom there)
 
-  itself : is_same reader reader ≡ true
-  itself = and_from (reader.group == reader.group) (reader.place == reader.place) (same_number reader.group) (same_number reader.place)
-
   -- it stands with each of the atoms
   stands_here : (readers : List (List Reader)) (atom : ℕ) → atom < length readers → list_any (is_same reader) (readers_at (filed reader readers atom) atom) ≡ true
-  stands_here readers atom within =
-      ap (list_any (is_same reader)) (here readers atom within)
-      ∙ list_any-append (is_same reader) (readers_at readers atom) (reader ∷ [])
-      ∙ or_right (list_any (is_same reader) (readers_at readers atom)) (is_same reader reader || false) (or_left (is_same reader reader) false itself)
+  stands_here readers atom within = ap (list_any (is_same reader)) (here readers atom within) ∙ among_with (readers_at readers atom)
 
   pub stands : (one : ℕ) (atoms : List ℕ) (readers : List (List Reader)) → one < length readers → list_any (λ atom. atom == one) atoms ≡ true → list_any (is_same reader) (readers_at (filed_all reader readers atoms) one) ≡ true
   stands one [] readers within named = absurd (cc)
@@ -76,7 +103,7 @@ module _ (reader : Reader) where
       (λ same. all_stays (is_same reader) one atoms (filed reader readers atom)
       (ap (λ a. list_any (is_same reader) (readers_at (filed reader readers atom) a)) (sym (eqb-true atom one same))
       ∙ stands_here readers atom (subst (λ a. a < length readers) (sym (eqb-true atom one same)) within)))
-      (λ later. stands one atoms (filed reader readers atom) (let l = length-set readers atom (readers_at readers atom ++ reader ∷ []) in omega (arith, within, l)) later)
+      (λ later. stands one atoms (filed reader readers atom) (let l = length-set readers atom (with_reader reader (readers_at readers atom)) in omega (arith, within, l)) later)
       (or_cases (atom == one) (list_any (λ a. a == one) atoms) named)
 
   -- and nothing else comes in
@@ -88,11 +115,7 @@ module _ (reader : Reader) where
       by (inl same) (inr beyond) = subst (All P) (sym (past readers atom one beyond)) (all one)
       by (inl same) (inl within) =
           subst (λ a. All P (readers_at (filed reader readers atom) a)) (sym same)
-          (subst (All P) (sym (here readers atom within)) (All-append P (readers_at readers atom) (reader ∷ []) (all atom) single))
-        where
-          single : All P (reader ∷ [])
-          single zero d lt = has
-          single (suc k) d lt = absurd (omega (arith, lt))
+          (subst (All P) (sym (here readers atom within)) (all_with P has (readers_at readers atom) (all atom)))
 
     pub all_within : (atoms : List ℕ) (readers : List (List Reader)) → ((one : ℕ) → All P (readers_at readers one)) → (one : ℕ) → All P (readers_at (filed_all reader readers atoms) one)
     all_within [] readers all = all

@@ -1,6 +1,6 @@
 -- Where an operator of a group is in one state more, all that is known of the groups stays so.
-use Rattle.std.proofs.Common.{◌≡◌, ◌∙◌, ℕ, zero, suc, ◌+◌, ◌^◌, ◌<◌, ◌≤◌, Bool, true, false, List, [], ◌∷◌, length, get_or, map, refl, sym, ap, subst, arith, length-set}
-use Rattle.std.specs.Prelude.{◌⊎◌, slice_set}
+use Rattle.std.proofs.Common.{◌≡◌, ◌∙◌, ℕ, ◌^◌, ◌<◌, ◌≤◌, true, false, List, length, map, refl, sym, ap, subst, arith, length-set}
+use Rattle.std.specs.Prelude.{◌⊎◌}
 use Rattle.std.specs.List.{All}
 use Rattle.std.proofs.lemmas.Bool.{cases_eq}
 use Rattle.std.proofs.lemmas.List.{get_or-set_same, get_or-set_other, length-map}
@@ -11,7 +11,7 @@ use Rattle.p3_formula.specs.Modals.{IsModalBelow}
 use Rattle.p3_formula.specs.Weighted.{HasNameBelow}
 use Rattle.p3_formula.specs.declared.modal.GroundSoft.{GroundSoft}
 use Rattle.p3_formula.specs.declared.task.GroundTask.{GroundTask}
-use Rattle.p3_run.specs.Groups.{Watch, is_met, modals_of, modals_at, modal_at, watch_at, later, renewed_at, IsReader, HasShape, IsCounted, AreNamedBelow, CanRenew}
+use Rattle.p3_run.specs.Groups.{Watch, is_met, modals_of, modals_at, modal_at, watch_at, later, renewed_at, IsReader, HasShape, CanRenew}
 use Rattle.p3_run.specs.Tallies.{Counted, recounted, CanAdd, CanRemove}
 use Rattle.p3_run.specs.declared.readers.Reader.{Reader}
 use Rattle.p3_run.proofs.ReaderLaws.{modal_below}

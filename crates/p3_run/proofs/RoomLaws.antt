@@ -1,32 +1,25 @@
 -- There is room for the violations that are left.
-use Rattle.std.proofs.Common.{◌≡◌, ◌∙◌, ℕ, zero, suc, ◌+◌, ◌*◌, ◌^◌, ◌<◌, ◌≤◌, Bool, true, false, not, cond, List, length, get_or, Option, Some, None, refl, sym, ap, subst, arith, length-set}
+use Rattle.std.proofs.Common.{◌≡◌, ◌∙◌, ℕ, ◌+◌, ◌^◌, ◌<◌, ◌≤◌, Bool, true, false, not, cond, List, length, get_or, Option, Some, None, ap, arith, length-set}
 use Rattle.std.specs.Prelude.{slice_set}
 use Rattle.std.specs.List.{All}
-use Rattle.std.proofs.lemmas.Bool.{cases_eq, cases_lt}
-use Rattle.std.proofs.lemmas.List.{get_or-set_same, get_or-set_other, get_or_default}
-use Rattle.std.proofs.Math.ListN.{get_or-eq_default}
+use Rattle.std.proofs.lemmas.Bool.{cases_eq}
+use Rattle.std.proofs.lemmas.List.{get_or-set_same, get_or-set_other}
 use mathlib.Core.Logic.{◌⊎◌, inl, inr}
 use Rattle.p3_formula.specs.Forms.{State, truth}
-use Rattle.p3_formula.specs.Weighted.{HasNameBelow, named_weight}
+use Rattle.p3_formula.specs.Weighted.{HasNameBelow}
 use Rattle.p3_formula.specs.declared.modal.GroundPref.{GroundPref}
 use Rattle.p3_run.specs.Steps.{added_if, HasRoom}
 use Rattle.p3_run.specs.Tallies.{Counted, added, count_at, CanAdd}
+use Rattle.p3_run.proofs.TallyLaws.{named_small}
 
 module _ (by_name : List ℕ) (small : All (λ w. w < 2 ^ 64) by_name) where
-  pub named_small : (name : Option ℕ) → named_weight by_name name ≤ 2 ^ 64
-  named_small None = omega arith
-  named_small (Some m) = by (cases_lt m (length by_name)) where
-    by : (m < length by_name) ⊎ (length by_name ≤ m) → get_or by_name m 0 ≤ 2 ^ 64
-    by (inl lt) = let h = small m 0 lt in omega (arith, h)
-    by (inr ge) = let h = get_or-eq_default by_name 0 ge in omega (arith, h)
-
   -- one more can be counted
   pub can_add_one : (name : Option ℕ) (tally : Counted) → HasNameBelow (length by_name) name → HasRoom by_name 1 tally → CanAdd by_name name tally
   can_add_one name tally below has = record {
     named = below;
     names = has.names;
     room = room_of name below;
-    worth = let w = named_small name in let h = has.worth in omega (arith, w, h);
+    worth = let w = named_small by_name small name in let h = has.worth in omega (arith, w, h);
   }
     where
       room_of : (name : Option ℕ) → HasNameBelow (length by_name) name → count_at name tally.counts + 1 < 2 ^ 64
@@ -47,7 +40,7 @@ module _ (by_name : List ℕ) (small : All (λ w. w < 2 ^ 64) by_name) where
   room_added left (Some m) tally below has = record {
     names = length-set tally.counts m (get_or tally.counts m 0 + 1) ∙ has.names;
     room = λ k d lt. rest k d (let l = length-set tally.counts m (get_or tally.counts m 0 + 1) in omega (arith, l, lt)) (cases_eq k m);
-    worth = let w = named_small (Some m) in let h = has.worth in omega (arith, w, h);
+    worth = let w = named_small by_name small (Some m) in let h = has.worth in omega (arith, w, h);
   }
     where
       in_counts : m < length tally.counts

@@ -1,21 +1,19 @@
 -- A run stays right of one step more, and what it keeps tells what its steps come to.
-use Rattle.std.proofs.Common.{◌≡◌, ◌∙◌, ℕ, zero, suc, ◌+◌, ◌*◌, ◌^◌, ◌<◌, ◌≤◌, ◌==◌, Bool, true, false, not, ◌&&◌, cond, if◌then◌else◌, List, [], ◌∷◌, ◌++◌, length, map, get_or, take, Option, Some, None, sum_by, refl, sym, ap, subst, arith}
-use Rattle.std.specs.Prelude.{count_by, is_some, IsSome, IfSome, unwrap_or, replicate, IsTrue}
+use Rattle.std.proofs.Common.{◌≡◌, ◌∙◌, ℕ, zero, suc, ◌+◌, ◌*◌, ◌^◌, ◌<◌, ◌≤◌, ◌==◌, Bool, true, false, not, ◌&&◌, cond, List, [], ◌∷◌, ◌++◌, length, map, get_or, take, Option, Some, None, sum_by, refl, sym, ap, subst, arith}
+use Rattle.std.specs.Prelude.{is_some, IfSome, unwrap_or, IsTrue}
 use Rattle.std.specs.List.{All, list_all}
 use native.Mathlib.Nat.{mul-zero}
-use Rattle.std.proofs.Math.Bool.{and-true}
 use Rattle.std.proofs.lemmas.Bool.{and_parts, and_from}
 use Rattle.std.proofs.lemmas.List.{length-append, get_or_default, take_more}
 use Rattle.std.proofs.lemmas.List.Elements.{All-append}
 use Rattle.std.proofs.lemmas.List.Folds.{list_all-append}
 use Rattle.std.proofs.lemmas.List.Sums.{sum_by_push, sum_by-le, count_by-le-length, AllPass-from_list_all}
-use Rattle.p3_formula.specs.Conditions.{IsWithinLimits, is_step_below, greatest_width}
+use Rattle.p3_formula.specs.Conditions.{IsWithinLimits, is_step_below}
 use Rattle.p3_formula.specs.Forms.{State, truth, IsBelow, is_below}
 use Rattle.p3_formula.specs.GroundPlans.{GroundPlan, step_of, fits_by, ground_fits, state_by, ground_visited, ground_moves, is_numbered, false_prefs, cost_by, ground_cost}
 use Rattle.p3_formula.specs.Next.{after}
 use Rattle.p3_formula.specs.Targets.{is_sized_change}
 use Rattle.p3_formula.specs.Weighted.{HasNameBelow, AreNamedBelow, named_weight, weighted_cost}
-use Rattle.p3_formula.specs.declared.form.Change.{Change}
 use Rattle.p3_formula.specs.declared.modal.GroundPref.{GroundPref}
 use Rattle.p3_formula.specs.declared.modal.GroundSoft.{GroundSoft}
 use Rattle.p3_formula.specs.declared.target.Weights.{Weights}
@@ -25,16 +23,14 @@ use Rattle.p3_formula.proofs.NextLaws.{length-after}
 use Rattle.p3_run.specs.Changing.{touched}
 use Rattle.p3_run.specs.Groups.{Watch, watch_of, watches_of, HasShape, renewed_all, IsCounted, AreNamedBelow as HaveNamesBelow, CanRenew}
 use Rattle.p3_run.specs.Kept.{HasChangesUpTo, CanRun, HasRun}
-use Rattle.p3_run.specs.Readers.{AreReaders}
 use Rattle.p3_run.specs.Runs.{CanBeRun, HasFewPrefs, most_steps, most_prefs, ground_state, ground_fit}
 use Rattle.p3_run.specs.Steps.{HasBodyBelow, HasRoom, false_weight, counted_step, step_weight, prefs_violated, steps_weight}
 use Rattle.p3_run.specs.Tallies.{Counted, IsTally}
 use Rattle.p3_run.specs.declared.readers.Reader.{Reader}
 use Rattle.p3_run.proofs.FindLaws.{found_has}
 use Rattle.p3_run.proofs.FollowLaws.{all_follow, shape_of}
-use Rattle.p3_run.proofs.RoomLaws.{named_small}
 use Rattle.p3_run.proofs.SumLaws.{step_counted}
-use Rattle.p3_run.proofs.TallyLaws.{tally_like}
+use Rattle.p3_run.proofs.TallyLaws.{tally_like, named_small}
 use Rattle.p3_run.proofs.WalkLaws.{front, reached, state_is, visited_ends, visited_more, state_more, moves_more, length-moves}
 
 -- ---- what is known of a step that is found

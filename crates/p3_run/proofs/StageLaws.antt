@@ -1,12 +1,11 @@
 -- A stage stays right of one state more, and of one in which the formulas have the truth that they had before.
 use Rattle.std.proofs.Common.{◌≡◌, ◌∙◌, ℕ, Bool, true, false, not, ◌&&◌, ◌||◌, List, [], ◌∷◌, ◌++◌, length, refl, sym, ap}
-use Rattle.std.specs.List.{list_all}
 use Rattle.std.proofs.lemmas.Bool.{and_parts}
 use Rattle.p3_base.specs.Trajectories.{some, came_back, is_awaited, came_early}
 use Rattle.p3_formula.specs.Forms.{State, truth, has_atoms}
 use Rattle.p3_formula.specs.GroundPlans.{last_of}
 use Rattle.p3_formula.specs.GroundSat.{holds_at, ground_sat}
-use Rattle.p3_formula.specs.Modals.{forms_of, is_read}
+use Rattle.p3_formula.specs.Modals.{is_read}
 use Rattle.p3_formula.specs.declared.form.Form.{Form}
 use Rattle.p3_formula.specs.declared.modal.GroundModal.{GroundModal}
 use Rattle.p3_formula.specs.declared.modal.GroundModal.TheVariants.{AtEnd, Always, Sometime, AtMostOnce, SometimeAfter, SometimeBefore}
@@ -14,7 +13,7 @@ use Rattle.p3_formula.proofs.NextLaws.{truth-agree}
 use Rattle.p3_formula.proofs.ReadAtoms.{reads}
 use Rattle.p3_formula.proofs.WatchedLaws.{last-next, each-next, some-next, came-next, awaited-next, early-next, sat-AtMostOnce, sat-SometimeAfter, sat-SometimeBefore}
 use Rattle.p3_formula.specs.Forms.{is_set}
-use Rattle.p3_run.specs.Stages.{stage_of, has_seen, has_held, fresh, accepting, next_once, next_before, next_stage}
+use Rattle.p3_run.specs.Stages.{stage_of, fresh, accepting, next_once, next_before, next_stage}
 use Rattle.p3_run.specs.declared.stages.Stage.{Stage}
 
 -- ---- the answers of the operators over one state more

@@ -1,15 +1,14 @@
 -- What the steps add to the counters and to the loss, one step after another.
-use Rattle.std.proofs.Common.{◌≡◌, ◌∙◌, ℕ, zero, suc, ◌+◌, ◌*◌, ◌^◌, ◌<◌, ◌≤◌, ◌==◌, Bool, true, false, not, ◌&&◌, cond, List, [], ◌∷◌, ◌++◌, length, map, get_or, take, Option, Some, None, sum_by, refl, sym, ap, subst, arith}
-use Rattle.std.specs.Prelude.{count_by, slice_index_or, fold, zip, unwrap_or, is_some, IsSome, IfSome}
-use Rattle.std.specs.List.{All, range_with_len, list_all}
+use Rattle.std.proofs.Common.{◌≡◌, ◌∙◌, ℕ, suc, ◌+◌, ◌*◌, Bool, true, false, not, ◌&&◌, cond, List, [], ◌∷◌, length, map, Option, Some, None, sum_by, refl, sym, ap, arith}
+use Rattle.std.specs.Prelude.{count_by, slice_index_or, fold, zip}
+use Rattle.std.specs.List.{range_with_len, list_all}
 use native.Mathlib.Nat.{mul-add, mul-zero}
 use Rattle.std.proofs.lemmas.List.Folds.{list_all-map}
-use Rattle.std.proofs.lemmas.List.Sums.{sum_by-cons, sum_by-append, sum_by_push, sum_by-le, count_by-le-length}
-use Rattle.p3_formula.specs.Conditions.{IsWithinLimits}
+use Rattle.std.proofs.lemmas.List.Sums.{sum_by-cons}
 use Rattle.p3_formula.specs.Forms.{State, truth}
-use Rattle.p3_formula.specs.GroundPlans.{GroundPlan, step_of, state_by, visited_from, ground_visited, ground_moves, is_numbered, false_prefs, ground_violated, cost_by, ground_cost, ground_loss}
+use Rattle.p3_formula.specs.GroundPlans.{GroundPlan, step_of, state_by, visited_from, ground_visited, is_numbered, false_prefs, ground_violated, cost_by, ground_cost, ground_loss}
 use Rattle.p3_formula.specs.GroundSat.{ground_sat}
-use Rattle.p3_formula.specs.Weighted.{HasNameBelow, AreNamedBelow, named_weight, weighted_cost}
+use Rattle.p3_formula.specs.Weighted.{AreNamedBelow, named_weight, weighted_cost}
 use Rattle.p3_formula.specs.declared.modal.GroundModal.{GroundModal}
 use Rattle.p3_formula.specs.declared.modal.GroundPref.{GroundPref}
 use Rattle.p3_formula.specs.declared.modal.GroundSoft.{GroundSoft}
@@ -21,7 +20,7 @@ use Rattle.p3_run.specs.Groups.{Watch, accepts, is_met, watch_of, watches_of, vi
 use Rattle.p3_run.specs.Stages.{stage_of}
 use Rattle.p3_run.specs.Steps.{added_if, false_weight, counted_step, step_weight, prefs_violated, steps_weight}
 use Rattle.p3_run.specs.Tallies.{Counted, added, IsTally}
-use Rattle.p3_run.proofs.TallyLaws.{one_of, add_law, tally_like}
+use Rattle.p3_run.proofs.TallyLaws.{add_law, tally_like}
 
 -- ---- sums
 
@@ -60,7 +59,7 @@ module _ (G : GroundTask) (W : List State) where
       let a = sum_by-cons f (watch_of W None G.hard) softs in
       let b = sum_mapped f (λ (soft : GroundSoft). watch_of W soft.name soft.parts) G.soft in
       let c = sum_same (λ (soft : GroundSoft). cond {A = ℕ} (is_numbered name soft.name && not (is_met (map (stage_of W) soft.parts))) 1 0) (λ (soft : GroundSoft). cond {A = ℕ} (is_numbered name soft.name && bad soft) 1 0) G.soft
-          (λ soft. ap (λ b. cond {A = ℕ} (is_numbered name soft.name && not b) 1 0) (met_is soft.parts)) in
+      (λ soft. ap (λ b. cond {A = ℕ} (is_numbered name soft.name && not b) 1 0) (met_is soft.parts)) in
       omega (arith, a, b, c)
 
   none_weighs : (b : Bool) → ◌≡◌ {A = ℕ} (cond b 0 0) 0
@@ -76,7 +75,7 @@ module _ (G : GroundTask) (W : List State) where
       let n = none_weighs (not (is_met (map (stage_of W) G.hard))) in
       let b = sum_mapped f (λ (soft : GroundSoft). watch_of W soft.name soft.parts) G.soft in
       let c = sum_same (λ (soft : GroundSoft). cond (not (is_met (map (stage_of W) soft.parts))) (named_weight by_name soft.name) 0) (λ (soft : GroundSoft). cond (bad soft) (named_weight by_name soft.name) 0) G.soft
-          (λ soft. ap (λ b. cond (not b) (named_weight by_name soft.name) 0) (met_is soft.parts)) in
+      (λ soft. ap (λ b. cond (not b) (named_weight by_name soft.name) 0) (met_is soft.parts)) in
       let d = loss_by_instances (λ (soft : GroundSoft). soft.name) bad by_name G.soft in
       omega (arith, a, n, b, c, d)
 
@@ -144,11 +143,11 @@ module _ (G : GroundTask) (weights : Weights) where
       let costs = sum_by-cons (λ n. cost_by (step_of G n)) number plan in
       let moves = sum_by-cons (λ (move : State × ℕ). step_weight move.0 weights (step_of G move.1)) (state, number) rest in
       let prefs : (name : ℕ) → prefs_from state (number ∷ plan) name ≡ false_prefs state name (step_of G number) + prefs_from (state_by state (step_of G number)) plan name =
-          λ name. sum_by-cons (λ (move : State × ℕ). false_prefs move.0 name (step_of G move.1)) (state, number) rest in
+      λ name. sum_by-cons (λ (move : State × ℕ). false_prefs move.0 name (step_of G move.1)) (state, number) rest in
       let parted =
-          sum_same (λ name. weight name * prefs_from state (number ∷ plan) name) (λ name. weight name * false_prefs state name (step_of G number) + weight name * prefs_from (state_by state (step_of G number)) plan name) names
-          (λ name. ap (λ n. weight name * n) (prefs name) ∙ mul-add (weight name) (false_prefs state name (step_of G number)) (prefs_from (state_by state (step_of G number)) plan name))
-          ∙ sum_of_sums (λ name. weight name * false_prefs state name (step_of G number)) (λ name. weight name * prefs_from (state_by state (step_of G number)) plan name) names in
+      sum_same (λ name. weight name * prefs_from state (number ∷ plan) name) (λ name. weight name * false_prefs state name (step_of G number) + weight name * prefs_from (state_by state (step_of G number)) plan name) names
+      (λ name. ap (λ n. weight name * n) (prefs name) ∙ mul-add (weight name) (false_prefs state name (step_of G number)) (prefs_from (state_by state (step_of G number)) plan name))
+      ∙ sum_of_sums (λ name. weight name * false_prefs state name (step_of G number)) (λ name. weight name * prefs_from (state_by state (step_of G number)) plan name) names in
       let spread = ap (λ n. weights.total_cost * n) costs ∙ mul-add weights.total_cost (cost_by (step_of G number)) (sum_by (λ n. cost_by (step_of G n)) plan) in
       let here = one_step state (step_of G number) in
       let later = steps_loss (state_by state (step_of G number)) plan in
@@ -161,9 +160,9 @@ module _ (G : GroundTask) (weights : Weights) where
       let W = ground_visited G plan in
       let counts : ℕ → ℕ = λ name. count_by (λ (soft : GroundSoft). is_numbered name soft.name && not (list_all (ground_sat W) soft.parts)) G.soft in
       let parted =
-          sum_same (λ name. weight name * (counts name + prefs_from G.initial plan name)) (λ name. weight name * counts name + weight name * prefs_from G.initial plan name) names
-          (λ name. mul-add (weight name) (counts name) (prefs_from G.initial plan name))
-          ∙ sum_of_sums (λ name. weight name * counts name) (λ name. weight name * prefs_from G.initial plan name) names in
+      sum_same (λ name. weight name * (counts name + prefs_from G.initial plan name)) (λ name. weight name * counts name + weight name * prefs_from G.initial plan name) names
+      (λ name. mul-add (weight name) (counts name) (prefs_from G.initial plan name))
+      ∙ sum_of_sums (λ name. weight name * counts name) (λ name. weight name * prefs_from G.initial plan name) names in
       let soft = violating_weight_is G W by_name in
       let steps = steps_loss G.initial plan in
       omega (arith, parted, soft, steps)

@@ -1,6 +1,6 @@
 -- Counters stay right of one violation more or less, and of a group that is replaced.
-use Rattle.std.proofs.Common.{◌≡◌, ◌∙◌, ◌≢◌, ℕ, zero, suc, ◌+◌, ◌-◌, ◌*◌, ◌^◌, ◌<◌, ◌≤◌, ◌==◌, Bool, true, false, not, ◌&&◌, cond, List, [], ◌∷◌, ◌++◌, length, get_or, Option, Some, None, sum_by, Fits, w64, refl, sym, ap, subst, arith, length-set}
-use Rattle.std.specs.Prelude.{slice_set, slice_index_or, count_by, replicate, IsSome}
+use Rattle.std.proofs.Common.{◌≡◌, ◌∙◌, ℕ, ◌+◌, ◌-◌, ◌*◌, ◌^◌, ◌<◌, ◌≤◌, ◌==◌, Bool, true, false, not, ◌&&◌, cond, List, [], ◌∷◌, ◌++◌, length, get_or, Option, Some, None, Fits, w64, refl, sym, ap, arith, length-set}
+use Rattle.std.specs.Prelude.{slice_set, replicate, IsSome}
 use Rattle.std.specs.List.{All}
 use Rattle.std.proofs.Math.Bool.{and-true}
 use Rattle.std.proofs.lemmas.Grind.{get_or_default_zero}
@@ -12,7 +12,7 @@ use Rattle.std.proofs.Math.ListN.{get_or-eq_default}
 use mathlib.Core.Logic.{◌⊎◌, inl, inr}
 use Rattle.p3_formula.specs.GroundPlans.{is_numbered}
 use Rattle.p3_formula.specs.Weighted.{HasNameBelow, named_weight}
-use Rattle.p3_run.specs.Groups.{Watch, is_met, watch_at, violating, violating_weight, IsCounted, AreNamedBelow}
+use Rattle.p3_run.specs.Groups.{Watch, is_met, watch_at, violating, violating_weight, IsCounted}
 use Rattle.p3_run.specs.Tallies.{Counted, added, removed, recounted, count_at, CanAdd, CanRemove, IsTally}
 
 and-false : (b : Bool) → (b && false) ≡ false
@@ -94,7 +94,7 @@ module _ (by_name : List ℕ) where
   -- ---- no sum of the groups leaves its limits
 
   module _ (small : All (λ w. w < 2 ^ 64) by_name) where
-    named_small : (name : Option ℕ) → named_weight by_name name ≤ 2 ^ 64
+    pub named_small : (name : Option ℕ) → named_weight by_name name ≤ 2 ^ 64
     named_small None = omega arith
     named_small (Some m) = by (cases_lt m (length by_name)) where
       by : (m < length by_name) ⊎ (length by_name ≤ m) → get_or by_name m 0 ≤ 2 ^ 64

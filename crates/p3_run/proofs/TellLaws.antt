@@ -1,27 +1,23 @@
 -- What a run keeps tells what its steps come to, and one step more keeps it so.
-use Rattle.std.proofs.Common.{◌≡◌, ◌∙◌, ℕ, zero, suc, ◌+◌, ◌*◌, ◌^◌, ◌<◌, ◌≤◌, nat_lt, Bool, true, false, not, ◌&&◌, cond, if◌then◌else◌, List, [], ◌∷◌, ◌++◌, length, map, get_or, take, Option, Some, None, sum_by, refl, sym, ap, subst, arith, pos, ◌+ℤ◌, length-set}
-use Rattle.std.specs.Prelude.{position, replicate, slice_set, zip, IsTrue}
-use Rattle.std.specs.List.{All, position_or_len, prefix_len, list_all}
+use Rattle.std.proofs.Common.{◌≡◌, ◌∙◌, ℕ, ◌+◌, ◌*◌, ◌^◌, ◌<◌, ◌≤◌, nat_lt, Bool, true, false, not, cond, if◌then◌else◌, List, [], ◌∷◌, ◌++◌, length, map, get_or, take, Option, Some, None, sum_by, refl, sym, ap, subst, arith, pos, ◌+ℤ◌, length-set}
+use Rattle.std.specs.Prelude.{position, replicate, slice_set, zip}
+use Rattle.std.specs.List.{All, prefix_len, list_all}
 use Rattle.std.proofs.lemmas.List.{length-take-le, take_more_set, length-replicate, get_or-replicate, length-map}
 use Rattle.p3_formula.specs.Forms.{State, truth, IsBelow}
 use Rattle.p3_formula.specs.GroundPlans.{GroundPlan, step_of, ground_visited, ground_moves, ground_cost, ground_violated, ground_loss, ground_fits, false_prefs}
-use Rattle.p3_formula.specs.GroundSat.{ground_sat}
 use Rattle.p3_formula.specs.Next.{after}
-use Rattle.p3_formula.specs.declared.modal.GroundModal.{GroundModal}
 use Rattle.p3_formula.specs.declared.target.Weights.{Weights}
 use Rattle.p3_formula.specs.declared.task.GroundStep.{GroundStep}
 use Rattle.p3_formula.specs.declared.task.GroundTask.{GroundTask}
-use Rattle.p3_formula.proofs.NextLaws.{length-after}
 use Rattle.p3_run.specs.Changing.{touched}
-use Rattle.p3_run.specs.Groups.{Watch, rejects, watches_of, watch_at, modals_of, renewed_all, IsCounted, AreNamedBelow, CanRenew, violating, violating_weight}
+use Rattle.p3_run.specs.Groups.{Watch, rejects, watches_of, watch_at, renewed_all, IsCounted, AreNamedBelow, CanRenew, violating, violating_weight}
 use Rattle.p3_run.specs.Kept.{CanRun, HasRun, IsRunOf, HasChangesUpTo}
 use Rattle.p3_run.specs.Readers.{AreReaders}
-use Rattle.p3_run.specs.Runs.{CanBeRun, most_steps, most_prefs, ground_state, ground_fit, ground_verdict, ground_total, ground_metric, signed_by, first_unmet, unmet_by}
+use Rattle.p3_run.specs.Runs.{CanBeRun, most_steps, ground_state, ground_fit, ground_verdict, ground_total, ground_metric, signed_by, first_unmet, unmet_by}
 use Rattle.p3_run.specs.Stages.{stage_of}
 use Rattle.p3_run.specs.Steps.{counted_step, step_weight, prefs_violated, steps_weight, HasRoom, IsByNumber}
 use Rattle.p3_run.specs.Tallies.{Counted, IsTally}
-use Rattle.p3_run.specs.declared.answers.Verdict.{Verdict}
-use Rattle.p3_run.specs.declared.answers.Verdict.TheVariants.{Valid, Goal, Unmet}
+use Rattle.p3_run.specs.declared.answers.Verdict.TheVariants.{Goal}
 use Rattle.p3_run.specs.declared.changing.Found.{Found}
 use Rattle.p3_run.specs.declared.readers.Reader.{Reader}
 use Rattle.p3_run.proofs.FindLaws.{by_number}

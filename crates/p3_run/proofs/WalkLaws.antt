@@ -1,5 +1,5 @@
 -- One step more: the states that are visited, the moves, and the state that the steps lead to.
-use Rattle.std.proofs.Common.{◌≡◌, ◌∙◌, ℕ, ◌+◌, ◌≤◌, List, [], ◌∷◌, ◌++◌, length, refl, sym, ap, arith}
+use Rattle.std.proofs.Common.{◌≡◌, ◌∙◌, ℕ, List, [], ◌∷◌, ◌++◌, length, refl, sym, ap, arith}
 use Rattle.std.specs.Prelude.{zip}
 use Rattle.p3_formula.specs.Forms.{State}
 use Rattle.p3_formula.specs.GroundPlans.{GroundPlan, step_of, state_by, visited_from, ground_visited, ground_moves, last_of}

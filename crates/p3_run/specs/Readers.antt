@@ -1,5 +1,5 @@
 -- Which operators read an atom: for each atom a list of them.
-use Rattle.std.specs.Prelude.{◌≡◌, ℕ, ◌+◌, ◌<◌, ◌==◌, Bool, true, ◌&&◌, ◌⊎◌, List, [], ◌∷◌, ◌++◌, length, slice_index_or, slice_set, fold}
+use Rattle.std.specs.Prelude.{◌≡◌, ℕ, ◌-◌, ◌<◌, ◌==◌, Bool, true, false, if◌then◌else◌, ◌&&◌, ◌⊎◌, List, [], ◌∷◌, ◌++◌, length, slice_get, slice_index_or, slice_set, fold, Option, Some, None}
 use Rattle.std.specs.List.{All, flat_map, list_any}
 use Rattle.p3_formula.specs.Folds.{fold_form}
 use Rattle.p3_formula.specs.Modals.{forms_of, is_read}
@@ -32,15 +32,27 @@ modal_atoms modal = flat_map atoms_of (forms_of modal)
 abbrev pub readers_at : List (List Reader) → ℕ → List Reader
 readers_at readers atom = slice_index_or readers atom []
 
+abbrev pub is_same : Reader → Reader → Bool
+is_same reader other = (other.group == reader.group) && (other.place == reader.place)
+
+abbrev pub is_same_by : Reader → Option Reader → Bool
+is_same_by reader None = false
+is_same_by reader (Some other) = is_same reader other
+
+-- it is the last of those
+abbrev pub ends : Reader → List Reader → Bool
+ends reader those = is_same_by reader (slice_get those (length those - 1))
+
+-- it stands behind them, once
+abbrev pub with_reader : Reader → List Reader → List Reader
+with_reader reader those = if ends reader those then those else those ++ reader ∷ []
+
 -- it reads the atom, too
 abbrev pub filed : Reader → List (List Reader) → ℕ → List (List Reader)
-filed reader readers atom = slice_set readers atom (readers_at readers atom ++ reader ∷ [])
+filed reader readers atom = slice_set readers atom (with_reader reader (readers_at readers atom))
 
 abbrev pub filed_all : Reader → List (List Reader) → List ℕ → List (List Reader)
 filed_all reader readers atoms = fold (filed reader) readers atoms
-
-abbrev pub is_same : Reader → Reader → Bool
-is_same reader other = (other.group == reader.group) && (other.place == reader.place)
 
 -- it stands with each atom that it reads
 abbrev pub IsFiled : GroundTask → List (List Reader) → Reader → Type 0

@@ -1,5 +1,5 @@
 -- What is kept of the states visited so far for one operator, one state after another.
-use Rattle.std.specs.Prelude.{ℕ, Bool, true, false, not, ◌&&◌, ◌||◌, List, length}
+use Rattle.std.specs.Prelude.{Bool, true, false, not, ◌&&◌, ◌||◌, List, length}
 use Rattle.p3_base.specs.Trajectories.{some}
 use Rattle.p3_formula.specs.Forms.{State, truth}
 use Rattle.p3_formula.specs.GroundPlans.{last_of}

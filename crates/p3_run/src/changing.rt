@@ -132,7 +132,7 @@ pub(crate) fn follow(
     ensures groups { (before : State)
         → take (length effects.now) all.now ≡ map (found_in before) effects.now
         → groups.new.items ≡ renewed_all task.now state.now groups.old.items
-            (touched readers.now before state.now effects.now) }
+        (touched readers.now before state.now effects.now) }
     ensures can { CanRenew task.now by_name.now state.now groups.new.items tally.new }
 {
     for place in 0..effects.len() {

@@ -90,10 +90,14 @@ impl Group {
         self.unmet = unmet_after(self.unmet, stage.accepts, later.accepts);
     }
 
-    /// The least place of an operator that is not satisfied.
+    /// The least place of an operator that is not satisfied. Where there is none, none is sought.
+    #[tactic(auto, using(crate::proofs::UnmetLaws::none_unmet))]
     pub(crate) fn first_unmet(&self) -> Option<usize>
         ensures { result ≡ position watched.rejects self.now.stages }
     {
+        if self.unmet == 0 {
+            return None;
+        }
         self.stages.iter().position(|stage| !stage.accepts)
     }
 }
@@ -219,11 +223,7 @@ pub(crate) fn renew_all(
 }
 
 /// The counters of groups.
-pub(crate) fn tally_of(
-    alloc: Global,
-    by_name: &[u64],
-    groups: &[Group],
-) -> Result<Tally, NoMemory>
+pub(crate) fn tally_of(alloc: Global, by_name: &[u64], groups: &[Group]) -> Result<Tally, NoMemory>
     requires named { AreNamedBelow (length by_name.now) groups.now }
     requires few { length groups.now ≤ 100001 }
     ensures { IfOk result (IsCounted by_name.now groups.now) }

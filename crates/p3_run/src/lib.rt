@@ -2,6 +2,8 @@
 #![tactic(auto)]
 
 mod answers;
+#[cfg(test)]
+mod cases;
 mod changing;
 mod finding;
 mod groups;

@@ -3,7 +3,7 @@
 ghost use Rattle.std.specs.Prelude.{◌≡◌, ◌+◌, ◌<◌, ◌≤◌, length, replicate, [], IfOk, OnOk};
 ghost use Rattle.p3_formula.specs.Conditions.{HasAtomsBelow};
 ghost use Rattle.p3_run.specs.Groups.{modals_of};
-ghost use Rattle.p3_run.specs.Readers.{atoms_of, modal_atoms, filed, filed_all, AreFiledTo, AreReaders};
+ghost use Rattle.p3_run.specs.Readers.{atoms_of, modal_atoms, ends, with_reader, filed, filed_all, AreFiledTo, AreReaders};
 ghost use Rattle.std.specs.List.{flat_map};
 
 use crate::modals::{group_count, modals_at};
@@ -20,17 +20,33 @@ pub(crate) struct Reader {
     pub(crate) place: usize,
 }
 
+/// Whether the operator is the last of those.
+fn ends(those: &[Reader], reader: Reader) -> bool
+    ensures { result ≡ ends reader those.now }
+{
+    match those.last() {
+        Some(last) => last.group == reader.group && last.place == reader.place,
+        None => false,
+    }
+}
+
+/// The operator stands behind those, once however often it reads an atom.
+fn push_once(those: &mut List<Reader>, reader: Reader) -> Result<(), NoMemory>
+    ensures { OnOk result (those.new ≡ with_reader reader those.old) }
+{
+    if !ends(those.items(), reader) {
+        those.push(reader)?;
+    }
+    Ok(())
+}
+
 /// The operator reads the atom, where there is one of that number.
-fn push_atom(
-    readers: &mut Vec<List<Reader>>,
-    atom: usize,
-    reader: Reader,
-) -> Result<(), NoMemory>
+fn push_atom(readers: &mut Vec<List<Reader>>, atom: usize, reader: Reader) -> Result<(), NoMemory>
     ensures { OnOk result (readers.new.items ≡ filed reader readers.old.items atom) }
 {
     if atom < readers.len() {
         let those = &mut readers[atom];
-        those.push(reader)?;
+        push_once(those, reader)?;
     }
     Ok(())
 }
@@ -38,11 +54,7 @@ fn push_atom(
 /// The operator reads the atoms of the form.
 #[cycle(atoms)]
 #[tactic(auto, using(crate::proofs::AtomLists::atoms_of_laws))]
-fn push_form(
-    readers: &mut Vec<List<Reader>>,
-    form: &Form,
-    reader: Reader,
-) -> Result<(), NoMemory>
+fn push_form(readers: &mut Vec<List<Reader>>, form: &Form, reader: Reader) -> Result<(), NoMemory>
     ensures { OnOk result
         (readers.new.items ≡ filed_all reader readers.old.items (atoms_of form.now)) }
 {

@@ -26,14 +26,22 @@ use std::marker::Model;
 pub struct GroundRun<'a> {
     task: &'a GroundTask,
     weights: &'a Weights,
+    // For each atom the operators that read it.
     readers: Vec<List<Reader>>,
+    // Room for what the changes of a step find.
     found: Vec<Found>,
+    // The numbers of the steps done, of which there are so many, and room for all others.
     done: Vec<u32>,
     count: usize,
+    // The state that they lead to.
     state: Bits,
+    // The operators of the hard constraints, and behind them those of each instance.
     groups: Vec<Group>,
+    // The instances that are not satisfied.
     soft: Tally,
+    // The preferences of steps that were false, with the weighted costs of the steps.
     prefs: Tally,
+    // What the steps cost.
     cost: u128,
 }
 
@@ -56,7 +64,9 @@ impl<'a> Model for GroundRun<'a> {
       plan = take run.count run.done.items;
     } };
 
-    ghost invariant = { λ run. IsRunOf run.task.now run.weights.now run.readers.items run.found.items run.done.items run.count run.state run.groups.items run.soft run.prefs run.cost };
+    ghost invariant = { λ run. IsRunOf run.task.now run.weights.now run.readers.items
+        run.found.items run.done.items run.count run.state run.groups.items
+        run.soft run.prefs run.cost };
 }
 
 impl<'a> GroundRun<'a> {

@@ -52,10 +52,14 @@ pub(crate) fn next(modal: &GroundModal, state: &Bits, stage: Stage) -> Stage
         GroundModal::Always(form) => accepting(stage.accepts && eval(form, state)),
         GroundModal::Sometime(form) => accepting(stage.accepts || eval(form, state)),
         GroundModal::AtMostOnce(form) => next_once(eval(form, state), stage),
-        GroundModal::SometimeAfter(first, second) =>
-            accepting(eval(second, state) || stage.accepts && !eval(first, state)),
-        GroundModal::SometimeBefore(first, second) =>
-            next_before(eval(first, state), eval(second, state), stage),
+        GroundModal::SometimeAfter(first, second) => accepting(
+            eval(second, state) || stage.accepts && !eval(first, state),
+        ),
+        GroundModal::SometimeBefore(first, second) => next_before(
+            eval(first, state),
+            eval(second, state),
+            stage,
+        ),
     }
 }
 

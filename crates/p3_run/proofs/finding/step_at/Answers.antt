@@ -1,4 +1,4 @@
-use Rattle.std.proofs.Common.{rules, ◌≡◌, ◌∙◌, ◌<◌, ◌==◌, nat_lt, true, false, length, get_or, sym, ap, arith}
+use Rattle.std.proofs.Common.{rules, ◌≡◌, ◌∙◌, ◌<◌, ◌==◌, nat_lt, false, length, get_or, sym, ap, arith}
 use Rattle.std.proofs.lemmas.Bool.{eq-eqb, ne_eqb}
 use Rattle.std.proofs.lemmas.List.{get_or_default}
 use Rattle.std.proofs.lemmas.List.Sorted.{IsPartitionPoint-from_clause, IsPartitionedBy-ltb}
@@ -15,7 +15,7 @@ returns-then-steps-place c =
     let step : GroundStep = c.index-steps-place-then-steps-place.result in
     let within : place < length steps = c.if-place-steps.true in
     let same : step.number ≡ number =
-        ap (λ (one : GroundStep). one.number) (c.index-steps-place-then-steps-place.is ∙ get_or_default steps place step c.index-steps-place.result within) ∙ c.if-steps-place.true in
+    ap (λ (one : GroundStep). one.number) (c.index-steps-place-then-steps-place.is ∙ get_or_default steps place step c.index-steps-place.result within) ∙ c.if-steps-place.true in
     sym (found_there steps number place c.requires
     (IsPartitionPoint-from_clause (λ (one : GroundStep). nat_lt one.number number) steps place c.partition_point-place.ensures.partitioned (IsPartitionedBy-ltb (λ (one : GroundStep). one.number) steps number c.requires) (λ a r f' k. search rules))
     c.partition_point-place.ensures.bound step within c.index-steps-place-then-steps-place.is (eq-eqb step.number number same))
@@ -30,8 +30,8 @@ returns-else-place-steps c =
     c.partition_point-place.ensures.bound
     (λ d within.
     elim c.else-place-steps.branch as (λ branch. ((get_or steps place d).number == number) ≡ false) [
-      else-place-steps-via-then-place-steps+else-steps-place w ↦
+      | else-place-steps-via-then-place-steps+else-steps-place w ↦
           ne_eqb (get_or steps place d).number number
           (λ e. w.if-steps-place.false (ap (λ (one : GroundStep). one.number) (get_or_default steps place w.index-steps-place.result d within) ∙ e))
-    | else-place-steps-via-else-place-steps w ↦ absurd (omega (arith, within, w.if-place-steps.false))
+      | else-place-steps-via-else-place-steps w ↦ absurd (omega (arith, within, w.if-place-steps.false))
     ]))

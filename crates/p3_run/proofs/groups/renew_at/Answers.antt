@@ -1,10 +1,9 @@
-use Rattle.std.proofs.Common.{◌≡◌, ◌∙◌, ◌<◌, ◌^◌, List, Bool, Option, ℕ, length, get_or, true, false, sym, ap, subst, arith}
-use Rattle.std.specs.List.{All}
+use Rattle.std.proofs.Common.{◌≡◌, ◌∙◌, List, Option, ℕ, length, sym, ap, subst}
 use Rattle.p3_formula.specs.Modals.{IsModalBelow}
 use Rattle.p3_formula.specs.declared.modal.GroundModal.{GroundModal}
 use Rattle.p3_run.specs.Groups.{Watch, is_met, modal_at, watch_at, later, put_renewed, renewed_at, CanRenew}
-use Rattle.p3_run.specs.Tallies.{Counted, recounted, CanAdd, CanRemove}
-use Rattle.p3_run.proofs.RenewLaws.{reader_below, add_fits, remove_fits, renews}
+use Rattle.p3_run.specs.Tallies.{Counted, recounted, CanAdd}
+use Rattle.p3_run.proofs.RenewLaws.{reader_below, add_fits, renews}
 use Rattle.p3_run.proofs.TallyLaws.{small_items}
 use Rattle.p3_run.proofs.groups.renew_at.Goals as goal
 
@@ -40,7 +39,7 @@ returns-clause-can c =
     let is_is = c.turned-turn.ensures.is ∙ ap (λ (modal : GroundModal). is_met (later modal state watches reader).stages) modal_is in
     let groups_are = c.turned-turn.ensures.groups ∙ ap (λ (modal : GroundModal). put_renewed modal state watches reader) modal_is in
     let tally_is : c.recount.new.tally ≡ recounted by_name (watch_at watches reader.group).name (is_met (watch_at watches reader.group).stages) (is_met (later (modal_at G reader) state watches reader).stages) tally =
-        c.recount.ensures ∙ (λ i. recounted by_name (c.turned-turn.ensures.name i) (c.turned-turn.ensures.was i) (is_is i) tally) in
+    c.recount.ensures ∙ (λ i. recounted by_name (c.turned-turn.ensures.name i) (c.turned-turn.ensures.was i) (is_is i) tally) in
     subst (λ (list : List Watch). CanRenew G by_name state list c.recount.new.tally) (sym groups_are)
     (subst (λ (one : Counted). CanRenew G by_name state (renewed_at G state watches reader) one) (sym tally_is)
     (renews G by_name state watches tally c.requires.can reader c.requires.reader))

@@ -1,10 +1,8 @@
-use Rattle.std.proofs.Common.{◌≡◌, ◌∙◌, ◌+◌, ◌-◌, ◌≤◌, List, ℕ, length, take, get_or, sym, ap, subst, arith}
-use Rattle.std.specs.Prelude.{fold}
+use Rattle.std.proofs.Common.{◌∙◌, ◌+◌, ◌-◌, ◌≤◌, length, sym, subst, arith}
 use Rattle.std.proofs.lemmas.List.Sums.{fold_more}
 use Rattle.p3_formula.specs.Weighted.{HasNameBelow}
 use Rattle.p3_formula.specs.declared.modal.GroundPref.{GroundPref}
 use Rattle.p3_run.specs.Steps.{added_if, HasRoom}
-use Rattle.p3_run.specs.Tallies.{Counted}
 use Rattle.p3_run.proofs.RoomLaws.{room_added_if, less_room}
 use Rattle.p3_run.proofs.TallyLaws.{small_items}
 use Rattle.p3_run.proofs.preferring.count_all.Goals as goal

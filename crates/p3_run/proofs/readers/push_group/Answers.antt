@@ -19,7 +19,7 @@ loop-place-preserved c =
     let are : modals ≡ modals_at G c.args.group = c.modals_at-modals.ensures in
     let is : IsReader G reader = record { group = c.requires.within; place = subst (λ (list : List GroundModal). place < length list) are c.loop-place-test.true } in
     let one : c.index-modals-place.result ≡ modal_at G reader =
-        c.index-modals-place.is ∙ get_or_default modals place c.index-modals-place.result (AtEnd True) c.loop-place-test.true
-        ∙ ap (λ (list : List GroundModal). get_or list place (AtEnd True)) are in
+    c.index-modals-place.is ∙ get_or_default modals place c.index-modals-place.result (AtEnd True) c.loop-place-test.true
+    ∙ ap (λ (list : List GroundModal). get_or list place (AtEnd True)) are in
     subst (AreFiledTo G c.args.group (place + 1)) (sym (c.in_ok-push_modal.ensures ∙ ap (λ (modal : GroundModal). filed_all reader readers (modal_atoms modal)) one))
     (filed_one G c.requires.below readers reader is c.loop-place.invariant)

@@ -1,4 +1,4 @@
-use Rattle.std.proofs.Common.{◌≤◌, length, arith}
+use Rattle.std.proofs.Common.{arith}
 use Rattle.p3_run.proofs.RunLaws.{changes_more}
 use Rattle.p3_run.proofs.running.most_changes.Goals as goal
 

@@ -1,9 +1,7 @@
-use Rattle.std.proofs.Common.{◌≡◌, ◌∙◌, ◌<◌, Option, Some, None, length, get_or, false, true, sym, ap, subst}
-use Rattle.std.specs.Prelude.{position}
+use Rattle.std.proofs.Common.{◌≡◌, ◌∙◌, Some, None, sym, subst}
 use Rattle.std.proofs.lemmas.List.{get_or_default}
-use Rattle.p3_run.specs.Groups.{Watch, rejects, watch_at}
-use Rattle.p3_run.specs.Runs.{Ran, ground_verdict, unmet_by}
-use Rattle.p3_run.specs.declared.answers.Verdict.{Verdict}
+use Rattle.p3_run.specs.Groups.{Watch, watch_at}
+use Rattle.p3_run.specs.Runs.{Ran, ground_verdict}
 use Rattle.p3_run.specs.declared.answers.Verdict.TheVariants.{Valid, Goal, Unmet}
 use Rattle.p3_run.proofs.TellLaws.{goal_below, goal_fails, goal_holds, some_group}
 use Rattle.p3_run.proofs.running.GroundRun.finish.Goals as goal

@@ -1,10 +1,9 @@
-use Rattle.std.proofs.Common.{◌≡◌, ◌∙◌, ◌<◌, ◌≤◌, ◌^◌, List, ℕ, length, sym, ap, subst, arith}
+use Rattle.std.proofs.Common.{◌∙◌, ◌<◌, ◌^◌, List, ℕ, length, sym, ap, subst, arith}
 use Rattle.std.specs.Prelude.{replicate}
 use Rattle.std.specs.List.{All}
 use Rattle.p3_formula.specs.declared.task.GroundStep.{GroundStep}
-use Rattle.p3_run.specs.Groups.{Watch, AreNamedBelow, IsCounted, watches_of}
+use Rattle.p3_run.specs.Groups.{Watch, AreNamedBelow, IsCounted}
 use Rattle.p3_run.specs.Kept.{HasChangesUpTo}
-use Rattle.p3_run.specs.Runs.{most_steps}
 use Rattle.p3_run.proofs.TellLaws.{first_named, first_few, first_run}
 use Rattle.p3_run.proofs.running.GroundRun.open.Goals as goal
 

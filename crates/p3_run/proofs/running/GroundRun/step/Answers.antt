@@ -1,10 +1,9 @@
-use Rattle.std.proofs.Common.{◌≡◌, ◌∙◌, ◌+◌, ◌<◌, ◌≤◌, ◌^◌, List, ℕ, Option, Some, None, length, map, take, false, true, sym, ap, subst, arith}
+use Rattle.std.proofs.Common.{◌≡◌, ◌∙◌, ◌<◌, ◌≤◌, List, ℕ, Some, length, map, take, sym, ap, subst, arith}
 use Rattle.std.specs.Prelude.{IsTrue}
 use Rattle.std.specs.List.{All, list_all}
-use Rattle.p3_formula.specs.Forms.{State, IsBelow, truth}
+use Rattle.p3_formula.specs.Forms.{IsBelow}
 use Rattle.p3_formula.specs.GroundPlans.{step_of}
 use Rattle.p3_formula.specs.Targets.{is_sized_change}
-use Rattle.p3_formula.specs.Weighted.{AreNamedBelow}
 use Rattle.p3_formula.specs.declared.task.GroundStep.{GroundStep}
 use Rattle.p3_formula.specs.Next.{after}
 use Rattle.p3_formula.specs.declared.form.Change.{Change}
@@ -12,7 +11,7 @@ use Rattle.p3_formula.proofs.NextLaws.{length-after}
 use Rattle.p3_run.specs.Changing.{found_in, touched}
 use Rattle.p3_run.specs.Groups.{CanRenew, renewed_all}
 use Rattle.p3_run.specs.Runs.{Ran, most_steps}
-use Rattle.p3_run.specs.Steps.{IsByNumber, HasBodyBelow, HasRoom, numbered_step}
+use Rattle.p3_run.specs.Steps.{IsByNumber, HasBodyBelow, numbered_step}
 use Rattle.p3_run.proofs.RunLaws.{pre_below, bodies_below, effects_sized, prefs_named, light_cost, small_cost}
 use Rattle.p3_run.proofs.TellLaws.{bits, steps_by_number, room_for_prefs, room_for_changes, can_renew, cheap, count_is, one_more}
 use Rattle.p3_run.proofs.running.GroundRun.step.Goals as goal
@@ -71,7 +70,7 @@ pub follow-requires-clause-can : goal.follow-requires-clause-can
 follow-requires-clause-can c =
     let inside = c.self.inside in
     let long : length c.change_state.new.state ≡ inside.task.now.atoms =
-        ap length c.change_state.ensures.state ∙ length-after inside.state c.items-effects.result.now ∙ bits _ _ _ _ _ _ _ _ _ _ _ c.self.invariant in
+    ap length c.change_state.ensures.state ∙ length-after inside.state c.items-effects.result.now ∙ bits _ _ _ _ _ _ _ _ _ _ _ c.self.invariant in
     subst (λ (by_name : List ℕ). CanRenew inside.task.now by_name c.change_state.new.state inside.groups.items inside.soft) (sym c.items-2.ensures)
     (can_renew _ _ _ _ _ _ _ _ _ _ _ c.self.invariant c.change_state.new.state long)
 
@@ -80,7 +79,7 @@ follow-requires-clause-sized c =
     let inside = c.self.inside in
     let at : step_of inside.task.now c.args.number ≡ Some c.in-Some.step.now = sym (c.in-Some.ensures ∙ ap (λ (steps : List GroundStep). numbered_step steps c.args.number) c.items.ensures) in
     let long : length c.change_state.new.state ≡ inside.task.now.atoms =
-        ap length c.change_state.ensures.state ∙ length-after inside.state c.items-effects.result.now ∙ bits _ _ _ _ _ _ _ _ _ _ _ c.self.invariant in
+    ap length c.change_state.ensures.state ∙ length-after inside.state c.items-effects.result.now ∙ bits _ _ _ _ _ _ _ _ _ _ _ c.self.invariant in
     subst (λ (effects : List Change). IsTrue (list_all (is_sized_change (length c.change_state.new.state)) effects)) (sym c.items-effects.ensures)
     (subst (λ (n : ℕ). IsTrue (list_all (is_sized_change n) c.in-Some.step.now.effects)) (sym long)
     (effects_sized inside.task.now inside.weights.now c.self.invariant.can.can c.args.number c.in-Some.step.now at))
@@ -101,13 +100,13 @@ invariant_of-self c =
     let effects = c.items-effects.result.now in
     let later = c.change_state.new.state in
     let short : inside.count < most_steps =
-        let l = count_is _ _ _ _ _ _ _ _ _ _ _ c.self.invariant in
-        let v = ap (λ (ran : Ran). length ran.plan) c.self.view_is in
-        omega (arith, l, v, c.requires) in
+    let l = count_is _ _ _ _ _ _ _ _ _ _ _ c.self.invariant in
+    let v = ap (λ (ran : Ran). length ran.plan) c.self.view_is in
+    omega (arith, l, v, c.requires) in
     let are : take (length effects) c.as_slice-2.result.now ≡ map (found_in inside.state) effects = ap (take (length effects)) c.as_slice-2.ensures.value ∙ c.change_state.ensures.found in
     let followed : c.follow.new.groups.items ≡ renewed_all inside.task.now later inside.groups.items (touched inside.readers.items inside.state later step.effects) =
-        c.follow.ensures.groups inside.state are
-        ∙ (λ i. renewed_all inside.task.now later inside.groups.items (touched (c.as_slice.ensures.value i) inside.state later (c.items-effects.ensures i))) in
+    c.follow.ensures.groups inside.state are
+    ∙ (λ i. renewed_all inside.task.now later inside.groups.items (touched (c.as_slice.ensures.value i) inside.state later (c.items-effects.ensures i))) in
     one_more _ _ _ _ _ _ _ _ _ _ _ c.self.invariant c.args.number step at
     (sym c.eval.ensures ∙ c.if-not-eval.false) c.in-Some-cost.cost c.in-Some-cost.is short
     c.change_state.new.all.items later c.follow.new.groups.items c.follow.new.tally c.count_step.new.tally

@@ -1,7 +1,7 @@
-use Rattle.std.proofs.Common.{◌≡◌, ◌∙◌, ◌+◌, ◌<◌, ◌≤◌, ◌*◌, ◌^◌, pos, to_z, sym, ap, subst, arith}
+use Rattle.std.proofs.Common.{◌≡◌, ◌∙◌, ◌+◌, ◌<◌, ◌^◌, pos, to_z, ap, subst, arith}
 use Rattle.std.proofs.lemmas.Int.{ints}
 use mir.Syntax.{w128}
-use Rattle.p3_run.specs.Runs.{Ran, ground_total, most_steps}
+use Rattle.p3_run.specs.Runs.{Ran, ground_total}
 use Rattle.p3_run.proofs.TellLaws.{cheap, total_is}
 use Rattle.p3_run.proofs.running.GroundRun.total_cost.Goals as goal
 

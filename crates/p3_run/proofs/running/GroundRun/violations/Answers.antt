@@ -1,4 +1,4 @@
-use Rattle.std.proofs.Common.{◌≡◌, ◌∙◌, ◌+◌, ◌<◌, length, sym, ap, subst, arith}
+use Rattle.std.proofs.Common.{◌≡◌, ◌∙◌, ◌+◌, ◌<◌, length, sym, subst, arith}
 use Rattle.p3_formula.specs.GroundPlans.{ground_violated}
 use Rattle.p3_run.specs.Runs.{Ran}
 use Rattle.p3_run.proofs.TellLaws.{few_counts, counts_are}
