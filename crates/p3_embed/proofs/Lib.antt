@@ -1,0 +1,6 @@
+pub mod ActionLists
+pub mod CountingLaws
+pub mod FitLaws
+pub mod TakenLaws
+pub mod Walks
+pub mod WalkLaws
