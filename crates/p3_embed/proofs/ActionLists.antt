@@ -9,7 +9,7 @@ use Rattle.std.proofs.lemmas.List.Elements.{All-contains, filter-append, filter_
 use Rattle.std.proofs.lemmas.List.Sorted.{Contains-permutation, IsPermutation-sym}
 use Rattle.p3_embed.specs.declared.actions.Counted.{Counted}
 use Rattle.p3_embed.specs.Actions.{AreCopies, counted, counted_from, counted_of, is_of}
-use Rattle.p3_embed.proofs.Walks.{head_or_tail, in_none, is_behind, is_head}
+use Rattle.p3_simulation.proofs.Walks.{head_or_tail, in_none, is_behind, is_head}
 
 -- ---- the items with one key, in a list by rising keys
 

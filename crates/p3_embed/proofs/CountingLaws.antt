@@ -77,9 +77,9 @@ parsed E digits (Err fault) plain parses =
 pub numbered : (bytes : List ℕ) (place : ℕ) → IsFirstV bytes place → (number : ℕ) → decimal number ≡ take place bytes → is_numbered number bytes ≡ true
 numbered bytes place first number is =
     let split : bytes ≡ decimal number ++ 118 ∷ drop (suc place) bytes =
-        sym (take-append-drop place bytes)
-        ∙ (λ i. sym is i ++ drop-cons bytes place 0 first.within i)
-        ∙ ap (λ byte. decimal number ++ byte ∷ drop (suc place) bytes) first.here in
+    sym (take-append-drop place bytes)
+    ∙ (λ i. sym is i ++ drop-cons bytes place 0 first.within i)
+    ∙ ap (λ byte. decimal number ++ byte ∷ drop (suc place) bytes) first.here in
     ap (is_numbered number) split ∙ copy_of_own number (drop (suc place) bytes)
 
 -- what begins with a number

@@ -2,5 +2,4 @@ pub mod ActionLists
 pub mod CountingLaws
 pub mod FitLaws
 pub mod TakenLaws
-pub mod Walks
 pub mod WalkLaws

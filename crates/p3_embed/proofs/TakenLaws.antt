@@ -24,7 +24,7 @@ use Rattle.p3_embed.specs.declared.walking.Walk.{Walk}
 use Rattle.p3_embed.specs.Actions.{AreActionsOf, FitsAt, NoneFits}
 use Rattle.p3_embed.specs.Embeds.{CanEmbed, IsEmbedded, IsOnWay, names_at, plan_length}
 use Rattle.p3_embed.specs.Walking.{HasTaken, IsBegun, IsCheap, IsWalk}
-use Rattle.p3_embed.proofs.Walks.{counted, head_or_tail, in_none, names}
+use Rattle.p3_simulation.proofs.Walks.{counted, head_or_tail, in_none, names}
 use Rattle.p3_embed.proofs.WalkLaws.{OthersNext, copy_next, differ, at_end, at_start, is_short, other_next, other_there, others_amid, others_at_end}
 
 -- ---- the action of a name

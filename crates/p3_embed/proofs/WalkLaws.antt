@@ -17,7 +17,7 @@ use Rattle.p3_formula.specs.declared.target.TargetAction.{TargetAction}
 use Rattle.p3_formula.specs.declared.target.Weights.{Weights}
 use Rattle.p3_formula.specs.declared.task.GroundTask.{GroundTask}
 use Rattle.p3_embed.specs.Embeds.{IsEmbedded, GoesOn, IsOnWay, plan_length}
-use Rattle.p3_embed.proofs.Walks.{Reaches, Walked, names, counted, lifted, walked, spelled_reaches, spelled_lift}
+use Rattle.p3_simulation.proofs.Walks.{Reaches, Walked, names, counted, lifted, walked, spelled_reaches, spelled_lift}
 
 -- ---- the names of actions
 

@@ -71,11 +71,7 @@ fn copies_of(alloc: Global, counts: &[Option<u32>]) -> Result<Vec<Counted>, NoMe
 }
 
 /// The action at the place stands behind the others, where it counts as a step.
-fn push_counted(
-    copies: &mut Vec<Counted>,
-    place: usize,
-    count: Option<u32>,
-) -> Result<(), NoMemory>
+fn push_counted(copies: &mut Vec<Counted>, place: usize, count: Option<u32>) -> Result<(), NoMemory>
     ensures { OnOk result (copies.new.items ≡ copies.old.items ++ counted_of place count) }
 {
     if let Some(number) = count {

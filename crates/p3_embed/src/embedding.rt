@@ -4,9 +4,8 @@ ghost use Rattle.std.specs.Prelude.{◌≡◌, ◌+◌, ◌<◌, [], length, sli
 ghost use Rattle.std.specs.List.{All};
 ghost use Rattle.p3_formula.specs.Forms.{truth};
 ghost use Rattle.p3_formula.specs.Targets.{action_names, target_cost};
-ghost use Rattle.p3_embed.specs.Actions.{AreActionsOf};
 ghost use Rattle.p3_embed.specs.Embeds.{CanEmbed, IsEmbedded, names_at};
-ghost use Rattle.p3_embed.specs.Walking.{IsWalk};
+ghost use Rattle.p3_embed.specs.Sought.{IsSought, IsWalkFor};
 
 use crate::actions::{Actions, actions_of};
 use crate::fitting::{fitting_copy, fitting_other};
@@ -26,7 +25,7 @@ pub struct Embedding {
 
 /// The one valid plan of the target that lifts to the steps of these numbers, and its cost. Its time
 /// is about that of following the plan: the copies of a step are found by halving, and an action
-/// that counts as none is looked for behind the last one.
+/// that counts as none is looked for behind the last one first.
 pub fn embed(
     alloc: Global,
     task: &GroundTask,
@@ -41,15 +40,37 @@ pub fn embed(
         embedding.cost ≡ pos (target_cost target.now embedding.plan)) }
 {
     let actions = actions_of(alloc, task, target)?;
+    let sought = Sought {
+        task,
+        weights,
+        target,
+        numbers,
+        actions,
+    };
     let mut walk = begun(alloc, target)?;
     for at in 0..numbers.len() {
-        take_step(alloc, task, weights, target, numbers, &actions, &mut walk, at)?;
+        take_step(alloc, &sought, &mut walk, at)?;
     }
-    take_rest(alloc, task, weights, target, numbers, &actions, &mut walk)?;
+    take_rest(alloc, &sought, &mut walk)?;
     Ok(Embedding {
         plan: names_of(alloc, target, walk.places.as_slice())?,
         cost: walk.cost as i128,
     })
+}
+
+/// What a plan is looked for.
+#[derive(Drop)]
+struct Sought<'a> {
+    /// The ground task.
+    task: &'a GroundTask,
+    /// Its weights.
+    weights: &'a Weights,
+    /// What it is compiled to.
+    target: &'a Target,
+    /// The steps of a valid plan of the ground task.
+    numbers: &'a [u32],
+    /// The actions of the target by the steps as which they count.
+    actions: Actions,
 }
 
 /// The names of the actions at the places.
@@ -81,29 +102,21 @@ fn behind_last(walk: &Walk) -> usize {
 }
 
 /// Walks on until the next step is taken.
-fn take_step(
-    alloc: Global,
-    task: &GroundTask,
-    weights: &Weights,
-    target: &Target,
-    numbers: &[u32],
-    actions: &Actions,
-    walk: &mut Walk,
-    at: usize,
-) -> Result<(), NoMemory>
-    requires able { CanEmbed task.now weights.now target.now numbers.now }
-    requires actions { AreActionsOf task.now target.now actions.now }
-    requires walk { IsWalk task.now target.now numbers.now at walk.old }
-    requires next { at < length numbers.now }
-    ensures { OnOk result (IsWalk task.now target.now numbers.now (at + 1) walk.new) }
+fn take_step(alloc: Global, sought: &Sought<'_>, walk: &mut Walk, at: usize) -> Result<(), NoMemory>
+    requires sought { IsSought sought.now }
+    requires walk { IsWalkFor sought.now at walk.old }
+    requires next { at < length sought.now.numbers.now }
+    ensures { OnOk result (IsWalkFor sought.now (at + 1) walk.new) }
 {
+    let target = sought.target;
+    let number = sought.numbers[at];
     loop {
-        if let Some(place) = fitting_copy(actions, target, &walk.state, numbers[at]) {
+        if let Some(place) = fitting_copy(&sought.actions, target, &walk.state, number) {
             take(alloc, target, walk, place)?;
             return Ok(());
         }
         let from = behind_last(walk);
-        let Some(place) = fitting_other(actions, target, &walk.state, from) else {
+        let Some(place) = fitting_other(&sought.actions, target, &walk.state, from) else {
             unreachable!()
         };
         take(alloc, target, walk, place)?;
@@ -111,25 +124,16 @@ fn take_step(
 }
 
 /// Walks on until the goal is reached, behind the last step.
-fn take_rest(
-    alloc: Global,
-    task: &GroundTask,
-    weights: &Weights,
-    target: &Target,
-    numbers: &[u32],
-    actions: &Actions,
-    walk: &mut Walk,
-) -> Result<(), NoMemory>
-    requires able { CanEmbed task.now weights.now target.now numbers.now }
-    requires actions { AreActionsOf task.now target.now actions.now }
-    requires walk { IsWalk task.now target.now numbers.now (length numbers.now) walk.old }
-    ensures walk { OnOk result
-        (IsWalk task.now target.now numbers.now (length numbers.now) walk.new) }
-    ensures goal { OnOk result (truth walk.new.state target.now.goal ≡ true) }
+fn take_rest(alloc: Global, sought: &Sought<'_>, walk: &mut Walk) -> Result<(), NoMemory>
+    requires sought { IsSought sought.now }
+    requires walk { IsWalkFor sought.now (length sought.now.numbers.now) walk.old }
+    ensures walk { OnOk result (IsWalkFor sought.now (length sought.now.numbers.now) walk.new) }
+    ensures goal { OnOk result (truth walk.new.state sought.now.target.now.goal ≡ true) }
 {
+    let target = sought.target;
     while !eval(&target.goal, &walk.state) {
         let from = behind_last(walk);
-        let Some(place) = fitting_other(actions, target, &walk.state, from) else {
+        let Some(place) = fitting_other(&sought.actions, target, &walk.state, from) else {
             unreachable!()
         };
         take(alloc, target, walk, place)?;

@@ -2,6 +2,8 @@
 #![tactic(auto)]
 
 mod actions;
+#[cfg(test)]
+mod cases;
 mod counting;
 mod embedding;
 mod fitting;
