@@ -1,5 +1,5 @@
 -- A walk stays on its way with the action that is taken.
-use Rattle.std.proofs.Common.{◌≡◌, ◌∙◌, ◌⊎◌, inl, inr, ℕ, zero, suc, ◌+◌, ◌*◌, ◌-◌, ◌<◌, ◌≤◌, ◌^◌, Bool, true, false, cond, List, [], ◌∷◌, ◌++◌, map, length, take, drop, get_or, sum_by, refl, sym, ap, subst, arith, zero-add, true≢false, Option, Some, None}
+use Rattle.std.proofs.Common.{◌≡◌, ◌∙◌, ◌⊎◌, inl, inr, ℕ, suc, ◌+◌, ◌<◌, Bool, true, false, cond, List, [], ◌∷◌, ◌++◌, length, take, drop, get_or, sum_by, refl, sym, ap, subst, arith, zero-add, true≢false, Option, Some, None}
 use Rattle.std.specs.Prelude.{Contains, bytes_eq, find, option_map, slice_get, slice_index_or}
 use Rattle.std.proofs.lemmas.Bool.{and_parts, not-true, or_left, or_right}
 use Rattle.std.proofs.lemmas.List.{length-map, map-append, take_more}
@@ -13,7 +13,7 @@ use Rattle.p3_base.specs.Words.{Name, has_name, are_different}
 use Rattle.p3_formula.specs.Forms.{State, truth}
 use Rattle.p3_formula.specs.Next.{after}
 use Rattle.p3_formula.specs.GroundPlans.{GroundPlan}
-use Rattle.p3_formula.specs.Targets.{TargetPlan, Fits, action_of, action_names, cost_by, lifted_number, target_cost}
+use Rattle.p3_formula.specs.Targets.{TargetPlan, Fits, action_of, action_names, cost_by, target_cost}
 use Rattle.p3_formula.specs.declared.target.Target.{Target}
 use Rattle.p3_formula.specs.declared.target.TargetAction.{TargetAction}
 use Rattle.p3_formula.specs.declared.target.Weights.{Weights}
@@ -23,7 +23,7 @@ use Rattle.p3_embed.specs.declared.actions.Actions.{Actions}
 use Rattle.p3_embed.specs.declared.walking.Walk.{Walk}
 use Rattle.p3_embed.specs.Actions.{AreActionsOf, FitsAt, NoneFits}
 use Rattle.p3_embed.specs.Embeds.{CanEmbed, IsEmbedded, IsOnWay, names_at, plan_length}
-use Rattle.p3_embed.specs.Walking.{HasTaken, IsBegun, IsCheap, IsWalk}
+use Rattle.p3_embed.specs.Walking.{HasTaken, IsBegun, IsWalk}
 use Rattle.p3_simulation.proofs.Walks.{counted, head_or_tail, in_none, names}
 use Rattle.p3_embed.proofs.WalkLaws.{OthersNext, copy_next, differ, at_end, at_start, is_short, other_next, other_there, others_amid, others_at_end}
 

@@ -1,12 +1,11 @@
 -- Which action comes next in the one valid plan that lifts to the steps: the copy of the next step that fits, or else the action that counts as none.
-use Rattle.std.proofs.Common.{◌≡◌, ◌∙◌, ◌<◌, ◌≤◌, ℕ, suc, zero, ◌+◌, Bool, true, false, ◌&&◌, List, [], ◌∷◌, ◌++◌, map, length, take, drop, get_or, refl, sym, ap, subst, arith, append_assoc, Option, Some, None}
-use Rattle.std.specs.Prelude.{Contains, filter_map, not, slice_index_or, IsTrue}
+use Rattle.std.proofs.Common.{◌≡◌, ◌∙◌, ◌<◌, ℕ, ◌+◌, true, false, List, [], ◌∷◌, ◌++◌, length, take, drop, refl, sym, ap, subst, arith, append_assoc, Option, Some, None}
+use Rattle.std.specs.Prelude.{Contains, not}
 use Rattle.std.specs.List.{cons_option}
-use Rattle.std.proofs.lemmas.Bool.{and_parts, and_from}
+use Rattle.std.proofs.lemmas.Bool.{and_parts}
 use Rattle.p3_formula.specs.Weighted.{ground_extra}
-use Rattle.std.proofs.lemmas.List.{length-append, append_cancel_left, append-nil, take-append-drop, take_all, take_more}
+use Rattle.std.proofs.lemmas.List.{length-append, append_cancel_left, append-nil, take-append-drop, take_all}
 use Rattle.std.proofs.lemmas.List.Elements.{filter_map-append}
-use Rattle.std.proofs.Math.Seq.{drop-cons}
 use Rattle.p3_base.specs.Words.{Name, has_name, are_different}
 use Rattle.p3_formula.specs.Forms.{State, truth}
 use Rattle.p3_formula.specs.Next.{after}
@@ -17,7 +16,7 @@ use Rattle.p3_formula.specs.declared.target.TargetAction.{TargetAction}
 use Rattle.p3_formula.specs.declared.target.Weights.{Weights}
 use Rattle.p3_formula.specs.declared.task.GroundTask.{GroundTask}
 use Rattle.p3_embed.specs.Embeds.{IsEmbedded, GoesOn, IsOnWay, plan_length}
-use Rattle.p3_simulation.proofs.Walks.{Reaches, Walked, names, counted, lifted, walked, spelled_reaches, spelled_lift}
+use Rattle.p3_simulation.proofs.Walks.{Reaches, names, counted, lifted, walked, spelled_reaches, spelled_lift}
 
 -- ---- the names of actions
 

@@ -1,6 +1,5 @@
 -- What it is to embed a ground plan in a target, and how far a walk has come that does.
-use Rattle.std.specs.Prelude.{◌≡◌, ℕ, ◌+◌, List, ◌∷◌, [], ◌++◌, length, map, take, slice_index_or, IsTrue}
-use Rattle.p3_base.specs.Words.{Name}
+use Rattle.std.specs.Prelude.{◌≡◌, ℕ, ◌+◌, List, [], ◌++◌, length, map, take, slice_index_or, IsTrue}
 use Rattle.p3_formula.specs.Forms.{State}
 use Rattle.p3_formula.specs.GroundPlans.{GroundPlan, GroundValid}
 use Rattle.p3_formula.specs.Targets.{TargetPlan, TargetValid, action_names, reaches_goal, ground_lift, Leads, Compiled}

@@ -1,4 +1,4 @@
-use Rattle.std.proofs.Common.{◌≡◌, ◌∙◌, ap, length, refl, subst, sym}
+use Rattle.std.proofs.Common.{◌∙◌, ap, length, refl, subst, sym}
 use Rattle.p3_formula.specs.Targets.{TargetPlan}
 use Rattle.p3_embed.specs.Embeds.{IsEmbedded, names_at}
 use Rattle.p3_embed.proofs.TakenLaws.{begins_walk, embedded}

@@ -1,4 +1,4 @@
-use Rattle.std.proofs.Common.{◌<◌, ◌∙◌, ◌+◌, ap, arith, length, List, ◌∷◌, [], ℕ, refl, sym}
+use Rattle.std.proofs.Common.{◌∙◌, ap, arith, length, List, ◌∷◌, [], ℕ, refl, sym}
 use Rattle.std.proofs.lemmas.List.{length-append}
 use Rattle.std.proofs.lemmas.Option.{slice_get_within}
 use Rattle.p3_embed.proofs.TakenLaws.{goes_on, other_is_there, other_taken, others_behind}

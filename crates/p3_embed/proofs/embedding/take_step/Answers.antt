@@ -1,8 +1,5 @@
-use Rattle.std.proofs.Common.{◌<◌, ◌≡◌, ◌∙◌, ◌+◌, ap, arith, length, List, ℕ}
-use Rattle.std.proofs.lemmas.List.{length-append}
 use Rattle.std.proofs.lemmas.Option.{slice_get_within}
-use Rattle.p3_embed.specs.Embeds.{plan_length}
-use Rattle.p3_embed.proofs.TakenLaws.{goes_on, other_is_there, other_taken, others_of_step, step_taken}
+use Rattle.p3_embed.proofs.TakenLaws.{other_is_there, other_taken, others_of_step, step_taken}
 use Rattle.p3_embed.proofs.embedding.take_step.Goals as goal
 
 pub returns-in-Some : goal.returns-in-Some

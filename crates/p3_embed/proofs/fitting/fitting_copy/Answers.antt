@@ -1,6 +1,5 @@
-use Rattle.std.proofs.Common.{◌≡◌, ◌∙◌, arith, ap, length, List, Some}
+use Rattle.std.proofs.Common.{◌∙◌, arith, ap, Some}
 use Rattle.std.specs.List.{filter}
-use Rattle.p3_embed.specs.declared.actions.Counted.{Counted}
 use Rattle.p3_embed.specs.Actions.{is_of}
 use Rattle.p3_embed.proofs.FitLaws.{copy_at, copy_within, fits_here, none_at_all, none_so_far}
 use Rattle.p3_embed.proofs.fitting.fitting_copy.Goals as goal

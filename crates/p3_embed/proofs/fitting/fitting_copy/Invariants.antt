@@ -1,4 +1,4 @@
-use Rattle.std.proofs.Common.{◌≡◌, ℕ, ◌<◌, false, get_or, Some}
+use Rattle.std.proofs.Common.{◌≡◌, ℕ, ◌<◌, false, Some}
 use Rattle.std.specs.Prelude.{slice_get}
 use Rattle.p3_formula.specs.Forms.{truth}
 use Rattle.p3_formula.specs.declared.target.TargetAction.{TargetAction}

@@ -1,4 +1,4 @@
-use Rattle.std.proofs.Common.{◌∙◌, ap, false, true, sym}
+use Rattle.std.proofs.Common.{◌∙◌, ap, true}
 use Rattle.p3_formula.specs.Forms.{State}
 use Rattle.p3_formula.specs.Next.{changed_all}
 use Rattle.p3_formula.proofs.StepLaws.{made_one_by_one}
