@@ -1,0 +1,5 @@
+pub mod ActionLists
+pub mod CountingLaws
+pub mod FitLaws
+pub mod TakenLaws
+pub mod WalkLaws

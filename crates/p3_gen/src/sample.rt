@@ -1,0 +1,39 @@
+//! The three texts of a sample.
+
+ghost use Rattle.std.specs.Prelude.{◌≡◌, ◌≤◌, IfOk};
+ghost use Rattle.p3_tree.specs.Samples.{sample_domain, sample_problem, sample_plan};
+
+use crate::domain::domain_text;
+use crate::plan::plan_text;
+use crate::problem::problem_text;
+use p3_base::{List, NoMemory};
+use std::alloc::Global;
+
+/// A task as two texts, and a plan of it as a third.
+#[derive(Debug, Drop)]
+pub struct Sample {
+    /// The domain half, the same of every sample.
+    pub domain: List<u8>,
+    /// The problem half.
+    pub problem: List<u8>,
+    /// The plan, a line for each step.
+    pub plan: List<u8>,
+}
+
+/// The sample with n packages.
+pub fn generate(alloc: Global, n: u32) -> Result<Sample, NoMemory>
+    requires some { 1 ≤ n }
+    requires few { n ≤ 200 }
+    ensures domain { IfOk result (λ sample. sample.domain ≡ sample_domain) }
+    ensures problem { IfOk result (λ sample. sample.problem ≡ sample_problem n) }
+    ensures plan { IfOk result (λ sample. sample.plan ≡ sample_plan n) }
+{
+    let domain = domain_text(alloc)?;
+    let problem = problem_text(alloc, n)?;
+    let plan = plan_text(alloc, n)?;
+    Ok(Sample {
+        domain: List::from(domain.into_bytes()),
+        problem: List::from(problem.into_bytes()),
+        plan: List::from(plan.into_bytes()),
+    })
+}
