@@ -1,6 +1,7 @@
 //! The first limit that a task passes.
 
 ghost use Rattle.std.specs.Prelude.{◌≡◌, IfOk, OnErr};
+ghost use Rattle.std.specs.Result.{MatchResult};
 ghost use Rattle.p3_numbers.specs.Tasks.{IsNumberedTask};
 ghost use Rattle.p3_tree.specs.Offences.{WellFormed};
 ghost use Rattle.p3_tree.specs.Refusals.Counts.{size_refusals};
@@ -52,8 +53,8 @@ pub fn size_refusal(
 ) -> Result<Option<Refusal>, NoMemory>
     requires well_formed { WellFormed task.now }
     requires numbered { IsNumberedTask task.now numbered.now }
-    ensures found { IfOk result (λ found. found ≡ first_some (size_refusals side task.now)) }
-    ensures long { OnErr result (IsAtLongWord (first_some (size_refusals side task.now))) }
+    ensures { MatchResult result (λ found. found ≡ first_some (size_refusals side task.now))
+        (λ _. IsAtLongWord (first_some (size_refusals side task.now))) }
 {
     numbered_refusal(side, task, numbered)
 }
