@@ -1,5 +1,5 @@
 -- What of a task passes a limit, by its named trees, which have the places, and its numbered trees side by side.
-use Rattle.std.specs.Prelude.{ℕ, ◌-◌, nat_lt, List, [], ◌∷◌, ◌++◌, map, codes, slice_get, if◌then◌else◌, Option, Some, None}
+use Rattle.std.specs.Prelude.{ℕ, ◌-◌, ◌≤◌, ◌^◌, nat_lt, List, [], ◌∷◌, ◌++◌, map, codes, slice_get, if◌then◌else◌, Option, Some, None}
 use Rattle.p3_base.specs.declared.refusal.Code.TheVariants.{TooManyInstances, FormulaTooLarge, TooManyPreferences}
 use Rattle.p3_base.specs.declared.refusal.Refusal.{Refusal}
 use Rattle.p3_base.specs.declared.refusal.Side.{Side}
@@ -15,6 +15,11 @@ use Rattle.p3_tree.specs.declared.task.Task.{Task}
 use Rattle.p3_limits.specs.Cuts.{cut_choices}
 use Rattle.p3_limits.specs.Preferences.{goal_offsets, constraint_offsets}
 use Rattle.p3_limits.specs.Sizes.{effect_size, goal_size, constraint_size}
+
+-- what is found is at a word of so many bytes that no number of 32 bits counts them
+abbrev pub IsAtLongWord : Option Refusal → Type 0
+IsAtLongWord None = ⊥
+IsAtLongWord (Some refusal) = 2 ^ 32 ≤ refusal.len
 
 -- ---- steps
 

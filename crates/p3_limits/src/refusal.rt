@@ -1,11 +1,12 @@
 //! The first limit that a task passes.
 
-ghost use Rattle.std.specs.Prelude.{◌≡◌, IfOk};
+ghost use Rattle.std.specs.Prelude.{◌≡◌, IfOk, OnErr};
+ghost use Rattle.std.specs.Result.{MatchResult};
 ghost use Rattle.p3_numbers.specs.Tasks.{IsNumberedTask};
 ghost use Rattle.p3_tree.specs.Offences.{WellFormed};
 ghost use Rattle.p3_tree.specs.Refusals.Counts.{size_refusals};
 ghost use Rattle.p3_tree.specs.Refusals.Places.{first_some};
-ghost use Rattle.p3_limits.specs.Excess.{numbered_refusals};
+ghost use Rattle.p3_limits.specs.Excess.{IsAtLongWord, numbered_refusals};
 
 use crate::large::{large_in_domain, large_in_problem};
 use crate::many::too_many_preferences;
@@ -20,8 +21,10 @@ pub(crate) fn numbered_refusal(
     task: &Task,
     numbered: &NumberedTask,
 ) -> Result<Option<Refusal>, NoMemory>
-    ensures { IfOk result (λ found. found ≡
+    ensures found { IfOk result (λ found. found ≡
         first_some (numbered_refusals side task.now numbered.now)) }
+    ensures long { OnErr result
+        (IsAtLongWord (first_some (numbered_refusals side task.now numbered.now))) }
 {
     let (actions, numbers) = (task.domain.actions.items(), &numbered.numbers);
     match too_many_steps(side, numbers, actions, numbered.actions.items())? {
@@ -50,7 +53,8 @@ pub fn size_refusal(
 ) -> Result<Option<Refusal>, NoMemory>
     requires well_formed { WellFormed task.now }
     requires numbered { IsNumberedTask task.now numbered.now }
-    ensures { IfOk result (λ found. found ≡ first_some (size_refusals side task.now)) }
+    ensures { MatchResult result (λ found. found ≡ first_some (size_refusals side task.now))
+        (λ _. IsAtLongWord (first_some (size_refusals side task.now))) }
 {
     numbered_refusal(side, task, numbered)
 }

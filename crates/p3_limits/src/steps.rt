@@ -1,8 +1,8 @@
 //! Too many steps.
 
-ghost use Rattle.std.specs.Prelude.{◌≡◌, IfOk};
+ghost use Rattle.std.specs.Prelude.{◌≡◌, IfOk, OnErr};
 ghost use Rattle.p3_tree.specs.Sides.{step_count_limit};
-ghost use Rattle.p3_limits.specs.Excess.{refused_step};
+ghost use Rattle.p3_limits.specs.Excess.{IsAtLongWord, refused_step};
 
 use crate::choices::choice_count;
 use crate::words::{domain_role, refusal_at_name};
@@ -20,8 +20,10 @@ pub(crate) fn too_many_steps(
     actions: &[Action],
     numbered: &[NumberedAction],
 ) -> Result<Option<Refusal>, NoMemory>
-    ensures { IfOk result (λ found. found ≡
+    ensures found { IfOk result (λ found. found ≡
         refused_step numbers.now side step_count_limit actions.now numbered.now) }
+    ensures long { OnErr result (IsAtLongWord
+        (refused_step numbers.now side step_count_limit actions.now numbered.now)) }
 {
     let mut left = STEP_COUNT_LIMIT;
     for (place, action) in actions.iter().enumerate() {

@@ -1,6 +1,7 @@
 //! Refusals at words of a task.
 
-ghost use Rattle.std.specs.Prelude.{◌≡◌, length, IfOk};
+ghost use Rattle.std.specs.Prelude.{◌≡◌, ◌≤◌, ◌^◌, length, IfOk, OnErr};
+ghost use Rattle.std.specs.Result.{MatchResult};
 ghost use Rattle.p3_tree.specs.Refusals.Places as places;
 ghost use Rattle.p3_tree.specs.Sides.{InDomain, InProblem, role_of, size_limit as limit_of};
 
@@ -54,7 +55,7 @@ pub fn refusal_at(code: Code, role: Role, at: u32, len: u32) -> Refusal
 ///
 /// Want of memory, for 2 ^ 32 bytes or more.
 pub fn name_len(name: &Name) -> Result<u32, NoMemory>
-    ensures { IfOk result (λ len. len ≡ length name.now) }
+    ensures { MatchResult result (λ len. len ≡ length name.now) (λ _. 2 ^ 32 ≤ length name.now) }
 {
     match u32::try_from(name.bytes().len()) {
         Ok(len) => Ok(len),
@@ -64,7 +65,8 @@ pub fn name_len(name: &Name) -> Result<u32, NoMemory>
 
 /// The refusal at a name.
 pub(crate) fn refusal_at_name(code: Code, role: Role, name: &Ref) -> Result<Refusal, NoMemory>
-    ensures { IfOk result (λ refusal. refusal ≡ places.refusal_at_word code role name.now) }
+    ensures refusal { IfOk result (λ refusal. refusal ≡ places.refusal_at_word code role name.now) }
+    ensures long { OnErr result (2 ^ 32 ≤ length name.now.name) }
 {
     let len = name_len(&name.name)?;
     Ok(refusal_at(code, role, name.at, len))
