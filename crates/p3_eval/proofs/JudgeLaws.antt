@@ -25,11 +25,11 @@ use Rattle.p3_eval.specs.declared.fault.FaultKind.TheVariants as kind
 use Rattle.p3_eval.specs.declared.fault.PlanFault.{PlanFault}
 use Rattle.p3_eval.proofs.RunLaws.{first_misfit}
 
-unknown : (T : Task) (s : State) (step : Step) → IsFound T step found.UnknownAction → misfit T s step ≡ Some UnknownAction
+pub unknown : (T : Task) (s : State) (step : Step) → IsFound T step found.UnknownAction → misfit T s step ≡ Some UnknownAction
 unfolding misfit
 unknown T s step none = ap (misfit_by T s step) none
 
-other_arguments : (T : Task) (s : State) (step : Step) → HasOtherArguments T step → misfit T s step ≡ Some Arguments
+pub other_arguments : (T : Task) (s : State) (step : Step) → HasOtherArguments T step → misfit T s step ≡ Some Arguments
 unfolding misfit
 other_arguments T s step other =
     ap (misfit_by T s step) other.named
