@@ -19,7 +19,7 @@ use Rattle.p3_precprefs.specs.declared.copies.StepCopy.{StepCopy}
 use Rattle.p3_simulation.specs.Assembled.{AreCopyActions}
 use Rattle.p3_simulation.specs.Naming.{pattern}
 use Rattle.p3_compile.specs.Lean.{Answer, Copy, End, HasFew, IsNamedFor, IsStepAction, Question, chain_changes, is_conditional}
-use Rattle.p3_compile.specs.Tidied.{AreTidied}
+use Rattle.p3_compile.specs.Tidied.{AreTidied, NoChange, IsKept, IsLeftOut}
 use Rattle.p3_compile.specs.Updated.{HasChanges, busy_count}
 
 -- ---- counts
@@ -49,19 +49,20 @@ stays_certain old new always = by (is_value true old) refl
 abbrev conditions : List Change → ℕ
 conditions changes = count_by is_conditional changes
 
-tidied_length : (olds news : List Change) → AreTidied olds news → length news ≡ length olds
-tidied_length [] [] are = refl
-tidied_length [] (new ∷ news) are = absurd are
-tidied_length (old ∷ olds) [] are = absurd are
-tidied_length (old ∷ olds) (new ∷ news) are = let rest = tidied_length olds news are.1 in omega (arith, rest)
+tidied_length : (olds news : List Change) → AreTidied olds news → length news ≤ length olds
+tidied_length _ _ NoChange = omega arith
+tidied_length _ _ (IsKept old new olds news is are) = let rest = tidied_length olds news are in omega (arith, rest)
+tidied_length _ _ (IsLeftOut old olds news never are) = let rest = tidied_length olds news are in omega (arith, rest)
 
 tidied_conditions : (olds news : List Change) → AreTidied olds news → conditions news ≤ conditions olds
-tidied_conditions [] [] are = omega arith
-tidied_conditions [] (new ∷ news) are = absurd are
-tidied_conditions (old ∷ olds) [] are = absurd are
-tidied_conditions (old ∷ olds) (new ∷ news) are =
-    let first = stays_certain old.cond new.cond are.0.always in
-    let rest = tidied_conditions olds news are.1 in
+tidied_conditions _ _ NoChange = omega arith
+tidied_conditions _ _ (IsLeftOut old olds news never are) =
+    let rest = tidied_conditions olds news are in
+    let a = sum_by-cons (λ (change : Change). one (is_conditional change)) old olds in
+    omega (arith, rest, a)
+tidied_conditions _ _ (IsKept old new olds news is are) =
+    let first = stays_certain old.cond new.cond is.always in
+    let rest = tidied_conditions olds news are in
     let a = sum_by-cons (λ (change : Change). one (is_conditional change)) old olds in
     let b = sum_by-cons (λ (change : Change). one (is_conditional change)) new news in
     omega (arith, first, rest, a, b)

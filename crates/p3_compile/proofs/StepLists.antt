@@ -1,14 +1,15 @@
 -- The actions of one step, and of one step more.
-use Rattle.std.proofs.Common.{◌≡◌, ◌∙◌, ℕ, ◌+◌, ◌<◌, nat_lt, Bool, true, false, ◌&&◌, cond, List, [], ◌∷◌, ◌++◌, length, map, take, drop, get_or, refl, sym, ap, subst, arith, append_assoc, length-append}
+use Rattle.std.proofs.Common.{◌≡◌, ◌∙◌, ℕ, ◌+◌, ◌<◌, ◌==◌, nat_lt, Bool, true, false, not, ◌&&◌, ◌||◌, cond, List, [], ◌∷◌, ◌++◌, length, map, take, drop, get_or, refl, sym, ap, subst, arith, append_assoc, length-append}
 use Rattle.std.specs.Prelude.{Contains, is_some, IfOk, OnOk, Result, Ok, Err}
-use Rattle.std.specs.List.{All, list_all}
+use Rattle.std.specs.List.{All, list_all, list_any, range_with_len}
+use Rattle.std.proofs.Math.Bool.{and-false}
 use Rattle.std.proofs.lemmas.Bool.{and_parts, and_from, ltb-true, ltb-false}
 use Rattle.std.proofs.lemmas.List.{append-nil, length-map, map-append, take-append-drop, take_more}
 use Rattle.std.proofs.lemmas.List.Elements.{All-append, All-nil, All-weaker, Contains-append_left, Contains-push, filter-append}
 use Rattle.std.proofs.lemmas.List.Folds.{list_all-append}
 use Rattle.p3_base.specs.Words.{Name}
-use Rattle.p3_formula.specs.Alike.{AreAlike}
 use Rattle.p3_formula.specs.Conditions.{greatest_width, is_step_below, is_tidy_action}
+use Rattle.p3_formula.specs.Forms.{State, is_set, truth}
 use Rattle.p3_formula.specs.Next.{after}
 use Rattle.p3_formula.specs.Targets.{is_sized_change}
 use Rattle.p3_formula.specs.Tidy.{is_tidy}
@@ -18,14 +19,13 @@ use Rattle.p3_formula.specs.declared.modal.GroundPref.{GroundPref}
 use Rattle.p3_formula.specs.declared.target.TargetAction.{TargetAction}
 use Rattle.p3_formula.specs.declared.target.Weights.{Weights}
 use Rattle.p3_formula.specs.declared.task.GroundStep.{GroundStep}
-use Rattle.p3_formula.proofs.NextLaws.{after-alike}
 use Rattle.p3_precprefs.specs.Questions.{AreAnswers, IsChain}
 use Rattle.p3_monitors.specs.declared.watching.Monitor.{Monitor}
 use Rattle.p3_simulation.specs.Assembled.{AreOfStep, AreOfSteps, Costless, Narrow, Wide, NoSteps, OneStep, IsSplit}
 use Rattle.p3_simulation.specs.Naming.{current_name, is_wide, wide_steps}
 use Rattle.p3_simulation.specs.Parts.{AreBefore}
 use Rattle.p3_simulation.specs.Watching.{IsEffects}
-use Rattle.p3_compile.specs.Tidied.{AreTidied, HasTidyConditions}
+use Rattle.p3_compile.specs.Tidied.{AreTidied, NoChange, IsKept, IsLeftOut, NeverHappens, HasTidyConditions}
 use Rattle.p3_compile.specs.Lean.{IsOfSteps, IsStepAction}
 use Rattle.p3_compile.specs.Updated.{HasChanges}
 use Rattle.p3_compile.specs.Stepping.{HasActions, HasCurrentAtoms, HasPushed, HasStepActions, busy_in, current_names}
@@ -34,33 +34,43 @@ use Rattle.p3_compile.proofs.LeanLists.{copies_lean, chain_lean}
 
 -- ---- the changes of a step
 
-alike : (olds news : List Change) → AreTidied olds news → AreAlike olds news
-alike [] [] are = tt
-alike [] (new ∷ news) are = absurd are
-alike (old ∷ olds) [] are = absurd are
-alike (old ∷ olds) (new ∷ news) are = (record { atom = sym are.0.atom; add = sym are.0.add; cond = λ state. sym (are.0.cond state) }, alike olds news are.1)
+module _ (state : State) where
+  never : (first second : Bool) (change : Change) → NeverHappens change → (first && second && truth state change.cond) ≡ false
+  never first second change none = ap (λ b. first && second && b) (none state) ∙ and-false (first && second)
+
+  any_tidied : (pick : Bool → Bool) (atom : ℕ) (olds news : List Change) → AreTidied olds news
+      → list_any (λ (change : Change). (change.atom == atom) && pick change.add && truth state change.cond) news ≡ list_any (λ (change : Change). (change.atom == atom) && pick change.add && truth state change.cond) olds
+  any_tidied pick atom _ _ NoChange = refl
+  any_tidied pick atom _ _ (IsKept old new olds news is are) =
+      λ i. ((is.atom i == atom) && pick (is.add i) && is.cond state i) || any_tidied pick atom olds news are i
+  any_tidied pick atom _ _ (IsLeftOut old olds news none are) =
+      any_tidied pick atom olds news are ∙ sym (ap (λ b. b || list_any (λ (change : Change). (change.atom == atom) && pick change.add && truth state change.cond) olds) (never (old.atom == atom) (pick old.add) old none))
+
+  -- such changes make the same state
+  after_tidied : (olds news : List Change) → AreTidied olds news → after state news ≡ after state olds
+  unfolding after
+  after_tidied olds news are =
+      λ i. map (λ atom. any_tidied (λ add. add) atom olds news are i || is_set state atom && not (any_tidied not atom olds news are i)) (range_with_len 0 (length state))
 
 sized : (bound : ℕ) (olds news : List Change) → AreTidied olds news → list_all (is_sized_change bound) olds ≡ true → list_all (is_sized_change bound) news ≡ true
-sized bound [] [] are below = refl
-sized bound [] (new ∷ news) are below = absurd are
-sized bound (old ∷ olds) [] are below = absurd are
-sized bound (old ∷ olds) (new ∷ news) are below =
+sized bound _ _ NoChange below = refl
+sized bound _ _ (IsLeftOut old olds news none are) below = sized bound olds news are (and_parts (is_sized_change bound old) _ below).1
+sized bound _ _ (IsKept old new olds news is are) below =
     let parts = and_parts (is_sized_change bound old) _ below in
     let one = and_parts (nat_lt old.atom bound) _ parts.0 in
-    and_from (is_sized_change bound new) _ (and_from (nat_lt new.atom bound) _ (ap (λ atom. nat_lt atom bound) are.0.atom ∙ one.0) (are.0.reads (λ atom. nat_lt atom bound) one.1)) (sized bound olds news are.1 parts.1)
+    and_from (is_sized_change bound new) _ (and_from (nat_lt new.atom bound) _ (ap (λ atom. nat_lt atom bound) is.atom ∙ one.0) (is.reads (λ atom. nat_lt atom bound) one.1)) (sized bound olds news are parts.1)
 
 pub tidied_tidy : (olds news : List Change) → AreTidied olds news → HasTidyConditions news
-tidied_tidy [] [] are = refl
-tidied_tidy [] (new ∷ news) are = absurd are
-tidied_tidy (old ∷ olds) [] are = absurd are
-tidied_tidy (old ∷ olds) (new ∷ news) are = and_from (is_tidy new.cond) _ are.0.tidy (tidied_tidy olds news are.1)
+tidied_tidy _ _ NoChange = refl
+tidied_tidy _ _ (IsKept old new olds news is are) = and_from (is_tidy new.cond) _ is.tidy (tidied_tidy olds news are)
+tidied_tidy _ _ (IsLeftOut old olds news none are) = tidied_tidy olds news are
 
 module _ (go : ℕ) (monitors : List Monitor) (step : GroundStep) (before : AreBefore go go monitors) (below : list_all (is_sized_change go) step.effects ≡ true) (effects : List Change) (has : HasChanges step.effects monitors effects) where
   pub is_effects : IsEffects go monitors step effects
   is_effects = record {
     updates = has.updates;
     watched = has.watched;
-    does = λ state. sym (after-alike state (step.effects ++ has.updates) effects (alike (step.effects ++ has.updates) effects has.same));
+    does = λ state. after_tidied state (step.effects ++ has.updates) effects has.same;
     below = sized go (step.effects ++ has.updates) effects has.same
         (list_all-append (is_sized_change go) step.effects has.updates ∙ and_from (list_all (is_sized_change go) step.effects) _ below (has.atoms.inside go go (omega arith) before below));
   }

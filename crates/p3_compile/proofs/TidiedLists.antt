@@ -1,21 +1,38 @@
 -- Changes with tidy conditions, one after another.
 use Rattle.std.proofs.Common.{◌≡◌, ◌∙◌, ◌<◌, ◌+◌, ℕ, List, [], ◌∷◌, ◌++◌, length, take, get_or, sym, ap, subst, append_assoc}
-use Rattle.std.proofs.lemmas.List.{take_more}
+use Rattle.std.proofs.lemmas.List.{append-nil, take_more}
+use Rattle.p3_formula.specs.Forms.{truth}
 use Rattle.p3_formula.specs.declared.form.Change.{Change}
-use Rattle.p3_compile.specs.Tidied.{IsTidied, AreTidied, HasTidied}
+use Rattle.p3_formula.specs.declared.form.Form.TheVariants.{False}
+use Rattle.p3_formula.proofs.FormLemmas.{truth-False}
+use Rattle.p3_compile.specs.Tidied.{IsTidied, AreTidied, NoChange, IsKept, IsLeftOut, HasTidied}
 
 pub tidied-append : (olds others news more : List Change) → AreTidied olds news → AreTidied others more → AreTidied (olds ++ others) (news ++ more)
-tidied-append [] others [] more are later = later
-tidied-append [] others (new ∷ news) more are later = absurd are
-tidied-append (old ∷ olds) others [] more are later = absurd are
-tidied-append (old ∷ olds) others (new ∷ news) more are later = (are.0, tidied-append olds others news more are.1 later)
+tidied-append _ others _ more NoChange later = later
+tidied-append _ others _ more (IsKept old new olds news is are) later = IsKept old new (olds ++ others) (news ++ more) is (tidied-append olds others news more are later)
+tidied-append _ others _ more (IsLeftOut old olds news never are) later = IsLeftOut old (olds ++ others) (news ++ more) never (tidied-append olds others news more are later)
+
+pub none_tidied : (all : List Change) → HasTidied [] all all
+none_tidied all = record { tidied = []; are = sym (append-nil all); same = NoChange }
+
+-- a change with a tidy condition stands behind the others
+pub one_kept : (change new : Change) (old all : List Change) → all ≡ old ++ new ∷ [] → IsTidied change new → HasTidied (change ∷ []) old all
+one_kept change new old all are is = record { tidied = new ∷ []; are = are; same = IsKept change new [] [] is NoChange }
+
+-- one whose condition is tidied to what never holds is left out
+pub one_left_out : (change new : Change) (all : List Change) → IsTidied change new → new.cond ≡ False → HasTidied (change ∷ []) all all
+one_left_out change new all is low = record {
+  tidied = [];
+  are = sym (append-nil all);
+  same = IsLeftOut change [] [] (λ state. sym (is.cond state) ∙ ap (truth state) low ∙ truth-False state) NoChange;
+}
 
 -- one change more
-pub tidied_next : (changes old all : List Change) (index : ℕ) (change new : Change) → index < length changes → change ≡ get_or changes index change → HasTidied (take index changes) old all → IsTidied change new
-    → HasTidied (take (index + 1) changes) old (all ++ new ∷ [])
-tidied_next changes old all index change new within at has is = record {
-  tidied = has.tidied ++ new ∷ [];
-  are = ap (λ list. list ++ new ∷ []) has.are ∙ append_assoc old has.tidied (new ∷ []);
-  same = subst (λ list. AreTidied list (has.tidied ++ new ∷ [])) (sym (take_more changes index change within ∙ ap (λ one. take index changes ++ one ∷ []) (sym at)))
-      (tidied-append (take index changes) (change ∷ []) has.tidied (new ∷ []) has.same (is, tt));
+pub tidied_next : (changes old all next : List Change) (index : ℕ) (change : Change) → index < length changes → change ≡ get_or changes index change → HasTidied (take index changes) old all → HasTidied (change ∷ []) all next
+    → HasTidied (take (index + 1) changes) old next
+tidied_next changes old all next index change within at has one = record {
+  tidied = has.tidied ++ one.tidied;
+  are = one.are ∙ ap (λ list. list ++ one.tidied) has.are ∙ append_assoc old has.tidied one.tidied;
+  same = subst (λ list. AreTidied list (has.tidied ++ one.tidied)) (sym (take_more changes index change within ∙ ap (λ one. take index changes ++ one ∷ []) (sym at)))
+      (tidied-append (take index changes) (change ∷ []) has.tidied one.tidied has.same one.same);
 }

@@ -23,6 +23,7 @@ use Rattle.p3_simulation.specs.Watching.{AreUpdates, NoMore, Untouched, Touched}
 use Rattle.p3_simulation.proofs.Bounds.{all_weaker, below_more}
 use Rattle.p3_compile.specs.Updated.{AreApart, AreTouched, HasUpdate, HasUpdates, HasOwnAtoms, busy_count}
 use Rattle.p3_compile.specs.Lean.{is_busy}
+use Rattle.p3_compile.specs.Tidied.{NoChange}
 use Rattle.p3_compile.proofs.TidiedLists.{tidied-append}
 
 module _ (step : List Change) where
@@ -115,7 +116,7 @@ module _ (step : List Change) where
   -- ---- the changes as they are made
 
   pub begun : (all : List Change) → HasUpdates step [] all all
-  begun all = record { updates = []; tidied = []; watched = NoMore; few = none_counted.few; atoms = none_counted.atoms; are = sym (append-nil all); same = tt }
+  begun all = record { updates = []; tidied = []; watched = NoMore; few = none_counted.few; atoms = none_counted.atoms; are = sym (append-nil all); same = NoChange }
 
   pub counted_of : {monitors : List Monitor} {old all : List Change} (has : HasUpdates step monitors old all) → Counted monitors has.updates
   counted_of has = record { watched = has.watched; few = has.few; atoms = has.atoms }

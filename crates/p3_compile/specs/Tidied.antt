@@ -1,7 +1,7 @@
 -- Changes with tidy conditions.
-use Rattle.std.specs.Prelude.{◌≡◌, IsTrue, List, [], ◌∷◌, ◌++◌}
+use Rattle.std.specs.Prelude.{◌≡◌, IsTrue, false, List, [], ◌∷◌, ◌++◌}
 use Rattle.std.specs.List.{list_all}
-use Rattle.p3_formula.specs.Forms.{HasAtomsOf, HasSameTruth}
+use Rattle.p3_formula.specs.Forms.{State, HasAtomsOf, HasSameTruth, truth}
 use Rattle.p3_formula.specs.Tidy.{is_tidy}
 use Rattle.p3_formula.specs.declared.form.Change.{Change}
 use Rattle.p3_formula.specs.declared.form.Form.TheVariants.{True}
@@ -19,13 +19,17 @@ pub record IsTidied (old new : Change) : Type 0 where
   pub tidy : IsTrue (is_tidy new.cond)
   pub always : old.cond ≡ True → new.cond ≡ True
 
-abbrev pub AreTidied : List Change → List Change → Type 0
-AreTidied [] [] = Unit {0}
-AreTidied (old ∷ olds) (new ∷ news) = IsTidied old new × AreTidied olds news
-AreTidied [] (new ∷ news) = ⊥
-AreTidied (old ∷ olds) [] = ⊥
+-- the change happens in no state
+abbrev pub NeverHappens : Change → Type 0
+NeverHappens change = (state : State) → truth state change.cond ≡ false
 
--- the changes stand behind the others, with tidy conditions
+-- the same changes in order, with tidy conditions, without some that never happen
+pub data AreTidied : List Change → List Change → Type 0 where
+  NoChange : AreTidied [] []
+  IsKept : (old new : Change) (olds news : List Change) → IsTidied old new → AreTidied olds news → AreTidied (old ∷ olds) (new ∷ news)
+  IsLeftOut : (old : Change) (olds news : List Change) → NeverHappens old → AreTidied olds news → AreTidied (old ∷ olds) news
+
+-- they stand behind the others
 pub record HasTidied (changes old new : List Change) : Type 0 where
   pub tidied : List Change
   pub are : new ≡ old ++ tidied

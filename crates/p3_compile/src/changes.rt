@@ -1,6 +1,6 @@
 //! The changes of a step in a target: its own, and those of the monitors that it touches.
 
-ghost use Rattle.std.specs.Prelude.{◌≡◌, ◌++◌, IfOk, OnOk, true};
+ghost use Rattle.std.specs.Prelude.{◌≡◌, ◌++◌, ◌∷◌, [], IfOk, OnOk, IsTrue, true};
 ghost use Rattle.std.specs.List.{All, list_all};
 ghost use Rattle.std.specs.List.Sorted.{IsPermutation};
 ghost use Rattle.p3_formula.specs.Kept.{is_own};
@@ -13,7 +13,7 @@ ghost use Rattle.p3_compile.specs.Updated.{AreApart, AreTouched, HasUpdates, Has
 use crate::reading::Reader;
 use crate::touching::touched;
 use p3_base::{List, NoMemory};
-use p3_formula::{Change, Effects, Table, simplify};
+use p3_formula::{Change, Effects, Form, Table, fitted, simplify};
 use p3_monitors::Monitor;
 use p3_regress::Regressed;
 use std::alloc::Global;
@@ -30,12 +30,32 @@ fn change_tidied(alloc: Global, change: &Change) -> Result<Change, NoMemory>
     })
 }
 
-/// The changes with tidy conditions stand behind the others.
+/// Whether the form is the constant that never holds.
+fn is_false(form: &Form) -> bool
+    ensures { IsTrue result → form.now ≡ Form.False }
+{
+    matches!(form, Form::False)
+}
+
+/// The change with a tidy condition stands behind the others, where it may happen.
+fn push_change(alloc: Global, all: &mut Effects, change: &Change) -> Result<(), NoMemory>
+    ensures { OnOk result (HasTidied (change.now ∷ []) all.old all.new) }
+{
+    let tidied = change_tidied(alloc, change)?;
+    if is_false(&tidied.cond) {
+        drop(tidied);
+        return Ok(());
+    }
+    all.push(tidied)?;
+    Ok(())
+}
+
+/// The changes with tidy conditions stand behind the others, those that may happen.
 fn push_tidied(alloc: Global, all: &mut Effects, changes: &Effects) -> Result<(), NoMemory>
     ensures { OnOk result (HasTidied changes.now all.old all.new) }
 {
     for change in changes.items() {
-        all.push(change_tidied(alloc, change)?)?;
+        push_change(alloc, all, change)?;
     }
     Ok(())
 }
@@ -78,9 +98,8 @@ fn push_updates(
     Ok(())
 }
 
-/// The changes of a step in the target, with tidy conditions: its own, and those of the monitors
-/// that it touches.
-pub(crate) fn step_changes(
+/// The changes of a step in the target, in a list that may have room for more.
+fn made_changes(
     alloc: Global,
     monitors: &[Monitor],
     readers: &[Reader],
@@ -97,4 +116,21 @@ pub(crate) fn step_changes(
     let mut regressed = Regressed::open(alloc, Table::new(alloc), step)?;
     push_updates(alloc, &mut all, monitors, &places, &mut regressed)?;
     Ok(all)
+}
+
+/// The changes of a step in the target, with tidy conditions: its own, and those of the monitors
+/// that it touches.
+pub(crate) fn step_changes(
+    alloc: Global,
+    monitors: &[Monitor],
+    readers: &[Reader],
+    step: &Effects,
+) -> Result<Effects, NoMemory>
+    requires apart { AreApart monitors.now step.now }
+    requires readers { IsPermutation (readers_from 0 monitors.now) readers.now }
+    requires rising { IsRising readers.now }
+    ensures { IfOk result (HasChanges step.now monitors.now) }
+{
+    let made = made_changes(alloc, monitors, readers, step)?;
+    Ok(fitted(made))
 }

@@ -1,6 +1,6 @@
 //! The actions of a step with few weighted preferences: one for each of its copies.
 
-ghost use Rattle.std.specs.Prelude.{◌≡◌, ◌<◌, ◌≤◌, ◌+◌, ◌++◌, [], length, sum_by, IfOk, IsSome, IsTrue, string_bytes};
+ghost use Rattle.std.specs.Prelude.{◌≡◌, ◌<◌, ◌≤◌, ◌+◌, ◌++◌, [], ◌∷◌, length, sum_by, IfOk, IsSome, IsTrue, string_bytes};
 ghost use Rattle.std.specs.List.{list_all};
 ghost use Rattle.p3_base.specs.Copies.{copy_name};
 ghost use Rattle.p3_formula.specs.Conditions.{cost_limit, is_tidy_action};
@@ -10,7 +10,7 @@ ghost use Rattle.p3_simulation.specs.Assembled.{IsCopyAction, AreCopyActions, Is
 ghost use Rattle.p3_simulation.specs.Naming.{pattern};
 
 use p3_base::{List, Name, NoMemory};
-use p3_formula::{Effects, GroundStep, TargetAction, Weights, copied, effects_copied, guarded};
+use p3_formula::{Effects, GroundStep, TargetAction, Weights, effects_copied, guarded};
 use p3_precprefs::{StepCopy, split};
 use std::alloc::Global;
 
@@ -42,8 +42,29 @@ fn name_of_copy(alloc: Global, number: u32, violated: &List<bool>) -> Result<Nam
     Name::of(alloc, text.as_bytes())
 }
 
-/// The action of a copy.
+/// The action of a copy, which takes the changes.
 fn copy_action(
+    alloc: Global,
+    number: u32,
+    effects: Effects,
+    copy: &StepCopy,
+    go: usize,
+) -> Result<TargetAction, NoMemory>
+    ensures { IfOk result (IsCopyAction go number effects copy.now) }
+{
+    let name = name_of_copy(alloc, number, &copy.violated)?;
+    let pre = guarded(alloc, [go].as_slice(), &copy.pre)?;
+    let cost = copy.cost;
+    Ok(TargetAction {
+        name,
+        pre,
+        effects,
+        cost,
+    })
+}
+
+/// The action of one of several copies, each of which gets changes of its own.
+fn other_action(
     alloc: Global,
     number: u32,
     effects: &Effects,
@@ -52,16 +73,23 @@ fn copy_action(
 ) -> Result<TargetAction, NoMemory>
     ensures { IfOk result (IsCopyAction go number effects.now copy.now) }
 {
-    let name = name_of_copy(alloc, number, &copy.violated)?;
-    let pre = guarded(alloc, [go].as_slice(), copied(alloc, &copy.pre)?)?;
     let effects = effects_copied(alloc, effects)?;
-    let cost = copy.cost;
-    Ok(TargetAction {
-        name,
-        pre,
-        effects,
-        cost,
-    })
+    copy_action(alloc, number, effects, copy, go)
+}
+
+/// The action of the only copy.
+fn only_action(
+    alloc: Global,
+    number: u32,
+    effects: Effects,
+    copy: &StepCopy,
+    go: usize,
+) -> Result<List<TargetAction>, NoMemory>
+    ensures { IfOk result (AreCopyActions go number effects (copy.now ∷ [])) }
+{
+    let mut actions = List::new(alloc);
+    actions.push(copy_action(alloc, number, effects, copy, go)?)?;
+    Ok(actions)
 }
 
 /// An action for each copy.
@@ -76,9 +104,25 @@ fn copy_actions(
 {
     let mut actions = List::new(alloc);
     for copy in copies.items() {
-        actions.push(copy_action(alloc, number, effects, copy, go)?)?;
+        actions.push(other_action(alloc, number, effects, copy, go)?)?;
     }
     Ok(actions)
+}
+
+/// An action for each copy. Where there is one copy, it takes the changes.
+fn actions_of_copies(
+    alloc: Global,
+    number: u32,
+    effects: Effects,
+    copies: &List<StepCopy>,
+    go: usize,
+) -> Result<List<TargetAction>, NoMemory>
+    ensures { IfOk result (AreCopyActions go number effects copies.now) }
+{
+    match copies.items() {
+        [copy] => only_action(alloc, number, effects, copy, go),
+        _ => copy_actions(alloc, number, &effects, copies, go),
+    }
 }
 
 /// The actions of a step with at most 8 weighted preferences, where these are the changes that the
@@ -86,7 +130,7 @@ fn copy_actions(
 pub(crate) fn narrow_actions(
     alloc: Global,
     step: &GroundStep,
-    effects: &Effects,
+    effects: Effects,
     weights: &Weights,
     go: usize,
 ) -> Result<List<TargetAction>, NoMemory>
@@ -95,11 +139,11 @@ pub(crate) fn narrow_actions(
     requires few { weigh.width_of weights.now.by_name step.now ≤ 8 }
     requires room { weigh.weighted_cost weights.now step.now
         + sum_by (weigh.weight_of weights.now.by_name) step.now.prefs < cost_limit }
-    ensures split { IfOk result (IsSplit go weights.now step.now effects.now) }
+    ensures split { IfOk result (IsSplit go weights.now step.now effects) }
     // They are tidy where the changes are.
-    ensures tidy { HasTidyConditions effects.now
+    ensures tidy { HasTidyConditions effects
         → IfOk result (λ actions. IsTrue (list_all is_tidy_action actions)) }
 {
     let copies = split(alloc, step, weights)?;
-    copy_actions(alloc, step.number, effects, &copies, go)
+    actions_of_copies(alloc, step.number, effects, &copies, go)
 }

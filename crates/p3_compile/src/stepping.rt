@@ -102,7 +102,7 @@ fn costed_actions(
     if has_many_weights(&weights.by_name, step) {
         return chain_actions(alloc, names, frame, weights, step, &effects);
     }
-    narrow_actions(alloc, step, &effects, weights, frame.go)
+    narrow_actions(alloc, step, effects, weights, frame.go)
 }
 
 /// The actions stand behind the others.

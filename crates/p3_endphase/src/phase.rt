@@ -7,7 +7,7 @@ ghost use Rattle.p3_formula.specs.Guards.{AllAreTidy};
 ghost use Rattle.p3_endphase.specs.Ends.{AreBelow, collect_name, forgo_name, IsMove, IsEndPhase, EndsOneWay, EndsNoWay, OneFits, MovesOn, IsGuarded, AllMoveForward, AllAreAllowed};
 
 use p3_base::{List, Name, NoMemory};
-use p3_formula::{Form, TargetAction, copied, guarded, negate, turned};
+use p3_formula::{Form, TargetAction, guarded, negate, turned};
 use std::alloc::Global;
 
 /// A preference instance at the end of a plan.
@@ -104,9 +104,8 @@ fn finish_action(alloc: Global, finish: &Form, first_atom: usize) -> Result<Targ
     ensures { IfOk result
         (IsMove first_atom finish.now (λ state. truth state finish.now) (codes "finish") 0) }
 {
-    let condition = copied(alloc, finish)?;
     let name = Name::of(alloc, b"finish".as_slice())?;
-    moving(alloc, name, first_atom, condition, 0)
+    moving(alloc, name, first_atom, finish, 0)
 }
 
 #[tactic(auto, using(crate::proofs::ActionLemmas::lowered_collect))]
@@ -137,9 +136,8 @@ fn collect_action(
         (IsMove (first_atom + (number + 1)) instance.now.accept (λ state.
         truth state instance.now.accept) (collect_name number) 0) }
 {
-    let condition = copied(alloc, &instance.accept)?;
     let name = Name::of(alloc, collect_name(alloc, number)?.as_bytes())?;
-    moving(alloc, name, first_atom + (number + 1), condition, 0)
+    moving(alloc, name, first_atom + (number + 1), &instance.accept, 0)
 }
 
 /// The instance is not satisfied, which costs its weight.
@@ -160,7 +158,7 @@ fn forgo_action(
         alloc,
         name,
         first_atom + (number + 1),
-        condition,
+        &condition,
         instance.weight,
     )
 }
@@ -170,11 +168,12 @@ fn moving(
     alloc: Global,
     name: Name,
     atom: usize,
-    condition: Form,
+    condition: &Form,
     cost: u64,
 ) -> Result<TargetAction, NoMemory>
     requires { atom + 1 ≤ 2 ^ 64 - 1 }
-    ensures { IfOk result (IsMove atom condition (λ state. truth state condition) name cost) }
+    ensures { IfOk result
+        (IsMove atom condition.now (λ state. truth state condition.now) name cost) }
 {
     let pre = guarded(alloc, [atom].as_slice(), condition)?;
     let effects = turned(List::new(alloc), [atom].as_slice(), [atom + 1].as_slice())?;

@@ -15,7 +15,7 @@ use crate::form::form_at;
 use crate::junction::both;
 use crate::{Statics, Work};
 use p3_base::{List, NoMemory};
-use p3_formula::{Change, Effects};
+use p3_formula::{Change, Effects, fitted};
 use p3_numbers::{Argument, NumberedEffect, Numbers};
 
 /// The conditions that stand above a part of an effect.
@@ -167,9 +167,8 @@ fn push_each(
     Ok(())
 }
 
-/// The changes of an effect at the objects in the slots, in the order of its literals. Those of
-/// literals that never take place may be left out.
-pub fn changes(
+/// The changes of an effect at the objects in the slots, in a list that may have room for more.
+fn made_changes(
     numbers: &Numbers,
     statics: &Statics,
     work: &mut Work,
@@ -187,4 +186,20 @@ pub fn changes(
     let mut made = List::new(work.alloc);
     push_changes(numbers, statics, work, slots, guard, effect, &mut made)?;
     Ok(made)
+}
+
+/// The changes of an effect at the objects in the slots, in the order of its literals. Those of
+/// literals that never take place may be left out.
+pub fn changes(
+    numbers: &Numbers,
+    statics: &Statics,
+    work: &mut Work,
+    slots: &[u32],
+    effect: &NumberedEffect,
+) -> Result<Effects, NoMemory>
+    ensures { IfOk result
+        (MakesChanges numbers.now statics.now slots.now effect.now work.old work.new) }
+{
+    let made = made_changes(numbers, statics, work, slots, effect)?;
+    Ok(fitted(made))
 }

@@ -24,7 +24,7 @@ module _ (allowed : ℕ → Bool) where
   negated_atoms (And' shape parts) = has_atoms-Not allowed (And' shape parts)
   negated_atoms (Or' shape parts) = has_atoms-Not allowed (Or' shape parts)
 
-  joined_atoms : (every : Bool) (parts : List Form) → has_atoms allowed (joined every parts) ≡ list_all (has_atoms allowed) parts
+  pub joined_atoms : (every : Bool) (parts : List Form) → has_atoms allowed (joined every parts) ≡ list_all (has_atoms allowed) parts
   unfolding has_atoms
   joined_atoms true [] = refl
   joined_atoms false [] = refl

@@ -16,7 +16,7 @@ use Rattle.p3_formula.specs.declared.form.Form.TheBlock.{hidden-the_row-Form-0, 
 use Rattle.p3_formula.specs.declared.form.Form.TheVariants.{True, False, Atom, Not, And, Or}
 
 module _ {A : Type 0} (step : Form-F A → A) where
-  row_forms : {n : Count} (row : Row_of-Form n) → fold_forms step row ≡ map (fold_form step) (items-the_row-Form n row)
+  pub row_forms : {n : Count} (row : Row_of-Form n) → fold_forms step row ≡ map (fold_form step) (items-the_row-Form n row)
   row_forms end_of-Form = refl
   row_forms (more_of-Form part rest) = λ i. fold_form step part ∷ row_forms rest i
 

@@ -1,8 +1,8 @@
 -- Equations of negated and simplified forms.
 use Rattle.std.proofs.Common.{◌≡◌, ℕ, true, false, List, [], map, refl, ap}
 use denote.Hole.Carrier.{hidden}
-use Rattle.p3_formula.specs.Simplified.{negated, junction, simplified, simplified_layer}
-use Rattle.p3_formula.specs.declared.form.Form.{Form}
+use Rattle.p3_formula.specs.Simplified.{negated, junction, spread, simplified, simplified_layer}
+use Rattle.p3_formula.specs.declared.form.Form.{Form, items_hidden-the_row-Form-1}
 use Rattle.p3_formula.specs.declared.form.Form.TheBlock.{hidden-the_row-Form-0}
 use Rattle.p3_formula.specs.declared.form.Form.TheVariants.{True, False, Atom, Not, And, Or}
 use Rattle.p3_formula.proofs.FormLemmas.{fold_parts}
@@ -34,6 +34,11 @@ simplified-And parts = ap (junction true []) (fold_parts simplified_layer parts)
 pub simplified-Or : (parts : List Form) → simplified (Or parts) ≡ junction false [] (map simplified parts)
 unfolding simplified
 simplified-Or parts = ap (junction false []) (fold_parts simplified_layer parts)
+
+pub spread-And : (parts : List Form) → spread (And parts) ≡ parts
+spread-And parts = items_hidden-the_row-Form-1 parts
+
+pub ruleset spread_laws = (spread-And)
 
 pub ruleset simplified_laws = (simplified-True, simplified-False, simplified-Atom, simplified-Not, simplified-And, simplified-Or)
 

@@ -47,7 +47,7 @@ negated_tidy (Or' shape parts) h = negation (Or' shape parts) h refl
 together_tidy : (parts : List Form) → nat_le 2 (length (map look parts)) ≡ true → list_all is_tidy_part parts ≡ true → (look_of_parts (map look parts)).fits ≡ true
 together_tidy parts many h = and_from (nat_le 2 (length (map look parts))) _ many (list_all-map (λ part. part.fits) look parts ∙ h)
 
-joined_tidy : (every : Bool) (parts : List Form) → list_all is_tidy_part parts ≡ true → is_tidy (joined every parts) ≡ true
+pub joined_tidy : (every : Bool) (parts : List Form) → list_all is_tidy_part parts ≡ true → is_tidy (joined every parts) ≡ true
 joined_tidy true [] h = refl
 joined_tidy false [] h = refl
 joined_tidy every (part ∷ []) h = as_part part (and_parts (is_tidy_part part) _ h).0

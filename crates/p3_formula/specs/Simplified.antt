@@ -2,7 +2,7 @@
 use Rattle.std.specs.Prelude.{Bool, true, false, not, if◌then◌else◌, List, [], ◌∷◌, ◌++◌}
 use mathlib.Core.Former.{Count, one_more}
 use Rattle.p3_formula.specs.Folds.{fold_form}
-use Rattle.p3_formula.specs.declared.form.Form.{Form, Row_of-Form, more_of-Form}
+use Rattle.p3_formula.specs.declared.form.Form.{Form, Row_of-Form, more_of-Form, items-the_row-Form}
 use Rattle.p3_formula.specs.declared.form.Form.TheVariants.{True, False, Atom, Not, And, Or, Not', And', Or'}
 use Rattle.p3_formula.specs.declared.form.Form.TheOpen as layer
 
@@ -46,6 +46,19 @@ abbrev pub junction : Bool → List Form → List Form → Form
 junction every kept [] = joined every kept
 junction every kept (part ∷ rest) =
     if is_value (not every) part then constant (not every) else junction every (if is_value every part then kept else (kept ++ part ∷ [])) rest
+
+-- what a part of a conjunction consists of: its own parts, where it is one, and nothing where it always holds
+abbrev pub spread : Form → List Form
+spread True = []
+spread False = False ∷ []
+spread (Atom atom) = Atom atom ∷ []
+spread (Not' shape part) = Not' shape part ∷ []
+spread (And' shape parts) = items-the_row-Form _ parts
+spread (Or' shape parts) = Or' shape parts ∷ []
+
+-- the conjunction of the parts kept and of one more, behind them
+abbrev pub with_last : List Form → Form → Form
+with_last kept part = if is_value false part then False else joined true (kept ++ spread part)
 
 abbrev pub simplified_layer : layer.Form-F Form → Form
 simplified_layer layer.True = True

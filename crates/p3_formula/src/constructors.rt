@@ -19,10 +19,10 @@ impl Form {
     pub fn both(alloc: Global, first: Form, second: Form) -> Result<Form, NoMemory>
         ensures { IfOk result (λ form. form ≡ made.both first second) }
     {
-        let mut parts = List::new(alloc);
+        let mut parts = Vec::with_capacity(alloc, 2)?;
         parts.push(first)?;
         parts.push(second)?;
-        Ok(Form::And(parts))
+        Ok(Form::And(List::from(parts)))
     }
 }
 

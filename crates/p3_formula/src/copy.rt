@@ -26,11 +26,11 @@ pub fn copied(alloc: Global, form: &Form) -> Result<Form, NoMemory>
 fn copied_all(alloc: Global, forms: &[Form]) -> Result<List<Form>, NoMemory>
     ensures { IfOk result (λ copies. copies ≡ forms.now) }
 {
-    let mut copies = List::new(alloc);
+    let mut copies = Vec::with_capacity(alloc, forms.len())?;
     for form in forms {
         copies.push(copied(alloc, form)?)?;
     }
-    Ok(copies)
+    Ok(List::from(copies))
 }
 
 /// The same change once more.
@@ -48,9 +48,18 @@ pub fn change_copied(alloc: Global, change: &Change) -> Result<Change, NoMemory>
 pub fn effects_copied(alloc: Global, effects: &Effects) -> Result<Effects, NoMemory>
     ensures { IfOk result (λ copy. copy ≡ effects.now) }
 {
-    let mut copies = List::new(alloc);
+    let mut copies = Vec::with_capacity(alloc, effects.len())?;
     for change in effects.items() {
         copies.push(change_copied(alloc, change)?)?;
     }
-    Ok(copies)
+    Ok(List::from(copies))
+}
+
+/// The same changes, in no more room than they take.
+pub fn fitted(effects: Effects) -> Effects
+    ensures { result ≡ effects }
+{
+    let mut changes = effects.into_items();
+    changes.shrink_to_fit();
+    List::from(changes)
 }

@@ -3,24 +3,25 @@
 ghost use Rattle.std.specs.Prelude.{◌≡◌, ◌++◌, IfOk, map};
 ghost use Rattle.p3_formula.specs.Guards as made;
 
+use crate::simpler::with_last;
 use crate::{Change, Effects, Form, simplify};
 use p3_base::{List, NoMemory};
 use std::alloc::Global;
 
 /// A tidy form that holds where the guards are set and the condition holds.
-pub fn guarded(alloc: Global, guards: &[usize], condition: Form) -> Result<Form, NoMemory>
-    ensures { IfOk result (made.IsGuardedForm guards.now condition) }
+pub fn guarded(alloc: Global, guards: &[usize], condition: &Form) -> Result<Form, NoMemory>
+    ensures { IfOk result (made.IsGuardedForm guards.now condition.now) }
 {
-    let mut parts = atoms(alloc, guards)?;
-    parts.push(condition)?;
-    simplify(alloc, &Form::And(parts))
+    let simple = simplify(alloc, condition)?;
+    let kept = atoms(alloc, guards)?;
+    with_last(kept, simple)
 }
 
-/// Each atom as a form.
-fn atoms(alloc: Global, atoms: &[usize]) -> Result<List<Form>, NoMemory>
-    ensures { IfOk result (λ forms. forms ≡ map Form.Atom atoms.now) }
+/// Each atom as a form, with room for one form more.
+fn atoms(alloc: Global, atoms: &[usize]) -> Result<Vec<Form>, NoMemory>
+    ensures { IfOk result (λ forms. forms.items ≡ map Form.Atom atoms.now) }
 {
-    let mut forms = List::new(alloc);
+    let mut forms = Vec::with_capacity(alloc, atoms.len().saturating_add(1))?;
     for atom in atoms {
         forms.push(Form::Atom(*atom))?;
     }
@@ -31,12 +32,13 @@ fn atoms(alloc: Global, atoms: &[usize]) -> Result<List<Form>, NoMemory>
 pub fn turned(effects: Effects, off: &[usize], on: &[usize]) -> Result<Effects, NoMemory>
     ensures { IfOk result (λ new. new ≡ effects ++ made.turned off.now on.now) }
 {
-    let mut all = effects;
+    let mut all = effects.into_items();
+    all.reserve_exact(off.len().saturating_add(on.len()))?;
     'clearing: for atom in off {
         all.push(Change::clears(*atom))?;
     }
     'setting: for atom in on {
         all.push(Change::sets(*atom))?;
     }
-    Ok(all)
+    Ok(List::from(all))
 }

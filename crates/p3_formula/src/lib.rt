@@ -22,7 +22,7 @@ mod task;
 
 pub use atoms::is_free_of;
 pub use bits::Bits;
-pub use copy::{change_copied, copied, effects_copied};
+pub use copy::{change_copied, copied, effects_copied, fitted};
 pub use evaluation::eval;
 pub use form::{Change, Effects, Form};
 pub use guards::{guarded, turned};

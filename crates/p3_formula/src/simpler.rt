@@ -1,6 +1,6 @@
 //! Negated and simplified forms.
 
-ghost use Rattle.std.specs.Prelude.{◌≡◌, ◌≤◌, ◌+◌, IfOk, IsTrue, true, [], map};
+ghost use Rattle.std.specs.Prelude.{◌≡◌, ◌≤◌, ◌+◌, ◌++◌, ◌∷◌, IfOk, OnOk, IsTrue, true, [], map};
 ghost use Rattle.p3_formula.specs.Forms.{HasAtomsOf, HasSameTruth, IsOpposite, nodes};
 ghost use Rattle.p3_formula.specs.Tidy.{is_tidy};
 ghost use Rattle.p3_formula.specs.Simplified as made;
@@ -72,6 +72,7 @@ fn joined(mut parts: Vec<Form>, every: bool) -> Form
     ensures { result ≡ made.joined every parts.items }
 {
     if parts.len() > 1 {
+        parts.shrink_to_fit();
         return together(List::from(parts), every);
     }
     match parts.pop() {
@@ -89,6 +90,50 @@ fn together(parts: List<Form>, every: bool) -> Form
     } else {
         Form::Or(parts)
     }
+}
+
+/// The parts stand behind the others.
+fn push_all(kept: &mut Vec<Form>, parts: List<Form>) -> Result<(), NoMemory>
+    ensures { OnOk result (kept.new.items ≡ kept.old.items ++ parts) }
+{
+    let mut parts = parts.into_items();
+    kept.append(&mut parts)?;
+    Ok(())
+}
+
+/// The part stands behind the others.
+fn push_one(kept: &mut Vec<Form>, part: Form) -> Result<(), NoMemory>
+    ensures { OnOk result (kept.new.items ≡ kept.old.items ++ part ∷ []) }
+{
+    kept.push(part)?;
+    Ok(())
+}
+
+/// What a part of a conjunction consists of stands behind the others.
+#[tactic(auto, using(crate::proofs::SimplifiedLemmas::spread_laws))]
+fn push_spread(kept: &mut Vec<Form>, part: Form) -> Result<(), NoMemory>
+    ensures { OnOk result (kept.new.items ≡ kept.old.items ++ made.spread part) }
+{
+    match part {
+        Form::True => Ok(()),
+        Form::False => push_one(kept, Form::False),
+        Form::Atom(atom) => push_one(kept, Form::Atom(atom)),
+        Form::Not(part) => push_one(kept, Form::Not(part)),
+        Form::And(parts) => push_all(kept, parts),
+        Form::Or(parts) => push_one(kept, Form::Or(parts)),
+    }
+}
+
+/// The conjunction of the parts and of one more, behind them.
+pub(crate) fn with_last(kept: Vec<Form>, part: Form) -> Result<Form, NoMemory>
+    ensures { IfOk result (λ form. form ≡ made.with_last kept.items part) }
+{
+    let mut kept = kept;
+    if is_value(&part, false) {
+        return Ok(constant(false));
+    }
+    push_spread(&mut kept, part)?;
+    Ok(joined(kept, true))
 }
 
 /// The form without constants, superfluous connectives and double negations.
@@ -113,7 +158,7 @@ fn junction(alloc: Global, parts: &[Form], every: bool) -> Result<Form, NoMemory
     ensures { IfOk result (λ simple.
         simple ≡ made.junction every [] (map made.simplified parts.now)) }
 {
-    let mut kept = Vec::new(alloc);
+    let mut kept = Vec::with_capacity(alloc, parts.len())?;
     for part in parts {
         let part = simplified(alloc, part)?;
         if is_value(&part, !every) {

@@ -137,7 +137,7 @@ impl Table {
         ensures below { IfOk result (λ numbers. All (λ number. number < length self.new) numbers) }
         ensures stands { IfOk result (λ numbers. map (form_of self.new) numbers ≡ forms.now) }
     {
-        let mut numbers = List::new(self.alloc);
+        let mut numbers = List::from(Vec::with_capacity(self.alloc, forms.len())?);
         for form in forms {
             numbers.push(self.of(form)?)?;
         }
@@ -249,10 +249,10 @@ impl Table {
         requires parts { All (λ number. number < count) numbers.now }
         ensures { IfOk result (λ forms. forms ≡ map (form_of self.now) numbers.now) }
     {
-        let mut forms = List::new(alloc);
+        let mut forms = Vec::with_capacity(alloc, numbers.len())?;
         for number in numbers {
             forms.push(self.form(alloc, *number)?)?;
         }
-        Ok(forms)
+        Ok(List::from(forms))
     }
 }

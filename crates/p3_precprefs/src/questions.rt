@@ -168,7 +168,7 @@ fn begin_action(
     ensures { IfOk result (made.IsBegin go first current step.now) }
 {
     let name = begin_name(alloc, step.number)?;
-    let pre = guarded(alloc, [go].as_slice(), copied(alloc, &step.pre)?)?;
+    let pre = guarded(alloc, [go].as_slice(), &step.pre)?;
     let effects = turned(
         List::new(alloc),
         [go].as_slice(),
@@ -193,7 +193,7 @@ fn answer_action(
     let next = at.first + (at.place + 1);
     let name = answer_name(alloc, at.number, at.place, holds)?;
     let condition = signed(alloc, body, holds)?;
-    let pre = guarded(alloc, [atom, at.current].as_slice(), condition)?;
+    let pre = guarded(alloc, [atom, at.current].as_slice(), &condition)?;
     let effects = turned(List::new(alloc), [atom].as_slice(), [next].as_slice())?;
     Ok(link(name, pre, effects, cost))
 }
@@ -211,7 +211,7 @@ fn end_action(
     ensures { IfOk result (made.IsEnd go last current number effects.now cost) }
 {
     let name = end_name(alloc, number)?;
-    let pre = guarded(alloc, [last, current].as_slice(), Form::True)?;
+    let pre = guarded(alloc, [last, current].as_slice(), &Form::True)?;
     let effects = effects_copied(alloc, effects)?;
     let effects = turned(effects, [last, current].as_slice(), [go].as_slice())?;
     Ok(link(name, pre, effects, cost))

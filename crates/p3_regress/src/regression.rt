@@ -94,6 +94,36 @@ impl<'e> Regressed<'e> {
         // Nodes, effects and answers that are there stay.
         ensures extends { Extends self.old self.new }
     {
+        match form {
+            Form::Atom(atom) => self.atom_form(alloc, *atom),
+            form => self.form_by_nodes(alloc, form),
+        }
+    }
+
+    /// The form that holds before the step exactly where an atom is set after it. It takes no node.
+    fn atom_form(&self, alloc: Global, atom: usize) -> Result<Form, NoMemory>
+        ensures truth { IfOk result (λ before.
+            IsTrueBefore self.now.effects (Form.Atom atom) before) }
+        ensures untouched { IsUntouched self.now.effects (Form.Atom atom)
+            → IfOk result (λ before. before ≡ Form.Atom atom) }
+        ensures size { IfOk result (λ before.
+            nodes before ≤ nodes (Form.Atom atom) + growth self.now.effects (Form.Atom atom)) }
+        ensures atoms { IfOk result (λ before.
+            HasAtomsOfBoth self.now.effects (Form.Atom atom) before) }
+    {
+        atom_after(alloc, changes_of(&self.changes, atom), atom)
+    }
+
+    /// The same, by the nodes of the form.
+    fn form_by_nodes(&mut self, alloc: Global, form: &Form) -> Result<Form, NoMemory>
+        ensures truth { IfOk result (λ before. IsTrueBefore self.old.effects form.now before) }
+        ensures untouched { IsUntouched self.old.effects form.now
+            → IfOk result (λ before. before ≡ form.now) }
+        ensures size { IfOk result (λ before.
+            nodes before ≤ nodes form.now + growth self.old.effects form.now) }
+        ensures atoms { IfOk result (λ before. HasAtomsOfBoth self.old.effects form.now before) }
+        ensures extends { Extends self.old self.new }
+    {
         let number = self.memory.of(form)?;
         let before = before(&mut self.memory, &self.changes, number)?;
         self.memory.table.form(alloc, before)

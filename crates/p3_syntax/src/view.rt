@@ -100,6 +100,13 @@ fn first_view<'o, 'a>(text: &'a [u8], nodes: &'o [Node]) -> Option<(View<'o, 'a>
 }
 
 impl<'o, 'a> Parts<'o, 'a> {
+    /// How many nodes there are, which is how many elements where each is a word.
+    pub(crate) fn node_count(&self) -> usize
+        ensures { result ≡ length self.now.nodes.now }
+    {
+        self.nodes.len()
+    }
+
     /// The next element; None where none is left.
     #[expect(clippy::should_implement_trait)]
     pub fn next(&mut self) -> Option<View<'o, 'a>>

@@ -8,7 +8,7 @@ ghost use Rattle.p3_syntax.specs.Reading.{Gives};
 ghost use Rattle.p3_syntax.specs.Trees.{form_at, formula_by, the_atom};
 
 use crate::error::Fault;
-use crate::tree::lists::{term, terms, variables};
+use crate::tree::lists::{fitted, room, term, terms, variables};
 use crate::tree::parts::{headed, only, pair, parts};
 use crate::tree::tests::is;
 use crate::tree::words::predicate;
@@ -60,11 +60,11 @@ fn formulas(alloc: Global, parts: Parts<'_, '_>) -> Result<List<Formula>, Fault>
     ensures { Gives (λ trees. trees) result (each_at formula_place (expressions_of parts.entry)) }
 {
     let mut left = parts;
-    let mut found = List::new(alloc);
+    let mut found = room(alloc, 2)?;
     while let Some(view) = left.next() {
         found.push(formula(alloc, view)?)?;
     }
-    Ok(found)
+    Ok(fitted(found))
 }
 
 #[cycle(formula)]

@@ -9,7 +9,7 @@ ghost use Rattle.p3_syntax.specs.Trees.{each_goal, goal_by, the_named};
 
 use crate::error::Fault;
 use crate::tree::formulas::formula;
-use crate::tree::lists::variables;
+use crate::tree::lists::{fitted, room, variables};
 use crate::tree::parts::{headed, pair, parts};
 use crate::tree::tests::is;
 use crate::tree::words::{TextWord, name};
@@ -55,11 +55,11 @@ fn goals(alloc: Global, parts: Parts<'_, '_>) -> Result<List<PreGoal>, Fault>
     ensures { Gives (λ trees. trees) result (each_at goal_place (expressions_of parts.entry)) }
 {
     let mut left = parts;
-    let mut found = List::new(alloc);
+    let mut found = room(alloc, 2)?;
     while let Some(view) = left.next() {
         found.push(goal(alloc, view)?)?;
     }
-    Ok(found)
+    Ok(fitted(found))
 }
 
 #[cycle(goal)]

@@ -1,6 +1,6 @@
 //! Terms, types, and lists of typed names.
 
-ghost use Rattle.std.specs.Prelude.{◌≡◌};
+ghost use Rattle.std.specs.Prelude.{◌≡◌, [], IfOk};
 ghost use Rattle.p3_tree.specs.Grammar.Words.{each_at, name_place, variable_place};
 ghost use Rattle.p3_tree.specs.Grammar.Lists.{term_place, object_place, type_place, one_type_place, variables_in, variables_place, objects_in, either_in};
 ghost use Rattle.p3_syntax.specs.Nodes.{expression_of, expressions_of};
@@ -13,7 +13,7 @@ use crate::tree::parts::{headed, parts};
 use crate::tree::tests::{is, is_name, is_variable};
 use crate::tree::words::{copied, name, variable, word};
 use crate::view::{Parts, View};
-use p3_base::List;
+use p3_base::{List, NoMemory};
 use p3_tree::{Ref, Term, Typed};
 use std::alloc::Global;
 
@@ -31,12 +31,28 @@ pub fn term(alloc: Global, view: View<'_, '_>) -> Result<Term, Fault>
     }
 }
 
+/// The same items, in no more room than they take.
+pub fn fitted<T>(list: List<T>) -> List<T>
+    ensures { result ≡ list }
+{
+    let mut items = list.into_items();
+    items.shrink_to_fit();
+    List::from(items)
+}
+
+/// No item yet, and room for so many.
+pub fn room<T>(alloc: Global, count: usize) -> Result<List<T>, NoMemory>
+    ensures { IfOk result (λ list. list ≡ []) }
+{
+    Ok(List::from(Vec::with_capacity(alloc, count)?))
+}
+
 /// The terms of parts.
 pub fn terms(alloc: Global, parts: Parts<'_, '_>) -> Result<List<Term>, Fault>
     ensures { Gives (λ terms. terms) result (each_at term_place (expressions_of parts.entry)) }
 {
     let mut left = parts;
-    let mut found = List::new(alloc);
+    let mut found = room(alloc, parts.node_count())?;
     while let Some(view) = left.next() {
         found.push(term(alloc, view)?)?;
     }
@@ -55,7 +71,7 @@ pub fn object_terms(alloc: Global, parts: Parts<'_, '_>) -> Result<List<Term>, F
     ensures { Gives (λ terms. terms) result (each_at object_place (expressions_of parts.entry)) }
 {
     let mut left = parts;
-    let mut found = List::new(alloc);
+    let mut found = room(alloc, parts.node_count())?;
     while let Some(view) = left.next() {
         found.push(object(alloc, view)?)?;
     }

@@ -3,4 +3,4 @@ use Rattle.p3_formula.proofs.copy.effects_copied.Given as goal
 
 -- the changes passed stand copied
 abbrev pub invariant-loop-change : goal.invariant-loop-change
-invariant-loop-change l = l.copies ≡ take l.change-index l.effects
+invariant-loop-change l = l.copies.items ≡ take l.change-index l.effects

@@ -4,4 +4,4 @@ use Rattle.p3_formula.proofs.guards.atoms.Given as goal
 
 -- a form for each of the atoms passed
 abbrev pub invariant-loop-atom : goal.invariant-loop-atom
-invariant-loop-atom l = l.forms ≡ map Atom (take l.atom-index l.atoms)
+invariant-loop-atom l = l.forms.items ≡ map Atom (take l.atom-index l.atoms)

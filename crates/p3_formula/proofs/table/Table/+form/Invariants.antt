@@ -13,4 +13,4 @@ decreases-all_forms l = 3 * l.count
 
 -- the numbers passed have their forms
 abbrev pub invariant-all_forms-loop-number : goal.invariant-all_forms-loop-number
-invariant-all_forms-loop-number l = l.forms ≡ map (form_of l.self) (take l.number-index l.numbers)
+invariant-all_forms-loop-number l = l.forms.items ≡ map (form_of l.self) (take l.number-index l.numbers)

@@ -6,7 +6,7 @@ use Rattle.p3_regress.specs.Regressed.{IsTrueBefore, IsUntouched, HasAtomsOfBoth
 use Rattle.p3_regress.specs.Sorted.{lent}
 use Rattle.p3_regress.proofs.MemoryLemmas.{answered_stands, answered_within, right_grows}
 use Rattle.p3_regress.proofs.RegressedLaws.{sorted_truth, sorted_same, sorted_atoms, sorted_nodes}
-use Rattle.p3_regress.proofs.regression.Regressed.form.Goals as goal
+use Rattle.p3_regress.proofs.regression.Regressed.form_by_nodes.Goals as goal
 
 -- the answers are right of the table that the form was put into
 pub invariant_of-self : goal.invariant_of-self

@@ -3,7 +3,7 @@ use Rattle.p3_compile.specs.Tidied.{AreTidied}
 use Rattle.p3_compile.specs.Updated.{AreTouched, HasUpdates}
 use Rattle.p3_compile.proofs.TidiedLists.{tidied-append}
 use Rattle.p3_compile.proofs.Touched.{are_touched}
-use Rattle.p3_compile.proofs.changes.step_changes.Goals as goal
+use Rattle.p3_compile.proofs.changes.made_changes.Goals as goal
 
 pub push_updates-requires-clause-touched : goal.push_updates-requires-clause-touched
 push_updates-requires-clause-touched c =

@@ -3,7 +3,7 @@ use Rattle.p3_formula.specs.Nodes.{form_of}
 use Rattle.p3_expansion.specs.Changes.{effect_atoms, always, ChangesStand}
 use Rattle.p3_expansion.proofs.ExpansionLemmas.{stands-constant}
 use Rattle.p3_expansion.proofs.GrowthLemmas.{grows-trans, grows-none}
-use Rattle.p3_expansion.proofs.effect.changes.Goals as goal
+use Rattle.p3_expansion.proofs.effect.made_changes.Goals as goal
 
 pub returns : goal.returns
 returns c =
