@@ -1,5 +1,5 @@
 -- Faults as values of the code, and what judging one step more tells of a plan.
-use Rattle.std.specs.Prelude.{◌≡◌, ℕ, ◌∷◌, ◌++◌, Option, Some, None, option_map}
+use Rattle.std.specs.Prelude.{◌≡◌, ℕ, ◌≤◌, ◌∷◌, ◌++◌, Option, Some, None, option_map}
 use Rattle.p3_tree.specs.Plans.{Plan, last_state, visited}
 use Rattle.p3_tree.specs.Validity as why
 use Rattle.p3_tree.specs.Validity.{AtConstraint, AtGoal, AtStep, Fault, first_fault, misfit}
@@ -28,6 +28,18 @@ fault_by step (kind.Unmet place) = AtConstraint place
 
 abbrev pub fault_in : PlanFault → Fault
 fault_in fault = fault_by fault.step fault.kind
+
+-- a step is counted from 1, and 0 stands for the step of the goal and of constraints
+abbrev pub IsStepOf : FaultKind → ℕ → Type 0
+IsStepOf kind.UnknownAction step = 1 ≤ step
+IsStepOf kind.Arguments step = 1 ≤ step
+IsStepOf kind.Precondition step = 1 ≤ step
+IsStepOf kind.NoCost step = 1 ≤ step
+IsStepOf kind.Goal step = step ≡ 0
+IsStepOf (kind.Unmet place) step = step ≡ 0
+
+abbrev pub HasItsStep : PlanFault → Type 0
+HasItsStep fault = IsStepOf fault.kind fault.step
 
 -- the fault of a step that was tried, if it has one
 abbrev pub fault_of_step : ℕ → Stepped → Option PlanFault

@@ -1,9 +1,10 @@
 //! Plans judged step by step, as what each step is found.
 
-ghost use Rattle.std.specs.Prelude.{◌≡◌, ◌<◌, ◌≤◌, [], length, option_map};
+ghost use Rattle.std.specs.Prelude.{◌≡◌, ◌<◌, ◌≤◌, [], length, option_map, IfSome};
 ghost use Rattle.p3_tree.specs.Validity.{first_fault};
 ghost use Rattle.p3_run.specs.Runs.{most_steps};
 ghost use Rattle.p3_eval.specs.Judged.{
+  HasItsStep,
   IsJudged,
   TellsOfFound,
   fault_in,
@@ -19,7 +20,9 @@ use p3_types::{Checked, Found};
 
 /// The fault of a step that was tried, if it has one.
 fn fault_of(step: u32, stepped: Stepped) -> Option<PlanFault>
-    ensures { result ≡ fault_of_step step stepped }
+    requires { 1 ≤ step }
+    ensures told { result ≡ fault_of_step step stepped }
+    ensures placed { IfSome result HasItsStep }
 {
     match stepped {
         Stepped::Done => None,
@@ -40,6 +43,7 @@ impl<'a> Run<'a> {
     pub fn follow(&mut self, found: Found) -> Option<PlanFault>
         requires { length self.old.plan < most_steps }
         ensures told { TellsOfFound self.old found result }
+        ensures placed { IfSome result HasItsStep }
         ensures ran { self.new ≡ ran_with self.old found result }
     {
         let step = self.steps() + 1;
@@ -58,7 +62,9 @@ impl<'a> Run<'a> {
 
     /// The first fault of the plan of the steps done, if it has one: it is valid where it has none.
     pub fn judge(&self) -> Option<PlanFault>
-        ensures { OfItsPlan self.now (λ T plan. first_fault T plan ≡ option_map fault_in result) }
+        ensures fault { OfItsPlan self.now
+            (λ T plan. first_fault T plan ≡ option_map fault_in result) }
+        ensures placed { IfSome result HasItsStep }
     {
         match self.finish() {
             Verdict::Valid => None,
@@ -79,7 +85,8 @@ impl<'a> Run<'a> {
         requires task { BelongTogether task.now.task self.old.task self.old.weights }
         requires begun { self.old.plan ≡ [] }
         requires room { length plan.now ≤ most_steps }
-        ensures { IsJudged task.now.task plan.now self.old self.new result }
+        ensures judged { IsJudged task.now.task plan.now self.old self.new result }
+        ensures placed { IfSome result HasItsStep }
     {
         for step in plan {
             if let Some(fault) = self.follow(task.find(step)) {

@@ -10,7 +10,7 @@ use Rattle.p3_tree.specs.declared.task.Step.{Step}
 use Rattle.p3_tree.specs.declared.task.Task.{Task}
 use Rattle.p3_plans.specs.Laws.{AreTextsOf}
 use Rattle.p3_plans.specs.Steps.{Left}
-use Rattle.p3_eval.specs.Judged.{fault_in}
+use Rattle.p3_eval.specs.Judged.{HasItsStep, fault_in}
 use Rattle.p3_eval.specs.Runs.{BelongTogether}
 use Rattle.p3_ground.specs.PlansByNumber.{AreNumbers}
 use Rattle.p3_run.specs.Runs.{Ran, ran_after}
@@ -53,7 +53,7 @@ HasDone T text ran = (plan : Plan) → IsPlanText text plan → AreNumbers T pla
 -- the first offence of the text, or else the first fault of its plan; where there is none, the run has done its steps
 abbrev pub IsVerdict : Task → List ℕ → Ran → TextVerdict → Type 0
 IsVerdict T text ran (Refused refusal) = plan_offence text ≡ Some refusal
-IsVerdict T text ran (Invalid told) = (plan_offence text ≡ None) × IsFirstFault T text (Some told)
+IsVerdict T text ran (Invalid told) = (plan_offence text ≡ None) × IsFirstFault T text (Some told) × HasItsStep told
 IsVerdict T text ran Valid = (plan_offence text ≡ None) × IsFirstFault T text None × HasDone T text ran
 
 -- ---- the loop over the steps

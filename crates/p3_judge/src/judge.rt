@@ -1,7 +1,8 @@
 //! Judging the text of a plan.
 
-ghost use Rattle.std.specs.Prelude.{◌≡◌, ◌<◌, ◌≤◌, [], length, None};
+ghost use Rattle.std.specs.Prelude.{◌≡◌, ◌<◌, ◌≤◌, [], length, None, IfSome};
 ghost use Rattle.p3_tree.specs.PlanTexts.{plan_offence};
+ghost use Rattle.p3_eval.specs.Judged.{HasItsStep};
 ghost use Rattle.p3_run.specs.Runs.{most_steps};
 ghost use Rattle.p3_judge.specs.Judging.{
   GoesOn,
@@ -34,7 +35,8 @@ pub fn judge_text(whole: &Whole, run: &mut Run<'_>, text: &[u8]) -> TextVerdict
     requires of { IsRunOf whole.now.checked.task run.old }
     requires begins { run.old.plan ≡ [] }
     requires short { length text.now ≤ 16777216 }
-    ensures { IsVerdict whole.now.checked.task text.now run.new result }
+    ensures verdict { IsVerdict whole.now.checked.task text.now run.new result }
+    ensures of { IsRunOf whole.now.checked.task run.new }
 {
     if let Some(refusal) = first_plan_offence(text) {
         return TextVerdict::Refused(refusal);
@@ -53,6 +55,7 @@ pub fn first_fault(checked: &Checked, run: &mut Run<'_>, text: &[u8]) -> Option<
     requires short { length text.now ≤ 16777216 }
     requires free { plan_offence text.now ≡ None }
     ensures fault { IsFirstFault checked.now.task text.now result }
+    ensures placed { IfSome result HasItsStep }
     ensures done { result ≡ None → HasDone checked.now.task text.now run.new }
     ensures of { IsRunOf checked.now.task run.new }
 {
@@ -77,6 +80,7 @@ fn step_fault(checked: &Checked, run: &mut Run<'_>, text: &[u8]) -> Option<PlanF
     requires short { length text.now ≤ 16777216 }
     requires spelled { HasStep text.now }
     ensures goes { GoesOn checked.now.task run.old run.new text.now result }
+    ensures placed { IfSome result HasItsStep }
     ensures of { IsRunOf checked.now.task run.new }
 {
     run.follow(checked.find_text(text))

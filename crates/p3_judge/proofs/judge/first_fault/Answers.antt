@@ -43,7 +43,7 @@ returns-in-End-clause-done c none plan spelled =
 pub returns-in-End-clause-fault : goal.returns-in-End-clause-fault
 returns-in-End-clause-fault c =
     fault_behind c.args.checked.now.task c.args.text.now c.requires.free c.loop-slice.run (left c.loop-slice.reader) (ap (λ (l : Left). l.steps) c.in-End.ensures.steps) c.loop-slice.invariant.follows
-    c.judge.result c.judge.ensures c.loop-slice.invariant.of.together
+    c.judge.result c.judge.ensures.fault c.loop-slice.invariant.of.together
 
 pub unreachable-requires : goal.unreachable-requires
 unreachable-requires c =

@@ -13,7 +13,7 @@ returns-in-Number-clause-told c =
     let place = ap (λ n. n + 1) c.steps-step.ensures.count in
     let told = tells_of_number ran (c.steps-step.result + 1) place c.in-Number.number c.step.result c.step.ensures.misfit c.step.ensures.fault in
     subst (λ (found : Found). TellsOfFound ran found c.fault_of.result) (sym c.in-Number.is)
-    (subst (λ (fault : Option PlanFault). TellsOfFound ran (Number c.in-Number.number) fault) (sym c.fault_of.ensures) told)
+    (subst (λ (fault : Option PlanFault). TellsOfFound ran (Number c.in-Number.number) fault) (sym c.fault_of.ensures.told) told)
 
 pub returns-in-UnknownAction-clause-told : goal.returns-in-UnknownAction-clause-told
 returns-in-UnknownAction-clause-told c =

@@ -12,8 +12,8 @@ follow-requires c =
     has_room c.args.task.now.task c.args.self.now c.loop-step.self c.requires.task c.args.plan.now c.loop-step.step-index c.step-item.result c.loop-step-test.true c.step-item.is c.loop-step.invariant
     c.requires.room
 
-pub returns-in-Some : goal.returns-in-Some
-returns-in-Some c =
+pub returns-in-Some-clause-judged : goal.returns-in-Some-clause-judged
+returns-in-Some-clause-judged c =
     fault_is_judged c.args.task.now.task c.args.self.now c.loop-step.self c.requires.task c.args.plan.now c.loop-step.step-index c.step-item.result c.loop-step-test.true c.step-item.is c.loop-step.invariant
     c.find.result c.in-Some.fault c.follow.new.self c.find.ensures c.in-Some.ensures.told
 
@@ -26,6 +26,6 @@ loop-step-preserved c =
 pub loop-step-init : goal.loop-step-init
 loop-step-init c = none_done c.args.task.now.task c.args.self.now c.requires.begun
 
-pub returns : goal.returns
-returns c =
-    end_is_judged c.args.task.now.task c.args.self.now c.loop-step.self c.requires.task c.args.plan.now c.loop-step.step-index c.loop-step-test.false c.loop-step.invariant c.judge.result c.judge.ensures
+pub returns-clause-judged : goal.returns-clause-judged
+returns-clause-judged c =
+    end_is_judged c.args.task.now.task c.args.self.now c.loop-step.self c.requires.task c.args.plan.now c.loop-step.step-index c.loop-step-test.false c.loop-step.invariant c.judge.result c.judge.ensures.fault
