@@ -1,5 +1,6 @@
 pub mod Actions
-pub mod Counting
 pub mod Embeds
+pub mod Plans
 pub mod Sought
 pub mod Walking
+pub mod Wide

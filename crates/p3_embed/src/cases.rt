@@ -5,7 +5,9 @@ ghost use Rattle.p3_formula.proofs.Worked as worked;
 ghost use Rattle.p3_formula.specs.Guards as guards;
 ghost use Rattle.p3_formula.specs.GroundPlans.{GroundValid};
 
-use crate::{Embedding, embed};
+mod wide;
+
+use crate::embedding::{Embedding, embed_numbers};
 use p3_base::{Boxed, Direction, List, Name, NoMemory};
 use p3_formula::{
     Bits, Change, Effects, Form, GroundModal, GroundSoft, GroundStep, GroundTask, Target,
@@ -195,7 +197,7 @@ fn embedded(alloc: Global, numbers: &[u32]) -> Result<Embedding, NoMemory>
     let task = task(alloc)?;
     let weights = weights(alloc)?;
     let target = target(alloc)?;
-    embed(alloc, &task, &weights, &target, numbers)
+    embed_numbers(alloc, &task, &weights, &target, numbers)
 }
 
 fn is_plan(embedding: &Embedding, names: &[&str]) -> bool {

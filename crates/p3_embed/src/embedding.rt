@@ -15,18 +15,18 @@ use p3_formula::{GroundTask, Target, Weights, eval};
 use std::alloc::Global;
 
 /// A plan of a target, and what it costs.
-#[derive(Debug, Drop)]
-pub struct Embedding {
+#[derive(Drop)]
+pub(crate) struct Embedding {
     /// The names of its actions.
-    pub plan: List<Name>,
+    pub(crate) plan: List<Name>,
     /// What it costs.
-    pub cost: i128,
+    pub(crate) cost: i128,
 }
 
 /// The one valid plan of the target that lifts to the steps of these numbers, and its cost. Its time
 /// is about that of following the plan: the copies of a step are found by halving, and an action
 /// that counts as none is looked for behind the last one first.
-pub fn embed(
+pub(crate) fn embed_numbers(
     alloc: Global,
     task: &GroundTask,
     weights: &Weights,

@@ -1,4 +1,4 @@
-//! Plans embedded: for a valid ground plan, the one valid plan of a target that lifts to it.
+//! Plans embedded: for a valid plan of a task, the one valid plan of a compiled target that lifts to it.
 #![tactic(auto)]
 
 mod actions;
@@ -6,7 +6,10 @@ mod actions;
 mod cases;
 mod counting;
 mod embedding;
+mod error;
 mod fitting;
+mod plans;
 mod walking;
 
-pub use embedding::{Embedding, embed};
+pub use error::EmbedFail;
+pub use plans::{Embedded, embed};

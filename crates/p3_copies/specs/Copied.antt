@@ -1,4 +1,4 @@
--- The steps as which actions count, by their names.
+-- The number of a step in the name of a copy.
 use Rattle.std.specs.Prelude.{◌≡◌, ◌≢◌, ℕ, ◌<◌, ◌^◌, ◌==◌, ◌||◌, Bool, List, [], ◌∷◌, ◌++◌, false, codes, decimal, length, slice_index}
 use Rattle.std.specs.List.{starts_with}
 use Rattle.p3_base.specs.Copies.{is_copy_of}

@@ -1,5 +1,5 @@
 use Rattle.p3_embed.specs.Sought.{IsWalkFor}
-use Rattle.p3_embed.proofs.embedding.embed.Given as goal
+use Rattle.p3_embed.proofs.embedding.embed_numbers.Given as goal
 
 -- the steps passed are taken
 abbrev pub invariant-loop-at : goal.invariant-loop-at

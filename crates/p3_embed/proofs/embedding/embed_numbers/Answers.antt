@@ -2,7 +2,7 @@ use Rattle.std.proofs.Common.{◌∙◌, ap, length, refl, subst, sym}
 use Rattle.p3_formula.specs.Targets.{TargetPlan}
 use Rattle.p3_embed.specs.Embeds.{IsEmbedded, names_at}
 use Rattle.p3_embed.proofs.TakenLaws.{begins_walk, embedded}
-use Rattle.p3_embed.proofs.embedding.embed.Goals as goal
+use Rattle.p3_embed.proofs.embedding.embed_numbers.Goals as goal
 
 pub loop-at-init : goal.loop-at-init
 loop-at-init c = begins_walk c.args.task.now c.args.weights.now c.args.target.now c.args.numbers.now c.requires c.in_ok-walk.walk c.in_ok-walk.ensures

@@ -1,0 +1,25 @@
+-- What it is to embed a plan of a task in a target.
+use Rattle.std.specs.Prelude.{◌≡◌, true, Some}
+use Rattle.p3_tree.specs.Plans.{Plan}
+use Rattle.p3_tree.specs.Validity.{first_fault}
+use Rattle.p3_tree.specs.declared.task.Task.{Task}
+use Rattle.p3_formula.specs.GroundPlans.{GroundPlan}
+use Rattle.p3_formula.specs.declared.target.Target.{Target}
+use Rattle.p3_formula.specs.declared.task.GroundTask.{GroundTask}
+use Rattle.p3_ground.specs.PlansByNumber.{AreNumbers, are_bare, names_of}
+use Rattle.p3_eval.specs.Judged.{fault_in}
+use Rattle.p3_embed.specs.Embeds.{IsEmbedded}
+use Rattle.p3_embed.specs.declared.error.EmbedFail.{EmbedFail}
+use Rattle.p3_embed.specs.declared.error.EmbedFail.TheVariants.{Invalid, NoMemory}
+
+-- no step of it has arguments, and its names are the one valid plan of the target that lifts to the numbers of the plan's steps
+pub record IsEmbeddedPlan (T : Task) (G : GroundTask) (X : Target) (plan q : Plan) : Type 0 where
+  pub numbers : GroundPlan
+  pub are : AreNumbers T plan numbers
+  pub bare : are_bare q ≡ true
+  pub embedded : IsEmbedded G X numbers (names_of q)
+
+-- the plan is not valid, and this is its first fault
+abbrev pub IsFailOf : Task → Plan → EmbedFail → Type 0
+IsFailOf T plan (Invalid fault) = first_fault T plan ≡ Some (fault_in fault)
+IsFailOf T plan NoMemory = Unit {0}

@@ -1,0 +1,108 @@
+//! Plans of tasks, embedded in targets.
+
+ghost use Rattle.std.specs.Prelude.{◌≡◌, ◌≤◌, None, length, option_map, pos, true, IfOk, IfErr, OnOk};
+ghost use Rattle.std.specs.List.{All};
+ghost use Rattle.p3_tree.specs.Limits.{step_count};
+ghost use Rattle.p3_tree.specs.StepNumbers.{IsOwn};
+ghost use Rattle.p3_tree.specs.Validity.{first_fault};
+ghost use Rattle.p3_formula.specs.Targets.{Compiled, target_cost};
+ghost use Rattle.p3_ground.specs.PlansByNumber.{AreNumbers, are_bare, names_of};
+ghost use Rattle.p3_run.specs.Runs.{most_steps};
+ghost use Rattle.p3_eval.specs.Judged.{fault_in};
+ghost use Rattle.p3_embed.specs.Plans.{IsEmbeddedPlan, IsFailOf};
+
+use crate::EmbedFail;
+use crate::embedding::embed_numbers;
+use p3_base::{List, Name, NoMemory};
+use p3_eval::{PlanFault, Whole};
+use p3_formula::Target;
+use p3_tree::{Plan, Step};
+use p3_types::{Checked, Found};
+use std::alloc::Global;
+
+/// A plan of a target, and what it costs.
+#[derive(Debug, Drop)]
+pub struct Embedded {
+    /// Its steps, none of which has arguments.
+    pub plan: Plan,
+    /// What it costs.
+    pub cost: i128,
+}
+
+/// The one valid plan of the target that lifts to the plan, and its cost. The target is what the
+/// task is compiled to. Its time is about that of judging the plan, and of following it through the
+/// target.
+///
+/// # Errors
+///
+/// The first fault of a plan that is not valid for the task. And want of memory.
+pub fn embed(
+    alloc: Global,
+    task: &Whole,
+    target: &Target,
+    plan: &Plan,
+) -> Result<Embedded, EmbedFail>
+    requires compiled { Compiled task.now.ground_task task.now.weights target.now }
+    requires room { length plan.now ≤ most_steps }
+    ensures valid { OnOk result (first_fault task.now.checked.task plan.now ≡ None) }
+    ensures plan { IfOk result (λ embedded. IsEmbeddedPlan
+        task.now.checked.task task.now.ground_task target.now plan.now embedded.plan) }
+    ensures cost { IfOk result (λ embedded. embedded.cost
+        ≡ pos (target_cost target.now (names_of embedded.plan))) }
+    ensures invalid { IfErr result (IsFailOf task.now.checked.task plan.now) }
+{
+    let steps = plan.items();
+    if let Some(fault) = first_fault(alloc, task, steps)? {
+        return Err(EmbedFail::Invalid(fault));
+    }
+    let numbers = numbers_of(alloc, task.checked(), steps)?;
+    let embedding = embed_numbers(
+        alloc,
+        task.ground_task(),
+        task.weights(),
+        target,
+        numbers.as_slice(),
+    )?;
+    let cost = embedding.cost;
+    let plan = bare_steps(alloc, embedding.plan)?;
+    Ok(Embedded { plan, cost })
+}
+
+/// The first fault of the plan, if it has one.
+fn first_fault(alloc: Global, task: &Whole, plan: &[Step]) -> Result<Option<PlanFault>, NoMemory>
+    requires { length plan.now ≤ most_steps }
+    ensures { IfOk result (λ found.
+        first_fault task.now.checked.task plan.now ≡ option_map fault_in found) }
+{
+    let mut run = task.begin(alloc)?;
+    Ok(run.judge_plan(task.checked(), plan))
+}
+
+/// The numbers of steps of the task.
+fn numbers_of(alloc: Global, task: &Checked, plan: &[Step]) -> Result<Vec<u32>, NoMemory>
+    requires few { step_count task.now.task ≤ 20000000 }
+    requires own { All (IsOwn task.now.task) plan.now }
+    ensures { IfOk result (λ numbers. AreNumbers task.now.task plan.now numbers.items) }
+{
+    let mut numbers = Vec::new(alloc);
+    for step in plan {
+        let Found::Number(number) = task.find(step) else {
+            unreachable!()
+        };
+        numbers.push(number)?;
+    }
+    Ok(numbers)
+}
+
+/// The steps of these names, without arguments.
+fn bare_steps(alloc: Global, names: List<Name>) -> Result<Plan, NoMemory>
+    ensures bare { IfOk result (λ plan. are_bare plan ≡ true) }
+    ensures named { IfOk result (λ plan. names_of plan ≡ names) }
+{
+    let mut plan = List::new(alloc);
+    for action in names.into_items() {
+        let args = List::new(alloc);
+        plan.push(Step { action, args })?;
+    }
+    Ok(plan)
+}
