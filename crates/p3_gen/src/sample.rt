@@ -1,7 +1,9 @@
 //! The three texts of a sample.
 
-ghost use Rattle.std.specs.Prelude.{◌≡◌, ◌≤◌, IfOk};
+ghost use Rattle.std.specs.Prelude.{◌≡◌, ◌≤◌, IfOk, length};
+ghost use Rattle.p3_base.specs.declared.refusal.Side.TheVariants.{Source};
 ghost use Rattle.p3_tree.specs.Samples.{sample_domain, sample_problem, sample_plan};
+ghost use Rattle.p3_tree.specs.Sides.{byte_limit, plan_byte_limit};
 
 use crate::domain::domain_text;
 use crate::plan::plan_text;
@@ -20,13 +22,16 @@ pub struct Sample {
     pub plan: List<u8>,
 }
 
-/// The sample with n packages.
+/// The sample with n packages. Each text is short enough to be read.
 pub fn generate(alloc: Global, n: u32) -> Result<Sample, NoMemory>
     requires some { 1 ≤ n }
     requires few { n ≤ 200 }
     ensures domain { IfOk result (λ sample. sample.domain ≡ sample_domain) }
     ensures problem { IfOk result (λ sample. sample.problem ≡ sample_problem n) }
     ensures plan { IfOk result (λ sample. sample.plan ≡ sample_plan n) }
+    ensures short_domain { IfOk result (λ sample. length sample.domain ≤ byte_limit Source) }
+    ensures short_problem { IfOk result (λ sample. length sample.problem ≤ byte_limit Source) }
+    ensures short_plan { IfOk result (λ sample. length sample.plan ≤ plan_byte_limit) }
 {
     let domain = domain_text(alloc)?;
     let problem = problem_text(alloc, n)?;

@@ -1,0 +1,7 @@
+mod AnswerLaws
+mod FaithfulLaws
+mod LossLaws
+mod NameLaws
+mod PlainLaws
+mod PlainTasks
+mod StepLaws

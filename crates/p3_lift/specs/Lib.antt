@@ -1,0 +1,4 @@
+pub mod Judging
+pub mod Lifting
+pub mod Plain
+pub mod Told
