@@ -1,8 +1,13 @@
 pub mod FaithfulLaws
+pub mod HeldLemmas
 pub mod MeaningLemmas
+pub mod ProductLemmas
 pub mod PutLemmas
 pub mod QuantityLemmas
+pub mod RejectionLemmas
+pub mod ResultLemmas
 pub mod RunLemmas
 pub mod SpelledLemmas
 pub mod StoreLemmas
 pub mod TranslationLemmas
+pub mod WordLemmas

@@ -1,105 +1,65 @@
--- A done run leaves a faithful translation of what it read.
-use Rattle.std.proofs.Common.{◌≡◌, ◌∙◌, ◌≢◌, ◌⊎◌, ℕ, Bool, true, false, not, ◌&&◌, cond, List, [], ◌∷◌, length, map, Option, Some, None, IfSome, refl, sym, ap, subst, inl, inr}
-use Rattle.std.specs.Prelude.{codes, nat_lt, IsSomeAnd}
-use Rattle.std.specs.Cmp.Lexicographic.{nat_list_cmp_total}
-use Rattle.std.specs.FinMap.{get, insert, get-insert}
-use Rattle.std.proofs.lemmas.Map.Text.{is_eq-slice_cmp}
+-- A done run leaves what its command means: a faithful translation of the task that was read, or the report of a valid plan.
+use Rattle.std.proofs.Common.{◌≡◌, ◌∙◌, ◌≢◌, ℕ, Bool, true, false, not, ◌&&◌, ◌||◌, List, [], ◌∷◌, map, Option, Some, None, IfSome, refl, sym, ap, subst, inl, inr}
+use Rattle.std.specs.Prelude.{IsSomeAnd, option_and_then, if◌then◌else◌}
+use Rattle.std.specs.FinMap.{insert}
 use Rattle.std.specs.Str.{bytes_eq}
 use Rattle.std.proofs.lemmas.Slice.Eq.{bytes_eq-Decides}
 use Rattle.p3_base.specs.Outside.{FilesSeen, SinkSeen, Store, bytes_under, with_put}
 use Rattle.p3_base.specs.declared.refusal.Role.TheVariants as role
 use Rattle.p3_base.specs.declared.refusal.Side.TheVariants.{Source}
-use Rattle.p3_tree.specs.Commands.{Input, Output, is_file_word}
+use Rattle.p3_tree.specs.Commands.{Command, Compile, Lift, Embed, Evaluate, Generate, Input, Output, Word, has_file_words, if_files, inputs, is_file_word, outputs, plan_input}
+use Rattle.p3_tree.specs.Sides.{byte_limit}
 use Rattle.p3_tree.specs.Refusals.First.{AreAccepted}
 use Rattle.p3_tree.specs.declared.task.Task.{Task}
 use Rattle.p3_cli.specs.Ending.{status_of}
-use Rattle.p3_cli.specs.Meaning.{HoldBoth, IsCompiled, HasLayout, IsDone, KeepsMeaning, KeepsLayout, IsFaithfulRun, IsLaidOutRun}
+use Rattle.p3_cli.specs.Meaning.{IsCompiled, IsJudged, HasLayout, IsDone, KeepsMeaning, KeepsLayout, IsFaithfulRun, IsLaidOutRun}
 use Rattle.p3_cli.specs.Product.{Produces}
-use Rattle.p3_cli.specs.Request.{Request, Compile, inputs, outputs, are_compile_words, request_of}
+use Rattle.p3_cli.specs.Request.{command_asked, command_named}
 use Rattle.p3_cli.specs.Run.{Leaves, Tells, Answers}
-use Rattle.p3_cli.specs.Store.{Reading, Texts, TooLong, Absent, with_text, reading, reading_on, holding_all}
+use Rattle.p3_cli.specs.Store.{Texts, reading, holding_all}
 use Rattle.p3_cli.specs.Translation.{IsTranslation, IsWritten}
 use Rattle.p3_cli.specs.declared.ending.Ending.{Ending}
 use Rattle.p3_cli.specs.declared.ending.Ending.TheVariants as ending
+use Rattle.p3_cli.proofs.HeldLemmas.{both_written, first_held, hold_all, hold_both}
 use Rattle.p3_cli.proofs.RunLemmas.{kept_status}
-
--- ---- what the names hold
-
-first_read : (input : Input) (held : Option (List ℕ)) (rest : Reading) (text : List ℕ) (texts : List (List ℕ)) → reading_on input held rest ≡ Texts (text ∷ texts) → (held ≡ Some text) × (rest ≡ Texts texts)
-first_read input None rest text texts is = absurd (cc)
-first_read input (Some found) rest text texts is =
-    elim (nat_lt input.limit (length found)) as (λ long. cond long (TooLong input.role) (with_text found rest) ≡ Texts (text ∷ texts) → (Some found ≡ Some text) × (rest ≡ Texts texts)) [
-      | true ↦ λ e. absurd (cc)
-      | false ↦ λ e. by rest e
-    ] is
-  where
-    by : (rest : Reading) → with_text found rest ≡ Texts (text ∷ texts) → (Some found ≡ Some text) × (rest ≡ Texts texts)
-    by (Texts others) e = (cc, cc)
-    by (TooLong role) e = absurd (cc)
-    by Absent e = absurd (cc)
-
--- the two inputs of `compile` held what was read
-pub both_read : (store : Store) (domain problem od op d p : List ℕ) → reading store (inputs (Compile domain problem od op)) ≡ Texts (d ∷ p ∷ []) → (bytes_under store domain ≡ Some d) × (bytes_under store problem ≡ Some p)
-both_read store domain problem od op d p is =
-    let first : (bytes_under store domain ≡ Some d) × (_ ≡ Texts (p ∷ [])) = first_read (record { role = role.Domain; name = domain; limit = 16777216 }) (bytes_under store domain) _ d (p ∷ []) is in
-    let second : (bytes_under store problem ≡ Some p) × (Texts [] ≡ Texts []) = first_read (record { role = role.Problem; name = problem; limit = 16777216 }) (bytes_under store problem) (Texts []) p [] first.1 in
-    (first.0, second.0)
-
-put_under : (store : Store) (key value name : List ℕ) → bytes_under (insert store key value) name ≡ cond (bytes_eq name key) (Some value) (bytes_under store name)
-put_under store key value name = get-insert nat_list_cmp_total store key value name ∙ ap (λ same. cond same (Some value) (get store name)) (is_eq-slice_cmp name key)
-
-same_bytes : (name : List ℕ) → bytes_eq name name ≡ true
-same_bytes name = (bytes_eq-Decides name name).1 refl
-
-other_bytes : (test : Bool) → (test ≡ true → ⊥) → test ≡ false
-other_bytes true apart = absurd (apart refl)
-other_bytes false apart = refl
-
--- two names that were written hold their texts
-pub both_written : (store : Store) (first second one two : List ℕ) → first ≢ second → (bytes_under (insert (insert store first one) second two) first ≡ Some one) × (bytes_under (insert (insert store first one) second two) second ≡ Some two)
-both_written store first second one two apart = (
-  put_under (insert store first one) second two first
-      ∙ ap (λ same. cond same (Some two) (bytes_under (insert store first one) first)) (other_bytes (bytes_eq first second) (λ e. apart ((bytes_eq-Decides first second).0 e)))
-      ∙ put_under store first one first ∙ ap (λ same. cond same (Some one) (bytes_under store first)) (same_bytes first),
-  put_under (insert store first one) second two second ∙ ap (λ same. cond same (Some two) (bytes_under (insert store first one) second)) (same_bytes second),
-)
-
-hold_both : (store : Store) (first second one two : List ℕ) (Says : List ℕ → List ℕ → Type 0) → bytes_under store first ≡ Some one → bytes_under store second ≡ Some two → Says one two
-    → HoldBoth store first second Says
-hold_both store first second one two Says is also says =
-    subst (λ held. IsSomeAnd held (λ one. IsSomeAnd (bytes_under store second) (λ two. Says one two))) (sym is)
-    (subst (λ held. IsSomeAnd held (λ two. Says one two)) (sym also) says)
 
 -- ---- the words
 
--- the outputs of a request have different names
-abbrev pub AreApart : Option Request → Type 0
-AreApart None = Unit {0}
-AreApart (Some (Compile domain problem written_domain written_problem)) = written_domain ≢ written_problem
+-- the words of what is asked name files, and its outputs are different
+abbrev pub HasWords : Option Command → Type 0
+HasWords None = Unit {0}
+HasWords (Some command) = has_file_words command ≡ true
 
-last_true : (a b c : Bool) → (a && (b && not c)) ≡ true → c ≡ true → ⊥
-last_true true true true e is = cc
-last_true true true false e is = cc
-last_true true false c e is = cc
-last_true false b c e is = cc
+words_by : (command : Command) (test : Bool) → has_file_words command ≡ test → HasWords (if test then Some command else None)
+words_by command true e = e
+words_by command false e = tt
 
-pub request_apart : (words : List (List ℕ)) → AreApart (request_of words)
-request_apart [] = tt
-request_apart (a ∷ []) = tt
-request_apart (a ∷ b ∷ []) = tt
-request_apart (a ∷ b ∷ c ∷ []) = tt
-request_apart (a ∷ b ∷ c ∷ d ∷ []) = tt
-request_apart (command ∷ domain ∷ problem ∷ od ∷ op ∷ []) = by (bytes_eq command (codes "compile") && are_compile_words domain problem od op) refl
-  where
-    apart : (bytes_eq command (codes "compile") && are_compile_words domain problem od op) ≡ true → od ≡ op → ⊥
-    apart e same = last_true (bytes_eq command (codes "compile")) (is_file_word domain && is_file_word problem && is_file_word od && is_file_word op) (bytes_eq od op) e ((bytes_eq-Decides od op).1 same)
+if_words : (found : Option Command) → HasWords (option_and_then if_files found)
+if_words None = tt
+if_words (Some command) = words_by command (has_file_words command) refl
 
-    by : (asked : Bool) → (bytes_eq command (codes "compile") && are_compile_words domain problem od op) ≡ asked → AreApart (cond asked (Some (Compile domain problem od op)) None)
-    by true e = apart e
-    by false e = tt
-request_apart (a ∷ b ∷ c ∷ d ∷ e ∷ f ∷ words) = tt
+pub has_words : (words : List Word) → HasWords (command_asked words)
+has_words [] = tt
+has_words (name ∷ files) = if_words (command_named name files)
 
--- ---- what is left
+apart_by : (named same : Bool) → (named && (not (same || false) && true)) ≡ true → same ≡ true → ⊥
+apart_by true true e is = cc
+apart_by false true e is = cc
+apart_by named false e is = cc
+
+-- ---- the inputs of every task
+
+abbrev the_domain : Word → Input
+the_domain name = record { role = role.Domain; name = name; limit = byte_limit Source }
+
+abbrev the_problem : Word → Input
+the_problem name = record { role = role.Problem; name = name; limit = byte_limit Source }
+
+-- ---- what `compile` leaves
+
+words_apart : (domain problem od op : List ℕ) → has_file_words (Compile domain problem od op) ≡ true → od ≢ op
+words_apart domain problem od op e same =
+    apart_by (is_file_word domain && (is_file_word problem && (is_file_word od && (is_file_word op && true)))) (bytes_eq op od) e ((bytes_eq-Decides op od).1 (sym same))
 
 -- what the names of `compile` held before and hold now
 record IsLeft (domain problem od op report : List ℕ) (before after : Store) : Type 0 where
@@ -123,7 +83,8 @@ module _ (domain problem od op : List ℕ) (apart : od ≢ op) (store : Store) (
   with_names : (d p : List ℕ) (first second : Output) (odt opt : List ℕ) → first ∷ second ∷ [] ≡ outputs (Compile domain problem od op) → reading store (inputs (Compile domain problem od op)) ≡ Texts (d ∷ p ∷ []) → IsTranslation d p odt opt report
       → AreLeft (Some (insert (insert store first.name odt) second.name opt))
   with_names d p first second odt opt named read made =
-      let held : (bytes_under store domain ≡ Some d) × (bytes_under store problem ≡ Some p) = both_read store domain problem od op d p read in
+      let first_text : (bytes_under store domain ≡ Some d) × (reading store (the_problem problem ∷ []) ≡ Texts (p ∷ [])) = first_held store (the_domain domain) (the_problem problem ∷ []) d (p ∷ []) read in
+      let second_text : (bytes_under store problem ≡ Some p) × (reading store [] ≡ Texts []) = first_held store (the_problem problem) [] p [] first_text.1 in
       let both : (bytes_under (insert (insert store od odt) op opt) od ≡ Some odt) × (bytes_under (insert (insert store od odt) op opt) op ≡ Some opt) = both_written store od op odt opt apart in
       let one : first ≡ record { role = role.WrittenDomain; name = od } = cc in
       let two : second ≡ record { role = role.WrittenProblem; name = op } = cc in
@@ -135,8 +96,8 @@ module _ (domain problem od op : List ℕ) (apart : od ≢ op) (store : Store) (
         p = p;
         odt = odt;
         opt = opt;
-        domain_held = held.0;
-        problem_held = held.1;
+        domain_held = first_text.0;
+        problem_held = second_text.0;
         accepted = made.accepted;
         domain_holds = both.0;
         problem_holds = both.1;
@@ -156,6 +117,28 @@ module _ (domain problem od op : List ℕ) (apart : od ≢ op) (store : Store) (
   left_by : (left : Option Store) → Leaves (Compile domain problem od op) (Some store) left (ending.Done report) → AreLeft left
   left_by left (writings, product, is) = subst AreLeft (sym is) (with_parts product.made.0 writings product.outputs product.made.1 product.made.2)
 
+-- ---- what `evaluate` found
+
+judged_by : (domain problem plan : List ℕ) (store : Store) (before after : Option (List ℕ)) (status : ℕ) (report : List ℕ) (read : List (List ℕ)) (writings : List (Output × List ℕ))
+    → reading store (inputs (Evaluate domain problem plan)) ≡ Texts read → Produces (Evaluate domain problem plan) read writings report
+    → (status ≡ 0 → after ≡ with_put report before) → IsJudged domain problem plan store before after status
+judged_by domain problem plan store before after status report (d ∷ p ∷ q ∷ []) [] read made put =
+    let first_text : (bytes_under store domain ≡ Some d) × (reading store (the_problem problem ∷ plan_input plan ∷ []) ≡ Texts (p ∷ q ∷ [])) = first_held store (the_domain domain) (the_problem problem ∷ plan_input plan ∷ []) d (p ∷ q ∷ []) read in
+    let second_text : (bytes_under store problem ≡ Some p) × (reading store (plan_input plan ∷ []) ≡ Texts (q ∷ [])) = first_held store (the_problem problem) (plan_input plan ∷ []) p (q ∷ []) first_text.1 in
+    let third_text : (bytes_under store plan ≡ Some q) × (reading store [] ≡ Texts []) = first_held store (plan_input plan) [] q [] second_text.1 in
+    record {
+      task = made.task;
+      steps = made.plan;
+      read = hold_all store domain problem plan d p q _ first_text.0 second_text.0 third_text.0 made.texts;
+      valid = made.valid;
+      reported = λ done. put done ∙ ap (λ lines. with_put lines before) made.told;
+    }
+judged_by domain problem plan store before after status report [] writings read made put = absurd made
+judged_by domain problem plan store before after status report (d ∷ []) writings read made put = absurd made
+judged_by domain problem plan store before after status report (d ∷ p ∷ []) writings read made put = absurd made
+judged_by domain problem plan store before after status report (d ∷ p ∷ q ∷ r ∷ texts) writings read made put = absurd made
+judged_by domain problem plan store before after status report (d ∷ p ∷ q ∷ []) (one ∷ more) read made put = absurd made
+
 -- ---- a done run
 
 -- a status of no done run
@@ -165,15 +148,16 @@ other_end before after status how tells zero six ended =
     absurd (elim ended [ inl e ↦ zero (sym kept ∙ e) | inr e ↦ six (sym kept ∙ e) ])
 
 -- the report of a done run, and what it leaves
-done_report : (request : Request) (old new : Option Store) (before after : SinkSeen) (status : ℕ) (how : Ending) → Leaves request old new how → Tells before after status how → IsDone status
-    → (report : List ℕ) × (Leaves request old new (ending.Done report) × Tells before after status (ending.Done report))
-done_report request old new before after status (ending.Done report) leaves tells ended = (report, (leaves, tells))
-done_report request old new before after status (ending.Refused line) leaves tells ended = other_end before after status (ending.Refused line) tells (λ e. cc) (λ e. cc) ended
-done_report request old new before after status (ending.TooLong role) leaves tells ended = other_end before after status (ending.TooLong role) tells (λ e. cc) (λ e. cc) ended
-done_report request old new before after status (ending.ReadFailed role) leaves tells ended = other_end before after status (ending.ReadFailed role) tells (λ e. cc) (λ e. cc) ended
-done_report request old new before after status (ending.WriteFailed role) leaves tells ended = other_end before after status (ending.WriteFailed role) tells (λ e. cc) (λ e. cc) ended
-done_report request old new before after status ending.OutOfMemory leaves tells ended = other_end before after status ending.OutOfMemory tells (λ e. cc) (λ e. cc) ended
-done_report request old new before after status ending.Usage leaves tells ended = other_end before after status ending.Usage tells (λ e. cc) (λ e. cc) ended
+done_report : (command : Command) (old new : Option Store) (before after : SinkSeen) (status : ℕ) (how : Ending) → Leaves command old new how → Tells before after status how → IsDone status
+    → (report : List ℕ) × (Leaves command old new (ending.Done report) × Tells before after status (ending.Done report))
+done_report command old new before after status (ending.Done report) leaves tells ended = (report, (leaves, tells))
+done_report command old new before after status (ending.Refused line) leaves tells ended = other_end before after status (ending.Refused line) tells (λ e. cc) (λ e. cc) ended
+done_report command old new before after status (ending.Invalid line) leaves tells ended = other_end before after status (ending.Invalid line) tells (λ e. cc) (λ e. cc) ended
+done_report command old new before after status (ending.TooLong role) leaves tells ended = other_end before after status (ending.TooLong role) tells (λ e. cc) (λ e. cc) ended
+done_report command old new before after status (ending.ReadFailed role) leaves tells ended = other_end before after status (ending.ReadFailed role) tells (λ e. cc) (λ e. cc) ended
+done_report command old new before after status (ending.WriteFailed role) leaves tells ended = other_end before after status (ending.WriteFailed role) tells (λ e. cc) (λ e. cc) ended
+done_report command old new before after status ending.OutOfMemory leaves tells ended = other_end before after status ending.OutOfMemory tells (λ e. cc) (λ e. cc) ended
+done_report command old new before after status ending.Usage leaves tells ended = other_end before after status ending.Usage tells (λ e. cc) (λ e. cc) ended
 
 -- the report was put where the status is 0
 put_report : (before after : SinkSeen) (status : ℕ) (report : List ℕ) → Tells before after status (ending.Done report) → status ≡ 0 → after.written ≡ with_put report before.written
@@ -201,30 +185,62 @@ if_some_and : {A : Type 0} {P Q : A → Type 0} (found : Option A) → ((a : A) 
 if_some_and None more is = absurd is
 if_some_and (Some a) more is = more a is
 
--- where the store tells, the words ask for something, and what is left is what it asks for
-if_told : (asked : Option Request) → AreApart asked → (told : Option Store) (old new : FilesSeen) (before after : SinkSeen) (status : ℕ) (how : Ending) → old.held ≡ told
-    → Answers asked old new how → Tells before after status how → IsDone status → (Says : Store → Store → Type 0)
-    → ((domain problem od op report : List ℕ) (first last : Store) → asked ≡ Some (Compile domain problem od op) → Tells before after status (ending.Done report) → IsLeft domain problem od op report first last → Says first last)
-    → IfSome told (λ first. IsSomeAnd new.held (λ last. Says first last))
-if_told asked apart None old new before after status how is answers tells ended Says more = tt
-if_told None apart (Some store) old new before after status how is answers tells ended Says more =
+left_some : (writings : List (Output × List ℕ)) (store : Store) → IsSomeAnd (holding_all writings (Some store)) (λ last. Unit {0})
+left_some [] store = tt
+left_some (written ∷ writings) store = left_some writings (insert store written.0.name written.1)
+
+-- what is said of every store that is left
+some_left : (Says : Store → Type 0) (writings : List (Output × List ℕ)) (store : Store) (left : Option Store) → left ≡ holding_all writings (Some store) → ((last : Store) → Says last) → IsSomeAnd left Says
+some_left Says writings store left is says = subst (λ held. IsSomeAnd held Says) (sym is) (if_some_and (holding_all writings (Some store)) (λ last done. says last) (left_some writings store))
+
+-- ---- each command
+
+module _ (store : Store) (left : Option Store) (before after : SinkSeen) (status : ℕ) (report : List ℕ) (tells : Tells before after status (ending.Done report)) where
+  is_faithful : (command : Command) → has_file_words command ≡ true → Leaves command (Some store) left (ending.Done report)
+      → IsSomeAnd left (λ last. KeepsMeaning (Some command) store last before.written after.written status)
+  is_faithful (Compile domain problem od op) named leaves =
+      if_some_and left (λ last is. is_compiled domain problem od op report store last before after status tells is)
+      (left_by domain problem od op (words_apart domain problem od op named) store report left leaves)
+  is_faithful (Evaluate domain problem plan) named (writings, product, is) =
+      some_left _ writings store left is
+      (λ last. judged_by domain problem plan store before.written after.written status report product.made.0 writings product.made.1 product.made.2 (put_report before after status report tells))
+  is_faithful (Lift domain problem od op plan lifted) named (writings, product, is) = absurd product.made.2
+  is_faithful (Embed domain problem plan od op embedded) named (writings, product, is) = absurd product.made.2
+  is_faithful (Generate number domain problem plan) named (writings, product, is) = absurd product.made.2
+
+  is_laid_out : (command : Command) → has_file_words command ≡ true → Leaves command (Some store) left (ending.Done report) → IsSomeAnd left (λ last. KeepsLayout (Some command) store last)
+  is_laid_out (Compile domain problem od op) named leaves =
+      if_some_and left (λ last is. has_layout domain problem od op report store last is) (left_by domain problem od op (words_apart domain problem od op named) store report left leaves)
+  is_laid_out (Evaluate domain problem plan) named (writings, product, is) = some_left _ writings store left is (λ last. tt)
+  is_laid_out (Lift domain problem od op plan lifted) named (writings, product, is) = absurd product.made.2
+  is_laid_out (Embed domain problem plan od op embedded) named (writings, product, is) = absurd product.made.2
+  is_laid_out (Generate number domain problem plan) named (writings, product, is) = absurd product.made.2
+
+-- ---- a run
+
+-- where the store tells, what is left is what the command means
+if_told : (asked : Option Command) → HasWords asked → (told : Option Store) (old new : FilesSeen) (before after : SinkSeen) (status : ℕ) (how : Ending) → old.held ≡ told
+    → Answers asked old new how → Tells before after status how → IsDone status → (Says : Option Command → Store → Store → Type 0)
+    → ((command : Command) (store : Store) (report : List ℕ) → Tells before after status (ending.Done report) → has_file_words command ≡ true → Leaves command (Some store) new.held (ending.Done report)
+    → IsSomeAnd new.held (Says (Some command) store))
+    → IfSome told (λ first. IsSomeAnd new.held (λ last. Says asked first last))
+if_told asked named None old new before after status how is answers tells ended Says more = tt
+if_told None named (Some store) old new before after status how is answers tells ended Says more =
     other_end before after status ending.Usage (subst (λ way. Tells before after status way) answers.0 tells) (λ e. cc) (λ e. cc) ended
-if_told (Some (Compile domain problem od op)) apart (Some store) old new before after status how is answers tells ended Says more =
-    let (report, (leaves, told)) = done_report (Compile domain problem od op) old.held new.held before after status how answers.1 tells ended in
-    if_some_and new.held (λ last left. more domain problem od op report store last refl told left)
-    (left_by domain problem od op apart store report new.held (subst (λ held. Leaves (Compile domain problem od op) held new.held (ending.Done report)) is leaves))
+if_told (Some command) named (Some store) old new before after status how is answers tells ended Says more =
+    let (report, (leaves, told)) = done_report command old.held new.held before after status how answers.1 tells ended in
+    more command store report told named (subst (λ held. Leaves command held new.held (ending.Done report)) is leaves)
 
 -- what is done keeps the meaning of what was read
-pub done_is_faithful : (asked : Option Request) → AreApart asked → (old new : FilesSeen) (before after : SinkSeen) (status : ℕ) (how : Ending)
+pub done_is_faithful : (asked : Option Command) → HasWords asked → (old new : FilesSeen) (before after : SinkSeen) (status : ℕ) (how : Ending)
     → Answers asked old new how → Tells before after status how → IsDone status → IsFaithfulRun asked old new before after status
-done_is_faithful asked apart old new before after status how answers tells ended =
-    if_told asked apart old.held old new before after status how refl answers tells ended (λ first last. KeepsMeaning asked first last before.written after.written status)
-    (λ domain problem od op report first last is told left.
-    subst (λ asked. KeepsMeaning asked first last before.written after.written status) (sym is) (is_compiled domain problem od op report first last before after status told left))
+done_is_faithful asked named old new before after status how answers tells ended =
+    if_told asked named old.held old new before after status how refl answers tells ended (λ command first last. KeepsMeaning command first last before.written after.written status)
+    (λ command store report told words leaves. is_faithful store new.held before after status report told command words leaves)
 
 -- and is laid out as a target
-pub done_is_laid_out : (asked : Option Request) → AreApart asked → (old new : FilesSeen) (before after : SinkSeen) (status : ℕ) (how : Ending)
+pub done_is_laid_out : (asked : Option Command) → HasWords asked → (old new : FilesSeen) (before after : SinkSeen) (status : ℕ) (how : Ending)
     → Answers asked old new how → Tells before after status how → IsDone status → IsLaidOutRun asked old new
-done_is_laid_out asked apart old new before after status how answers tells ended =
-    if_told asked apart old.held old new before after status how refl answers tells ended (KeepsLayout asked)
-    (λ domain problem od op report first last is told left. subst (λ asked. KeepsLayout asked first last) (sym is) (has_layout domain problem od op report first last left))
+done_is_laid_out asked named old new before after status how answers tells ended =
+    if_told asked named old.held old new before after status how refl answers tells ended KeepsLayout
+    (λ command store report told words leaves. is_laid_out store new.held before after status report told command words leaves)

@@ -10,74 +10,82 @@ use Rattle.std.specs.Cmp.Lexicographic.{slice_cmp, nat_list_cmp_total}
 use Rattle.std.specs.FinMap.{get, get-insert, slice_cmp-IsAntisymmetric, nat_cmp-IsAntisymmetric}
 use Rattle.p3_base.specs.Outside.{FilesSeen, SinkSeen, Store, Rose, bytes_under, holding, IsPartlyWritten}
 use Rattle.p3_base.specs.declared.refusal.Role.{Role}
-use Rattle.p3_cli.specs.Ending.{status_of}
+use Rattle.p3_cli.specs.Ending.{status_of, unput_status}
 use Rattle.p3_cli.specs.Outcome.{ReadsAll, WriteFails}
-use Rattle.p3_cli.specs.Product.{Accepts, Produces, Refuses}
-use Rattle.p3_cli.specs.Translation.{IsRefusedBy}
-use Rattle.p3_cli.specs.Request.{Request, inputs, outputs}
-use Rattle.p3_tree.specs.Commands.{Input, Output}
-use Rattle.p3_cli.specs.Run.{AnyFaultRose, MustComplete, MustRefuse, IsAccepted, IsProduct, IsRefusalIn, ShownBy, Comes, Leaves, Tells, Answers, IsRefusedIn, IsAcceptedIn, SameUnder, OthersStay}
+use Rattle.p3_cli.specs.Product.{Accepts, Produces, Rejects}
+use Rattle.p3_cli.specs.Refusing.{IsRejectedBy}
+use Rattle.p3_tree.specs.Commands.{Command, Input, Output, inputs, outputs}
+use Rattle.p3_cli.specs.Run.{AnyFaultRose, MustComplete, MustReject, IsAccepted, IsProduct, IsRejectionIn, ShownBy, Comes, Leaves, Tells, Answers, IsRejectedIn, IsStatusIn, IsAcceptedIn, SameUnder, OthersStay}
 use Rattle.p3_cli.specs.Store.{Texts, reading, holding_all, AreFirstWritten, IsWrittenUpTo}
 use Rattle.p3_cli.specs.declared.ending.Ending.{Ending}
 use Rattle.p3_cli.specs.declared.ending.Ending.TheVariants as ending
+use Rattle.p3_cli.proofs.RejectionLemmas.{one_status}
 
 -- what is accepted shows no refusal
-accepted_or : {A : Type 0} (store : Store) (request : Request) (how : Ending) → IsAccepted store request → IsRefusalIn store request how → A
-accepted_or store request how (texts, read, none) shown = absurd (none how (subst (λ found. ShownBy request found how) read shown))
+accepted_or : {A : Type 0} (store : Store) (command : Command) (how : Ending) → IsAccepted store command → IsRejectionIn store command how → A
+accepted_or store command how (texts, read, none) shown = absurd (none how (subst (λ found. ShownBy command found how) read shown))
 
 -- what was read of the inputs, where it is told
-module _ (request : Request) (asked : List Input) (same : asked ≡ inputs request) (found texts : List (List ℕ)) (are : found ≡ texts) where
+module _ (command : Command) (asked : List Input) (same : asked ≡ inputs command) (found texts : List (List ℕ)) (are : found ≡ texts) where
   -- what is accepted of it is accepted of what is held
-  pub all_accepted : (told : Option Store) → ReadsAll told asked found → Accepts request texts → IfSome told (λ store. IsAccepted store request)
+  pub all_accepted : (told : Option Store) → ReadsAll told asked found → Accepts command texts → IfSome told (λ store. IsAccepted store command)
   all_accepted None read accepted = tt
   all_accepted (Some store) read accepted = (texts, (λ i. reading store (sym same i)) ∙ read ∙ ap Texts are, accepted)
 
-  refused_of : (told : Option Store) (how : Ending) → ReadsAll told asked found → Refuses request texts how → IfSome told (λ store. IsRefusalIn store request how)
-  refused_of None how read refused = tt
-  refused_of (Some store) how read refused = subst (λ shown. ShownBy request shown how) (sym ((λ i. reading store (sym same i)) ∙ read ∙ ap Texts are)) refused
+  rejected_of : (told : Option Store) (how : Ending) → ReadsAll told asked found → Rejects command texts how → IfSome told (λ store. IsRejectionIn store command how)
+  rejected_of None how read refused = tt
+  rejected_of (Some store) how read refused = subst (λ shown. ShownBy command shown how) (sym ((λ i. reading store (sym same i)) ∙ read ∙ ap Texts are)) refused
 
   -- what is refused of it is refused of what is held
-  pub refused_comes : (old new : FilesSeen) (how : Ending) → ReadsAll old.held asked found → IsRefusedBy (Refuses request texts) how → Comes request old new how
-  refused_comes old new ending.OutOfMemory read refused = tt
-  refused_comes old new (ending.Refused line) read refused = refused_of old.held (ending.Refused line) read refused
-  refused_comes old new (ending.Done report) read refused = absurd refused
-  refused_comes old new (ending.TooLong role) read refused = absurd refused
-  refused_comes old new (ending.ReadFailed role) read refused = absurd refused
-  refused_comes old new (ending.WriteFailed role) read refused = absurd refused
-  refused_comes old new ending.Usage read refused = absurd refused
+  pub rejected_comes : (old new : FilesSeen) (how : Ending) → ReadsAll old.held asked found → IsRejectedBy (Rejects command texts) how → Comes command old new how
+  rejected_comes old new ending.OutOfMemory read refused = tt
+  rejected_comes old new (ending.Refused line) read refused = rejected_of old.held (ending.Refused line) read refused
+  rejected_comes old new (ending.Invalid line) read refused = rejected_of old.held (ending.Invalid line) read refused
+  rejected_comes old new (ending.Done report) read refused = absurd refused
+  rejected_comes old new (ending.TooLong role) read refused = absurd refused
+  rejected_comes old new (ending.ReadFailed role) read refused = absurd refused
+  rejected_comes old new (ending.WriteFailed role) read refused = absurd refused
+  rejected_comes old new ending.Usage read refused = absurd refused
 
   rose_since : (first before after : ℕ) → first ≤ before → Rose before after → Rose first after
   rose_since first before after grows rose = elim rose [ inl less ↦ inl (omega arith) | inr most ↦ inr most ]
 
   -- where what is accepted was not written
-  pub unwritten_comes : (old new : FilesSeen) (how : Ending) (writings : List (Output × List ℕ)) (told : Option Store) (before : ℕ) → ReadsAll old.held asked found → Accepts request texts
-      → old.write_faults ≤ before → WriteFails writings told new.held before new.write_faults how → Comes request old new how
+  pub unwritten_comes : (old new : FilesSeen) (how : Ending) (writings : List (Output × List ℕ)) (told : Option Store) (before : ℕ) → ReadsAll old.held asked found → Accepts command texts
+      → old.write_faults ≤ before → WriteFails writings told new.held before new.write_faults how → Comes command old new how
   unwritten_comes old new ending.OutOfMemory writings told before read accepted grows fails = tt
   unwritten_comes old new (ending.WriteFailed role) writings told before read accepted grows fails = (rose_since old.write_faults before new.write_faults grows fails.1, all_accepted old.held read accepted)
   unwritten_comes old new (ending.Refused line) writings told before read accepted grows fails = absurd fails
+  unwritten_comes old new (ending.Invalid line) writings told before read accepted grows fails = absurd fails
   unwritten_comes old new (ending.Done report) writings told before read accepted grows fails = absurd fails
   unwritten_comes old new (ending.TooLong role) writings told before read accepted grows fails = absurd fails
   unwritten_comes old new (ending.ReadFailed role) writings told before read accepted grows fails = absurd fails
   unwritten_comes old new ending.Usage writings told before read accepted grows fails = absurd fails
 
   -- what was made of it is the product of what is held
-  product_is : (told : Option Store) (writings : List (Output × List ℕ)) (report : List ℕ) → ReadsAll told asked found → map (λ written. written.0) writings ≡ outputs request
-      → Produces request texts writings report → IsProduct told request writings report
+  product_is : (told : Option Store) (writings : List (Output × List ℕ)) (report : List ℕ) → ReadsAll told asked found → map (λ written. written.0) writings ≡ outputs command
+      → Produces command texts writings report → IsProduct told command writings report
   product_is told writings report read named made = record { outputs = named; made = made_of told read }
     where
       made_of : (told : Option Store) → ReadsAll told asked found
-          → IfSome told (λ store. (read : List (List ℕ)) × (reading store (inputs request) ≡ Texts read) × Produces request read writings report)
+          → IfSome told (λ store. (read : List (List ℕ)) × (reading store (inputs command) ≡ Texts read) × Produces command read writings report)
       made_of None read = tt
       made_of (Some store) read = (texts, (λ i. reading store (sym same i)) ∙ read ∙ ap Texts are, made)
 
+  -- what is left where all is written
+  pub done_leaves : (old mid new : Option Store) (writings : List (Output × List ℕ)) (report : List ℕ) → ReadsAll old asked found → mid ≡ old
+      → map (λ written. written.0) writings ≡ outputs command → Produces command texts writings report → new ≡ holding_all writings mid → Leaves command old new (ending.Done report)
+  done_leaves old mid new writings report read stays named made is = (writings, product_is old writings report read named made, subst (λ told. new ≡ holding_all writings told) stays is)
+
   -- what is left where it was not written whole
   pub unwritten_leaves : (old mid new : Option Store) (writings : List (Output × List ℕ)) (report : List ℕ) (before after : ℕ) (how : Ending) → ReadsAll old asked found → mid ≡ old
-      → map (λ written. written.0) writings ≡ outputs request → Produces request texts writings report → WriteFails writings mid new before after how → Leaves request old new how
+      → map (λ written. written.0) writings ≡ outputs command → Produces command texts writings report → WriteFails writings mid new before after how → Leaves command old new how
   unwritten_leaves old mid new writings report before after (ending.WriteFailed role) read stays named made fails =
       (writings, report, product_is old writings report read named made, subst (λ told. IsWrittenUpTo role writings told new) stays fails.0)
   unwritten_leaves old mid new writings report before after ending.OutOfMemory read stays named made fails =
       inr (writings, report, product_is old writings report read named made, subst (λ told. AreFirstWritten writings told new) stays fails)
   unwritten_leaves old mid new writings report before after (ending.Refused line) read stays named made fails = absurd fails
+  unwritten_leaves old mid new writings report before after (ending.Invalid line) read stays named made fails = absurd fails
   unwritten_leaves old mid new writings report before after (ending.Done lines) read stays named made fails = absurd fails
   unwritten_leaves old mid new writings report before after (ending.TooLong role) read stays named made fails = absurd fails
   unwritten_leaves old mid new writings report before after (ending.ReadFailed role) read stays named made fails = absurd fails
@@ -87,61 +95,97 @@ module _ (request : Request) (asked : List Input) (same : asked ≡ inputs reque
 pub kept_status : (before after : SinkSeen) (status : ℕ) (how : Ending) → Tells before after status how → status_of how ≢ 0 → status ≡ status_of how
 kept_status before after status (ending.Done report) tells other = absurd (other refl)
 kept_status before after status (ending.Refused line) tells other = elim tells [ inl t ↦ t.0 | inr t ↦ t.0 ]
+kept_status before after status (ending.Invalid line) tells other = elim tells [ inl t ↦ t.0 | inr t ↦ t.0 ]
 kept_status before after status (ending.TooLong role) tells other = elim tells [ inl t ↦ t.0 | inr t ↦ t.0 ]
 kept_status before after status (ending.ReadFailed role) tells other = elim tells [ inl t ↦ t.0 | inr t ↦ t.0 ]
 kept_status before after status (ending.WriteFailed role) tells other = elim tells [ inl t ↦ t.0 | inr t ↦ t.0 ]
 kept_status before after status ending.OutOfMemory tells other = elim tells [ inl t ↦ t.0 | inr t ↦ t.0 ]
 kept_status before after status ending.Usage tells other = elim tells [ inl t ↦ t.0 | inr t ↦ t.0 ]
 
-refuses_held : (told : Option Store) (request : Request) (old new : FilesSeen) (before after : SinkSeen) (status : ℕ) (how : Ending) → old.held ≡ told
-    → Comes request old new how → Tells before after status how
-    → IfSome told (λ store. ((how : Ending) × IsRefusalIn store request how) → Rose old.read_faults new.read_faults ⊎ ((status ≡ 2) ⊎ (status ≡ 5)))
-refuses_held None request old new before after status how is comes tells = tt
-refuses_held (Some store) request old new before after status (ending.Done report) is comes tells =
-    λ shown. accepted_or store request shown.0 (subst (λ told. IfSome told (λ store. IsAccepted store request)) is comes) shown.1
-refuses_held (Some store) request old new before after status (ending.Refused line) is comes tells =
-    λ shown. inr (inl (kept_status before after status (ending.Refused line) tells (λ e. cc)))
-refuses_held (Some store) request old new before after status (ending.TooLong role) is comes tells =
-    λ shown. inr (inl (kept_status before after status (ending.TooLong role) tells (λ e. cc)))
-refuses_held (Some store) request old new before after status (ending.ReadFailed role) is comes tells = λ shown. inl comes.1
-refuses_held (Some store) request old new before after status (ending.WriteFailed role) is comes tells =
-    λ shown. accepted_or store request shown.0 (subst (λ told. IfSome told (λ store. IsAccepted store request)) is comes.1) shown.1
-refuses_held (Some store) request old new before after status ending.OutOfMemory is comes tells =
-    λ shown. inr (inr (kept_status before after status ending.OutOfMemory tells (λ e. cc)))
-refuses_held (Some store) request old new before after status ending.Usage is comes tells = absurd comes
+-- an ending that came has the status of each reason to make nothing
+same_status : (store : Store) (command : Command) (old : FilesSeen) (status : ℕ) (how shown : Ending) → old.held ≡ Some store → IfSome old.held (λ store. IsRejectionIn store command how)
+    → IsRejectionIn store command shown → status ≡ status_of how → status ≡ status_of shown
+same_status store command old status how shown is comes other kept =
+    kept ∙ one_status command (reading store (inputs command)) how shown (subst (λ told. IfSome told (λ store. IsRejectionIn store command how)) is comes) other
 
--- a refusal that is shown comes
-pub refuses : (asked : Option Request) (old new : FilesSeen) (before after : SinkSeen) (status : ℕ) (how : Ending)
+rejects_held : (told : Option Store) (command : Command) (old new : FilesSeen) (before after : SinkSeen) (status : ℕ) (how : Ending) → old.held ≡ told
+    → Comes command old new how → Tells before after status how
+    → IfSome told (λ store. (shown : Ending) → IsRejectionIn store command shown → Rose old.read_faults new.read_faults ⊎ ((status ≡ status_of shown) ⊎ (status ≡ 5)))
+rejects_held None command old new before after status how is comes tells = tt
+rejects_held (Some store) command old new before after status (ending.Done report) is comes tells =
+    λ shown also. accepted_or store command shown (subst (λ told. IfSome told (λ store. IsAccepted store command)) is comes) also
+rejects_held (Some store) command old new before after status (ending.Refused line) is comes tells =
+    λ shown also. inr (inl (same_status store command old status (ending.Refused line) shown is comes also (kept_status before after status (ending.Refused line) tells (λ e. cc))))
+rejects_held (Some store) command old new before after status (ending.Invalid line) is comes tells =
+    λ shown also. inr (inl (same_status store command old status (ending.Invalid line) shown is comes also (kept_status before after status (ending.Invalid line) tells (λ e. cc))))
+rejects_held (Some store) command old new before after status (ending.TooLong role) is comes tells =
+    λ shown also. inr (inl (same_status store command old status (ending.TooLong role) shown is comes also (kept_status before after status (ending.TooLong role) tells (λ e. cc))))
+rejects_held (Some store) command old new before after status (ending.ReadFailed role) is comes tells = λ shown also. inl comes.1
+rejects_held (Some store) command old new before after status (ending.WriteFailed role) is comes tells =
+    λ shown also. accepted_or store command shown (subst (λ told. IfSome told (λ store. IsAccepted store command)) is comes.1) also
+rejects_held (Some store) command old new before after status ending.OutOfMemory is comes tells =
+    λ shown also. inr (inr (kept_status before after status ending.OutOfMemory tells (λ e. cc)))
+rejects_held (Some store) command old new before after status ending.Usage is comes tells = absurd comes
+
+-- a reason to make nothing comes where it is shown
+pub rejects : (asked : Option Command) (old new : FilesSeen) (before after : SinkSeen) (status : ℕ) (how : Ending)
     → Answers asked old new how → Tells before after status how
-    → MustRefuse asked old new status
-refuses None old new before after status how answers tells = if_none old.held
+    → MustReject asked old new status
+rejects None old new before after status how answers tells = if_none old.held
   where
-    if_none : (told : Option Store) → IfSome told (λ store. IsRefusedIn None store → Rose old.read_faults new.read_faults ⊎ ((status ≡ 2) ⊎ (status ≡ 5)))
+    if_none : (told : Option Store) → IfSome told (λ store. (shown : Ending) → IsRejectedIn None store shown → Rose old.read_faults new.read_faults ⊎ ((status ≡ status_of shown) ⊎ (status ≡ 5)))
     if_none None = tt
-    if_none (Some store) = λ shown. absurd shown
-refuses (Some request) old new before after status how answers tells = refuses_held old.held request old new before after status how refl answers.0 tells
+    if_none (Some store) = λ shown also. absurd also
+rejects (Some command) old new before after status how answers tells = rejects_held old.held command old new before after status how refl answers.0 tells
+
+some_status : (told : Option Store) (command : Command) (status : ℕ) (how : Ending) → status_of how ≡ status → IfSome told (λ store. IsRejectionIn store command how) → IfSome told (IsStatusIn (Some command) status)
+some_status None command status how is shown = tt
+some_status (Some store) command status how is shown = (how, is, shown)
+
+-- an ending of another status
+other_status : {A : Type 0} (before after : SinkSeen) (status : ℕ) (how : Ending) → Tells before after status how → unput_status how ≡ status_of how → status_of how ≢ 2 → status ≡ 2 → A
+other_status before after status how tells kept other is = elim tells [ inl t ↦ absurd (other (sym t.0 ∙ is)) | inr t ↦ absurd (other (sym kept ∙ sym t.0 ∙ is)) ]
+
+refused_of : (command : Command) (old new : FilesSeen) (before after : SinkSeen) (status : ℕ) (how : Ending) → Comes command old new how → Tells before after status how → status ≡ 2 → IfSome old.held (IsStatusIn (Some command) 2)
+refused_of command old new before after status (ending.Refused line) comes tells is = some_status old.held command 2 (ending.Refused line) refl comes
+refused_of command old new before after status (ending.TooLong role) comes tells is = some_status old.held command 2 (ending.TooLong role) refl comes
+refused_of command old new before after status (ending.Done report) comes tells is = elim tells [ inl t ↦ absurd (let no : 0 ≡ 2 = sym t.0 ∙ is in cc) | inr t ↦ absurd (let no : 6 ≡ 2 = sym t.0 ∙ is in cc) ]
+refused_of command old new before after status (ending.Invalid line) comes tells is = other_status before after status (ending.Invalid line) tells refl (λ e. cc) is
+refused_of command old new before after status (ending.ReadFailed role) comes tells is = other_status before after status (ending.ReadFailed role) tells refl (λ e. cc) is
+refused_of command old new before after status (ending.WriteFailed role) comes tells is = other_status before after status (ending.WriteFailed role) tells refl (λ e. cc) is
+refused_of command old new before after status ending.OutOfMemory comes tells is = other_status before after status ending.OutOfMemory tells refl (λ e. cc) is
+refused_of command old new before after status ending.Usage comes tells is = other_status before after status ending.Usage tells refl (λ e. cc) is
+
+-- a refusal comes where one is shown
+pub refused : (asked : Option Command) (old new : FilesSeen) (before after : SinkSeen) (status : ℕ) (how : Ending) → Answers asked old new how → Tells before after status how
+    → status ≡ 2 → IfSome old.held (IsStatusIn asked 2)
+refused None old new before after status how answers tells is =
+    other_status before after status ending.Usage (subst (λ way. Tells before after status way) answers.0 tells) refl (λ e. cc) is
+refused (Some command) old new before after status how answers tells is = refused_of command old new before after status how answers.0 tells is
 
 abbrev IsComplete : FilesSeen → FilesSeen → SinkSeen → SinkSeen → ℕ → Type 0
 IsComplete old new before after status = AnyFaultRose old new before after ⊎ ((status ≡ 0) ⊎ (status ≡ 5))
 
-completes_held : (told : Option Store) (request : Request) (old new : FilesSeen) (before after : SinkSeen) (status : ℕ) (how : Ending) → old.held ≡ told
-    → Comes request old new how → Tells before after status how
-    → IfSome told (λ store. IsAccepted store request → IsComplete old new before after status)
-completes_held None request old new before after status how is comes tells = tt
-completes_held (Some store) request old new before after status (ending.Done report) is comes tells =
+completes_held : (told : Option Store) (command : Command) (old new : FilesSeen) (before after : SinkSeen) (status : ℕ) (how : Ending) → old.held ≡ told
+    → Comes command old new how → Tells before after status how
+    → IfSome told (λ store. IsAccepted store command → IsComplete old new before after status)
+completes_held None command old new before after status how is comes tells = tt
+completes_held (Some store) command old new before after status (ending.Done report) is comes tells =
     λ accepted. elim tells [ inl t ↦ inr (inl t.0) | inr t ↦ inl (inr (inr t.1)) ]
-completes_held (Some store) request old new before after status (ending.Refused line) is comes tells =
-    λ accepted. accepted_or store request (ending.Refused line) accepted (subst (λ told. IfSome told (λ store. IsRefusalIn store request (ending.Refused line))) is comes)
-completes_held (Some store) request old new before after status (ending.TooLong role) is comes tells =
-    λ accepted. accepted_or store request (ending.TooLong role) accepted (subst (λ told. IfSome told (λ store. IsRefusalIn store request (ending.TooLong role))) is comes)
-completes_held (Some store) request old new before after status (ending.ReadFailed role) is comes tells = λ accepted. inl (inl comes.1)
-completes_held (Some store) request old new before after status (ending.WriteFailed role) is comes tells = λ accepted. inl (inr (inl comes.0))
-completes_held (Some store) request old new before after status ending.OutOfMemory is comes tells =
+completes_held (Some store) command old new before after status (ending.Refused line) is comes tells =
+    λ accepted. accepted_or store command (ending.Refused line) accepted (subst (λ told. IfSome told (λ store. IsRejectionIn store command (ending.Refused line))) is comes)
+completes_held (Some store) command old new before after status (ending.Invalid line) is comes tells =
+    λ accepted. accepted_or store command (ending.Invalid line) accepted (subst (λ told. IfSome told (λ store. IsRejectionIn store command (ending.Invalid line))) is comes)
+completes_held (Some store) command old new before after status (ending.TooLong role) is comes tells =
+    λ accepted. accepted_or store command (ending.TooLong role) accepted (subst (λ told. IfSome told (λ store. IsRejectionIn store command (ending.TooLong role))) is comes)
+completes_held (Some store) command old new before after status (ending.ReadFailed role) is comes tells = λ accepted. inl (inl comes.1)
+completes_held (Some store) command old new before after status (ending.WriteFailed role) is comes tells = λ accepted. inl (inr (inl comes.0))
+completes_held (Some store) command old new before after status ending.OutOfMemory is comes tells =
     λ accepted. inr (inr (kept_status before after status ending.OutOfMemory tells (λ e. cc)))
-completes_held (Some store) request old new before after status ending.Usage is comes tells = absurd comes
+completes_held (Some store) command old new before after status ending.Usage is comes tells = absurd comes
 
 -- what is accepted is done, where nothing fails
-pub completes : (asked : Option Request) (old new : FilesSeen) (before after : SinkSeen) (status : ℕ) (how : Ending)
+pub completes : (asked : Option Command) (old new : FilesSeen) (before after : SinkSeen) (status : ℕ) (how : Ending)
     → Answers asked old new how → Tells before after status how
     → MustComplete asked old new before after status
 completes None old new before after status how answers tells = if_none old.held
@@ -149,7 +193,7 @@ completes None old new before after status how answers tells = if_none old.held
     if_none : (told : Option Store) → IfSome told (λ store. IsAcceptedIn None store → IsComplete old new before after status)
     if_none None = tt
     if_none (Some store) = λ accepted. absurd accepted
-completes (Some request) old new before after status how answers tells = completes_held old.held request old new before after status how refl answers.0 tells
+completes (Some command) old new before after status how answers tells = completes_held old.held command old new before after status how refl answers.0 tells
 
 untied : (o : Ordering) → (o ≡ Equal → ⊥) → is_eq o ≡ false
 untied Less apart = refl
@@ -196,27 +240,28 @@ same_up_to name role writings old new others (n, partly) =
       | Some next ↦ λ apart is. same_partly name next (holding_all (take n writings) old) new apart is.1 ∙ same_holding_all name (take n writings) old (others_first name writings n others)
     ] (other_at name writings n others) partly
 
-product_others : (name : List ℕ) (told : Option Store) (request : Request) (writings : List (Output × List ℕ)) (report : List ℕ)
-    → AllByRecursion (λ output. output.name ≢ name) (outputs request) → IsProduct told request writings report → AreOthers name writings
-product_others name told request writings report others product = subst (AllByRecursion (λ output. output.name ≢ name)) (sym product.outputs) others
+product_others : (name : List ℕ) (told : Option Store) (command : Command) (writings : List (Output × List ℕ)) (report : List ℕ)
+    → AllByRecursion (λ output. output.name ≢ name) (outputs command) → IsProduct told command writings report → AreOthers name writings
+product_others name told command writings report others product = subst (AllByRecursion (λ output. output.name ≢ name)) (sym product.outputs) others
 
-leaves_others : (name : List ℕ) (request : Request) (old new : Option Store) (how : Ending) → AllByRecursion (λ output. output.name ≢ name) (outputs request) → Leaves request old new how → SameUnder name old new
-leaves_others name request old new (ending.Done report) others (writings, product, is) =
-    ap (option_map (λ store. bytes_under store name)) is ∙ same_holding_all name writings old (product_others name old request writings report others product)
-leaves_others name request old new (ending.WriteFailed role) others (writings, report, product, is) =
-    same_up_to name role writings old new (product_others name old request writings report others product) is
-leaves_others name request old new ending.OutOfMemory others leaves = elim leaves [
+leaves_others : (name : List ℕ) (command : Command) (old new : Option Store) (how : Ending) → AllByRecursion (λ output. output.name ≢ name) (outputs command) → Leaves command old new how → SameUnder name old new
+leaves_others name command old new (ending.Done report) others (writings, product, is) =
+    ap (option_map (λ store. bytes_under store name)) is ∙ same_holding_all name writings old (product_others name old command writings report others product)
+leaves_others name command old new (ending.WriteFailed role) others (writings, report, product, is) =
+    same_up_to name role writings old new (product_others name old command writings report others product) is
+leaves_others name command old new ending.OutOfMemory others leaves = elim leaves [
   | inl same ↦ ap (option_map (λ store. bytes_under store name)) same
   | inr (writings, report, product, (n, fewer, is)) ↦
       ap (option_map (λ store. bytes_under store name)) is
-      ∙ same_holding_all name (take n writings) old (others_first name writings n (product_others name old request writings report others product))
+      ∙ same_holding_all name (take n writings) old (others_first name writings n (product_others name old command writings report others product))
 ]
-leaves_others name request old new (ending.Refused line) others same = ap (option_map (λ store. bytes_under store name)) same
-leaves_others name request old new (ending.TooLong role) others same = ap (option_map (λ store. bytes_under store name)) same
-leaves_others name request old new (ending.ReadFailed role) others same = ap (option_map (λ store. bytes_under store name)) same
-leaves_others name request old new ending.Usage others same = ap (option_map (λ store. bytes_under store name)) same
+leaves_others name command old new (ending.Refused line) others same = ap (option_map (λ store. bytes_under store name)) same
+leaves_others name command old new (ending.Invalid line) others same = ap (option_map (λ store. bytes_under store name)) same
+leaves_others name command old new (ending.TooLong role) others same = ap (option_map (λ store. bytes_under store name)) same
+leaves_others name command old new (ending.ReadFailed role) others same = ap (option_map (λ store. bytes_under store name)) same
+leaves_others name command old new ending.Usage others same = ap (option_map (λ store. bytes_under store name)) same
 
 -- a name that is no output holds what it held
-pub others_stay : (asked : Option Request) (old new : FilesSeen) (how : Ending) → Answers asked old new how → OthersStay asked old.held new.held
+pub others_stay : (asked : Option Command) (old new : FilesSeen) (how : Ending) → Answers asked old new how → OthersStay asked old.held new.held
 others_stay None old new how answers name others = ap (option_map (λ store. bytes_under store name)) answers.1
-others_stay (Some request) old new how answers name others = leaves_others name request old.held new.held how others answers.1
+others_stay (Some command) old new how answers name others = leaves_others name command old.held new.held how others answers.1

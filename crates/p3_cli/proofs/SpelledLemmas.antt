@@ -1,14 +1,16 @@
--- What two texts spell, and what is refused of them.
-use Rattle.std.proofs.Common.{◌≡◌, ◌∙◌, ℕ, ◌≤◌, List, ◌∷◌, ◌++◌, Some, None, option_map, length, sym, ap, subst, inl, inr}
+-- What the texts of a task spell, and what is refused of them.
+use Rattle.std.proofs.Common.{◌≡◌, ◌≤◌, ◌∷◌, ◌++◌, Some, None, option_map, length, sym, ap, subst, inl, inr}
 use Rattle.p3_base.specs.declared.refusal.Refusal.{Refusal}
-use Rattle.p3_base.specs.declared.refusal.Side.TheVariants.{Source}
+use Rattle.p3_base.specs.declared.refusal.Side.{Side}
+use Rattle.p3_base.specs.declared.refusal.Side.TheVariants.{Source, Written}
 use Rattle.p3_tree.specs.Grammar.Halves.{domain_place, problem_place}
 use Rattle.p3_tree.specs.FirstOffence.{first_offence}
-use Rattle.p3_tree.specs.Refusals.First.{AreAccepted, AreReadable, HalfText, IsFirstRefusal, IsReadable, IsRefusedText, given_task, halves, refusal_of, task_refusal}
+use Rattle.p3_tree.specs.PlanTexts.{plan_offence}
+use Rattle.p3_tree.specs.Refusals.First.{AreReadable, HalfText, IsFirstRefusal, IsReadable, IsRefusedText, given_task, given_texts, halves, refusal_of, task_refusal}
 use Rattle.p3_tree.specs.Refusals.Counts.{action_refusals, size_refusals}
 use Rattle.p3_tree.specs.Refusals.Metric.{metric_refusals}
 use Rattle.p3_tree.specs.Refusals.Places.{first_some}
-use Rattle.p3_tree.specs.Sides.{InDomain, InProblem}
+use Rattle.p3_tree.specs.Sides.{InDomain, InProblem, byte_limit}
 use Rattle.p3_tree.specs.declared.task.Domain.{Domain}
 use Rattle.p3_tree.specs.declared.task.Problem.{Problem}
 use Rattle.p3_tree.specs.declared.task.Task.{Task}
@@ -16,21 +18,62 @@ use Rattle.p3_syntax.specs.Texts.{IsHalfText, IfRefused}
 use Rattle.p3_syntax.specs.declared.error.ReadFail.{ReadFail}
 use Rattle.p3_syntax.specs.declared.error.ReadFail.TheVariants as fail
 use Rattle.p3_types.specs.Texts.{HasTexts}
-use Rattle.p3_cli.specs.Translation.{EndsAs, IsRefusal, IsRefusedBy, IsSpelled, refused_in, source_texts, text_of}
+use Rattle.p3_cli.specs.Evaluation.{given_plan}
+use Rattle.p3_cli.specs.Refusing.{AllTexts, AreAcceptedFor, EndsAs, IsOfHalves, IsOfPlan, IsOfTask, IsRefusal, IsRefusedFor, IsRefusedTask, IsRejectedBy, IsSpelled, Says, all_texts, domain_of, problem_of, refused_in, task_texts, text_of}
+use Rattle.p3_cli.specs.declared.texts.Texts.{Texts}
 use Rattle.p3_cli.specs.declared.ending.Ending.{Ending}
 use Rattle.p3_cli.specs.declared.ending.Ending.TheVariants as ending
 
-module _ (d p : List ℕ) where
-  are_readable : IsReadable (HalfText Source InDomain d) → IsReadable (HalfText Source InProblem p) → AreReadable (halves (source_texts d p))
-  are_readable first second refusal (inl shown) = first refusal shown
-  are_readable first second refusal (inr (before, inl shown)) = second refusal shown
-  are_readable first second refusal (inr (before, inr (also, none))) = none
+-- ---- endings
+
+module _ (texts : AllTexts) where
+  -- an ending that says a refusal that is shown
+  pub says : (Shows : Refusal → Type 0) (refusal : Refusal) (how : Ending) → Shows refusal → IsRejectedBy (λ end. end ≡ refused_in (text_of refusal.pos.role texts) refusal) how → IsRefusedFor texts Shows how
+  says Shows refusal ending.OutOfMemory shows told = tt
+  says Shows refusal (ending.Refused line) shows told = record { refusal = refusal; shows = shows; says = told }
+  says Shows refusal (ending.Invalid line) shows told = record { refusal = refusal; shows = shows; says = told }
+  says Shows refusal (ending.Done report) shows told = told
+  says Shows refusal (ending.TooLong role) shows told = told
+  says Shows refusal (ending.ReadFailed role) shows told = told
+  says Shows refusal (ending.WriteFailed role) shows told = told
+  says Shows refusal ending.Usage shows told = told
+
+-- what an ending says, it also says in other words
+pub says_more : (Tells Other : Ending → Type 0) → ((how : Ending) → Tells how → Other how) → (how : Ending) → IsRejectedBy Tells how → IsRejectedBy Other how
+says_more Tells Other more ending.OutOfMemory told = tt
+says_more Tells Other more (ending.Refused line) told = more (ending.Refused line) told
+says_more Tells Other more (ending.Invalid line) told = more (ending.Invalid line) told
+says_more Tells Other more (ending.Done report) told = told
+says_more Tells Other more (ending.TooLong role) told = told
+says_more Tells Other more (ending.ReadFailed role) told = told
+says_more Tells Other more (ending.WriteFailed role) told = told
+says_more Tells Other more ending.Usage told = told
+
+-- a refusal that is shown as one thing is shown as another
+pub shows_more : (texts : AllTexts) (Shows Other : Refusal → Type 0) → ((refusal : Refusal) → Shows refusal → Other refusal) → (how : Ending) → IsRefusedFor texts Shows how → IsRefusedFor texts Other how
+shows_more texts Shows Other more = says_more (Says texts Shows) (Says texts Other) (λ how said. record { refusal = said.refusal; shows = more said.refusal said.shows; says = said.says })
+
+-- ---- texts of a side
+
+pub short_domain : (side : Side) (texts : Texts) → length (domain_of side (all_texts texts)) ≤ byte_limit side
+short_domain Source texts = texts.domain_short
+short_domain Written texts = texts.written_domain_short
+
+pub short_problem : (side : Side) (texts : Texts) → length (problem_of side (all_texts texts)) ≤ byte_limit side
+short_problem Source texts = texts.problem_short
+short_problem Written texts = texts.written_problem_short
+
+module _ (side : Side) (texts : AllTexts) where
+  are_readable : IsReadable (HalfText side InDomain (domain_of side texts)) → IsReadable (HalfText side InProblem (problem_of side texts)) → AreReadable (halves (task_texts side texts))
+  are_readable one other refusal (inl shown) = one refusal shown
+  are_readable one other refusal (inr (before, inl shown)) = other refusal shown
+  are_readable one other refusal (inr (before, inr (also, none))) = none
 
   -- two halves that are read are those of a task
-  pub halves_spell : (domain : Domain) (problem : Problem) → IsHalfText domain_place d domain → IsReadable (HalfText Source InDomain d)
-      → IsHalfText problem_place p problem → IsReadable (HalfText Source InProblem p) → IsSpelled d p (record { domain = domain; problem = problem })
-  halves_spell domain problem half first other second = record {
-    readable = are_readable first second;
+  pub halves_spell : (domain : Domain) (problem : Problem) → IsHalfText domain_place (domain_of side texts) domain → IsReadable (HalfText side InDomain (domain_of side texts))
+      → IsHalfText problem_place (problem_of side texts) problem → IsReadable (HalfText side InProblem (problem_of side texts)) → IsSpelled (task_texts side texts) (record { domain = domain; problem = problem })
+  halves_spell domain problem half one other two = record {
+    readable = are_readable one two;
     reads = record {
       domain = half.expression;
       problem = other.expression;
@@ -40,12 +83,19 @@ module _ (d p : List ℕ) where
     };
   }
 
-  pub has_texts : (task : Task) → IsSpelled d p task → length d ≤ 16777216 → length p ≤ 16777216 → HasTexts Source task
-  has_texts task spelled domain_short problem_short =
-      record { domain = d; problem = p; short_domain = domain_short; short_problem = problem_short; readable = spelled.readable; reads = spelled.reads }
+  pub has_texts : (task : Task) → IsSpelled (task_texts side texts) task → length (domain_of side texts) ≤ byte_limit side → length (problem_of side texts) ≤ byte_limit side → HasTexts side task
+  has_texts task spelled domain_short problem_short = record {
+    domain = domain_of side texts;
+    problem = problem_of side texts;
+    short_domain = domain_short;
+    short_problem = problem_short;
+    readable = spelled.readable;
+    reads = spelled.reads;
+  }
 
   -- a task that shows no refusal, of texts that show none
-  pub spelled_accepted : (task : Task) → IsSpelled d p task → length d ≤ 16777216 → length p ≤ 16777216 → task_refusal Source task ≡ None → AreAccepted Source d p task
+  pub spelled_accepted : (task : Task) → IsSpelled (task_texts side texts) task → length (domain_of side texts) ≤ byte_limit side → length (problem_of side texts) ≤ byte_limit side → task_refusal side task ≡ None
+      → AreAcceptedFor side texts task
   spelled_accepted task spelled domain_short problem_short none = record {
     short_domain = domain_short;
     short_problem = problem_short;
@@ -53,38 +103,70 @@ module _ (d p : List ℕ) where
     task = record { reads = spelled.reads; shows = none };
   }
 
-  -- an ending that says a refusal that is shown
-  says : (refusal : Refusal) (how : Ending) → IsFirstRefusal (given_task Source d p) refusal → IsRefusedBy (λ end. end ≡ refused_in (text_of refusal.pos.role d p) refusal) how → IsRefusedBy (IsRefusal d p) how
-  says refusal ending.OutOfMemory shows told = tt
-  says refusal (ending.Refused line) shows told = record { refusal = refusal; shows = shows; says = told }
-  says refusal (ending.Done report) shows told = told
-  says refusal (ending.TooLong role) shows told = told
-  says refusal (ending.ReadFailed role) shows told = told
-  says refusal (ending.WriteFailed role) shows told = told
-  says refusal ending.Usage shows told = told
+  no_memory : (Shows : Refusal → Type 0) (how : Ending) → how ≡ ending.OutOfMemory → IsRefusedFor texts Shows how
+  no_memory Shows how is = subst (IsRefusedFor texts Shows) (sym is) tt
 
-  no_memory : (how : Ending) → how ≡ ending.OutOfMemory → IsRefusedBy (IsRefusal d p) how
-  no_memory how is = subst (IsRefusedBy (IsRefusal d p)) (sym is) tt
+  pub domain_refused : (found : ReadFail) (how : Ending) → IfRefused found (IsRefusedText (HalfText side InDomain (domain_of side texts))) → EndsAs texts found how → IsRefusedFor texts (IsOfHalves side texts) how
+  domain_refused fail.NoMemory how shown told = no_memory (IsOfHalves side texts) how told
+  domain_refused (fail.Refused refusal) how shown told = says texts (IsOfHalves side texts) refusal how (inl shown) told
 
-  pub domain_refused : (found : ReadFail) (how : Ending) → IfRefused found (IsRefusedText (HalfText Source InDomain d)) → EndsAs d p found how → IsRefusedBy (IsRefusal d p) how
-  domain_refused fail.NoMemory how shown told = no_memory how told
-  domain_refused (fail.Refused refusal) how shown told = says refusal how (inl (inl shown)) told
-
-  pub problem_refused : (found : ReadFail) (how : Ending) → IsReadable (HalfText Source InDomain d) → IfRefused found (IsRefusedText (HalfText Source InProblem p)) → EndsAs d p found how
-      → IsRefusedBy (IsRefusal d p) how
-  problem_refused fail.NoMemory how first shown told = no_memory how told
-  problem_refused (fail.Refused refusal) how first shown told = says refusal how (inl (inr (first, inl shown))) told
+  pub problem_refused : (found : ReadFail) (how : Ending) → IsReadable (HalfText side InDomain (domain_of side texts)) → IfRefused found (IsRefusedText (HalfText side InProblem (problem_of side texts)))
+      → EndsAs texts found how → IsRefusedFor texts (IsOfHalves side texts) how
+  problem_refused fail.NoMemory how one shown told = no_memory (IsOfHalves side texts) how told
+  problem_refused (fail.Refused refusal) how one shown told = says texts (IsOfHalves side texts) refusal how (inr (one, inl shown)) told
 
   -- a refusal of the task that the texts spell
-  pub task_refused : (task : Task) (refusal : Refusal) (how : Ending) → IsSpelled d p task → task_refusal Source task ≡ Some refusal
-      → IsRefusedBy (λ end. end ≡ refused_in (text_of refusal.pos.role d p) refusal) how → IsRefusedBy (IsRefusal d p) how
-  task_refused task refusal how spelled shown told = says refusal how (inr (spelled.readable, inl (record { task = task; reads = spelled.reads; shows = shown }))) told
+  pub task_refused : (task : Task) (refusal : Refusal) (how : Ending) → IsSpelled (task_texts side texts) task → task_refusal side task ≡ Some refusal
+      → IsRejectedBy (λ end. end ≡ refused_in (text_of refusal.pos.role texts) refusal) how → IsRefusedFor texts (IsOfTask side texts) how
+  task_refused task refusal how spelled shown told = says texts (IsOfTask side texts) refusal how (record { task = task; reads = spelled.reads; shows = shown }) told
 
-  offence_first : (task : Task) (refusal : Refusal) → option_map (refusal_of Source) (first_offence task) ≡ Some refusal → task_refusal Source task ≡ Some refusal
+  offence_first : (task : Task) (refusal : Refusal) → option_map (refusal_of side) (first_offence task) ≡ Some refusal → task_refusal side task ≡ Some refusal
   unfolding task_refusal
-  offence_first task refusal shown =
-      ap (λ found. first_some (found ∷ metric_refusals Source task ++ size_refusals Source task ++ action_refusals Source task)) shown
+  offence_first task refusal shown = ap (λ found. first_some (found ∷ metric_refusals side task ++ size_refusals side task ++ action_refusals side task)) shown
 
-  pub offence_refused : (task : Task) (refusal : Refusal) (how : Ending) → IsSpelled d p task → option_map (refusal_of Source) (first_offence task) ≡ Some refusal
-      → IsRefusedBy (λ end. end ≡ refused_in (text_of refusal.pos.role d p) refusal) how → IsRefusedBy (IsRefusal d p) how
+  pub offence_refused : (task : Task) (refusal : Refusal) (how : Ending) → IsSpelled (task_texts side texts) task → option_map (refusal_of side) (first_offence task) ≡ Some refusal
+      → IsRejectedBy (λ end. end ≡ refused_in (text_of refusal.pos.role texts) refusal) how → IsRefusedFor texts (IsOfTask side texts) how
   offence_refused task refusal how spelled shown told = task_refused task refusal how spelled (offence_first task refusal shown) told
+
+-- ---- a task that is read alone
+
+module _ (texts : AllTexts) where
+  pub alone_of_halves : (how : Ending) → IsRefusedFor texts (IsOfHalves Source texts) how → IsRefusedTask texts how
+  alone_of_halves = shows_more texts (IsOfHalves Source texts) (IsFirstRefusal (given_task Source texts.domain texts.problem)) (λ refusal shown. inl shown)
+
+  pub alone_of_task : (task : Task) → IsSpelled (task_texts Source texts) task → (how : Ending) → IsRefusedFor texts (IsOfTask Source texts) how → IsRefusedTask texts how
+  alone_of_task task spelled =
+      shows_more texts (IsOfTask Source texts) (IsFirstRefusal (given_task Source texts.domain texts.problem)) (λ refusal shown. inr (spelled.readable, inl shown))
+
+-- ---- a task with a plan
+
+module _ (texts : AllTexts) where
+  abbrev Shown : Refusal → Type 0
+  Shown = IsFirstRefusal (given_plan texts)
+
+  with_halves : (refusal : Refusal) → IsOfHalves Source texts refusal → Shown refusal
+  with_halves refusal (inl one) = inl (inl one)
+  with_halves refusal (inr (before, inl other)) = inl (inr (before, inl other))
+  with_halves refusal (inr (before, inr (also, none))) = absurd none
+
+  pub plan_of_halves : (how : Ending) → IsRefusedFor texts (IsOfHalves Source texts) how → IsRejectedBy (IsRefusal (given_plan texts) texts) how
+  plan_of_halves = shows_more texts (IsOfHalves Source texts) Shown with_halves
+
+  module _ (task : Task) (spelled : IsSpelled (task_texts Source texts) task) where
+    one_readable : IsReadable (HalfText Source InDomain texts.domain)
+    one_readable refusal shown = spelled.readable refusal (inl shown)
+
+    two_readable : IsReadable (HalfText Source InProblem texts.problem)
+    two_readable refusal shown = spelled.readable refusal (inr (one_readable, inl shown))
+
+    pub plan_of_plan : (how : Ending) → IsRefusedFor texts (IsOfPlan texts) how → IsRejectedBy (IsRefusal (given_plan texts) texts) how
+    plan_of_plan = shows_more texts (IsOfPlan texts) Shown (λ refusal shown. inl (inr (one_readable, inr (two_readable, inl shown))))
+
+    all_readable : plan_offence texts.plan ≡ None → AreReadable (given_texts (given_plan texts))
+    all_readable free refusal (inl one) = one_readable refusal one
+    all_readable free refusal (inr (before, inl other)) = two_readable refusal other
+    all_readable free refusal (inr (before, inr (also, inl last))) = cc
+    all_readable free refusal (inr (before, inr (also, inr none))) = none.1
+
+    pub plan_of_task : plan_offence texts.plan ≡ None → (how : Ending) → IsRefusedFor texts (IsOfTask Source texts) how → IsRejectedBy (IsRefusal (given_plan texts) texts) how
+    plan_of_task free = shows_more texts (IsOfTask Source texts) Shown (λ refusal shown. inr (all_readable free, inl shown))

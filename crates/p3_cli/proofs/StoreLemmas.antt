@@ -100,6 +100,7 @@ read_fails_here told input rest all texts before mid after (ending.ReadFailed ro
 read_fails_here told input rest all texts before mid after ending.OutOfMemory among grows so_far fails = tt
 read_fails_here told input rest all texts before mid after (ending.Done report) among grows so_far fails = fails
 read_fails_here told input rest all texts before mid after (ending.Refused line) among grows so_far fails = fails
+read_fails_here told input rest all texts before mid after (ending.Invalid line) among grows so_far fails = fails
 read_fails_here told input rest all texts before mid after (ending.WriteFailed role) among grows so_far fails = fails
 read_fails_here told input rest all texts before mid after ending.Usage among grows so_far fails = fails
 

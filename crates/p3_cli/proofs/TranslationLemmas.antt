@@ -1,5 +1,5 @@
 -- The two texts of a target as the translation of a task.
-use Rattle.std.proofs.Common.{◌≡◌, ◌++◌, ◌^◌, ℕ, List, [], ◌∷◌, codes, length, sym, subst}
+use Rattle.std.proofs.Common.{◌≡◌, ◌++◌, ◌^◌, ℕ, List, [], ◌∷◌, codes, length}
 use Rattle.std.specs.Fmt.{decimal}
 use Rattle.std.proofs.lemmas.Slice.Zip.{AllZip-long}
 use Rattle.std.specs.Prelude.{Result, Ok, Err, IfOk, OnOk}
@@ -9,7 +9,8 @@ use Rattle.p3_formula.specs.Targets.{Compiled}
 use Rattle.p3_formula.specs.declared.target.Target.{Target}
 use Rattle.p3_formula.specs.declared.target.Weights.{Weights}
 use Rattle.p3_formula.specs.declared.task.GroundTask.{GroundTask}
-use Rattle.p3_tree.specs.Commands.{Output}
+use Rattle.p3_tree.specs.Commands.{Compile, Output}
+use Rattle.p3_tree.specs.Refusals.First.{given_task}
 use Rattle.p3_tree.specs.Constraints.{instances}
 use Rattle.p3_tree.specs.Metrics.{metric_places}
 use Rattle.p3_tree.specs.Reports.Lines.{entry}
@@ -20,8 +21,8 @@ use Rattle.p3_tree.specs.declared.task.Task.{Task}
 use Rattle.p3_tree.proofs.RefusalLaws.{nothing_is_refused}
 use Rattle.p3_compile.specs.Lean.{IsLean}
 use Rattle.p3_cli.specs.Product.{Accepts, OfTwoTexts}
-use Rattle.p3_cli.specs.Request.{Request, Compile}
-use Rattle.p3_cli.specs.Translation.{AreTextsOf, CanBeCompiled, IsRefusal, IsTranslation, IsWritten}
+use Rattle.p3_cli.specs.Refusing.{IsRefusal, only_task}
+use Rattle.p3_cli.specs.Translation.{AreTextsOf, CanBeCompiled, IsTranslation, IsWritten}
 use Rattle.p3_cli.specs.declared.ending.Ending.{Ending}
 use Rattle.p3_cli.proofs.FaithfulLaws.{compiled_faithful, texts_faithful}
 
@@ -60,15 +61,14 @@ no_texts more (first ∷ second ∷ []) is = more first.1 second.1 is
 no_texts more (first ∷ second ∷ third ∷ writings) is = absurd is
 
 -- of texts that have a translation nothing is refused
-pub translated_accepted : (d p report : List ℕ) (writings : List (Output × List ℕ)) → OfTwoTexts (λ od op. IsTranslation d p od op report) writings → (how : Ending) → IsRefusal d p how → ⊥
+pub translated_accepted : (d p report : List ℕ) (writings : List (Output × List ℕ)) → OfTwoTexts (λ od op. IsTranslation d p od op report) writings → (how : Ending) → IsRefusal (given_task Source d p) (only_task d p) how → ⊥
 translated_accepted d p report writings is how shown = no_texts (λ od op made. nothing_is_refused Source d p made.task made.accepted shown.refusal shown.shows) writings is
 
--- where a translation was made of what a request reads, that is accepted
-pub product_accepted : {X : Type 0} (request : Request) (texts : List (List ℕ)) (d p : List ℕ) → texts ≡ d ∷ p ∷ [] → (report : X → List ℕ) (writings : X → List (Output × List ℕ)) (r : Result X Ending)
-    → IfOk r (λ made. OfTwoTexts (λ od op. IsTranslation d p od op (report made)) (writings made)) → OnOk r (Accepts request texts)
-product_accepted (Compile domain problem written_domain written_problem) texts d p is report writings (Ok made) translated =
-    subst (Accepts (Compile domain problem written_domain written_problem)) (sym is) (translated_accepted d p (report made) (writings made) translated)
-product_accepted request texts d p is report writings (Err error) translated = tt
+-- where a translation was made of what `compile` reads, that is accepted
+pub compiled_accepted : {X : Type 0} (domain problem written_domain written_problem d p : List ℕ) (report : X → List ℕ) (writings : X → List (Output × List ℕ)) (r : Result X Ending)
+    → IfOk r (λ made. OfTwoTexts (λ od op. IsTranslation d p od op (report made)) (writings made)) → OnOk r (Accepts (Compile domain problem written_domain written_problem) (d ∷ p ∷ []))
+compiled_accepted domain problem written_domain written_problem d p report writings (Ok made) translated = translated_accepted d p (report made) (writings made) translated
+compiled_accepted domain problem written_domain written_problem d p report writings (Err error) translated = tt
 
 -- ---- the report
 

@@ -1,15 +1,15 @@
--- The code's requests, as the words that they name.
+-- The code's requests, as the commands that they are.
 use Rattle.std.specs.Prelude.{ℕ, List, map}
-use Rattle.p3_cli.specs.Request as spec
 use Rattle.p3_tree.specs.Commands as commands
 use Rattle.p3_cli.specs.declared.request.Request.{Request}
-use Rattle.p3_cli.specs.declared.request.Request.TheVariants.{Compile}
+use Rattle.p3_cli.specs.declared.request.Request.TheVariants.{Compile, Evaluate}
 use Rattle.p3_cli.specs.declared.request.Input.{Input}
 use Rattle.p3_cli.specs.declared.request.Written.{Written}
 
-abbrev pub asked_request : Request → spec.Request
-asked_request (Compile domain problem written_domain written_problem) =
-    spec.Compile domain.now problem.now written_domain.now written_problem.now
+abbrev pub asked_command : Request → commands.Command
+asked_command (Compile domain problem written_domain written_problem) =
+    commands.Compile domain.now problem.now written_domain.now written_problem.now
+asked_command (Evaluate domain problem plan) = commands.Evaluate domain.now problem.now plan.now
 
 abbrev pub asked_input : Input → commands.Input
 asked_input input = record { role = input.role; name = input.name.now; limit = input.limit }

@@ -1,15 +1,16 @@
 -- How a run ends: its status, and the lines that it puts.
-use Rattle.std.specs.Prelude.{ℕ, List, codes}
+use Rattle.std.specs.Prelude.{ℕ, List, ◌++◌, codes}
 use Rattle.p3_tree.specs.Reports.Lines.{line, read_fault_line, write_fault_line, want_of_memory_line}
 use Rattle.p3_tree.specs.Reports.Refusals.{too_long_line}
 use Rattle.p3_cli.specs.Status as status
 use Rattle.p3_cli.specs.declared.ending.Ending.{Ending}
-use Rattle.p3_cli.specs.declared.ending.Ending.TheVariants.{Done, Refused, TooLong, ReadFailed, WriteFailed, OutOfMemory, Usage}
+use Rattle.p3_cli.specs.declared.ending.Ending.TheVariants.{Done, Refused, Invalid, TooLong, ReadFailed, WriteFailed, OutOfMemory, Usage}
 
 -- the status, where the lines can be put
 abbrev pub status_of : Ending → ℕ
 status_of (Done report) = status.done
 status_of (Refused text) = status.refused
+status_of (Invalid text) = status.invalid
 status_of (TooLong role) = status.refused
 status_of (ReadFailed role) = status.unread
 status_of (WriteFailed role) = status.unwritten
@@ -25,8 +26,9 @@ unput_status how = status_of how
 abbrev pub lines_of : Ending → List ℕ
 lines_of (Done report) = report
 lines_of (Refused text) = text
+lines_of (Invalid text) = text
 lines_of (TooLong role) = too_long_line role
 lines_of (ReadFailed role) = read_fault_line role
 lines_of (WriteFailed role) = write_fault_line role
 lines_of OutOfMemory = want_of_memory_line
-lines_of Usage = line (codes "usage: pddl3c compile D P OD OP")
+lines_of Usage = line (codes "usage: pddl3c compile D P OD OP") ++ line (codes "       pddl3c evaluate D P PLAN")

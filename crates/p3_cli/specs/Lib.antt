@@ -1,8 +1,10 @@
 pub mod Asked
 pub mod Ending
+pub mod Evaluation
 pub mod Meaning
 pub mod Outcome
 pub mod Product
+pub mod Refusing
 pub mod Request
 pub mod Run
 pub mod Status

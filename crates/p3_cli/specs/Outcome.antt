@@ -17,6 +17,7 @@ ReadFails told inputs before after (ending.ReadFailed role) = Contains (map (λ 
 ReadFails told inputs before after ending.OutOfMemory = Unit {0}
 ReadFails told inputs before after (ending.Done report) = ⊥
 ReadFails told inputs before after (ending.Refused line) = ⊥
+ReadFails told inputs before after (ending.Invalid line) = ⊥
 ReadFails told inputs before after (ending.WriteFailed role) = ⊥
 ReadFails told inputs before after ending.Usage = ⊥
 
@@ -28,4 +29,5 @@ WriteFails written old new before after (ending.TooLong role) = ⊥
 WriteFails written old new before after (ending.ReadFailed role) = ⊥
 WriteFails written old new before after (ending.Done report) = ⊥
 WriteFails written old new before after (ending.Refused line) = ⊥
+WriteFails written old new before after (ending.Invalid line) = ⊥
 WriteFails written old new before after ending.Usage = ⊥

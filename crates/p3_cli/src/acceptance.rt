@@ -1,36 +1,77 @@
 //! From the texts of a task to the task with its ground task and weights, where nothing is refused.
 
-ghost use Rattle.std.specs.Prelude.{◌≡◌, IfOk, IfErr};
-ghost use Rattle.p3_base.specs.declared.refusal.Side.TheVariants.{Source};
+ghost use Rattle.std.specs.Prelude.{◌≡◌, IfOk, IfErr, OnOk, None};
 ghost use Rattle.p3_tree.specs.Offences.{WellFormed};
-ghost use Rattle.p3_tree.specs.Refusals.First.{AreAccepted};
-ghost use Rattle.p3_cli.specs.Translation.{
-  CanBeCompiled,
+ghost use Rattle.p3_tree.specs.PlanTexts.{plan_offence};
+ghost use Rattle.p3_cli.specs.Refusing.{
+  AreAcceptedFor,
   EndsAs,
-  IsRefusal,
-  IsRefusedBy,
+  IsOfHalves,
+  IsOfPlan,
+  IsOfTask,
+  IsRefusedFor,
   IsSpelled,
+  all_texts,
+  task_texts,
 };
+ghost use Rattle.p3_cli.specs.Translation.{CanBeCompiled};
 
 use crate::Ending;
 use crate::texts::Texts;
 use p3_base::Side;
 use p3_eval::{Whole, WholeFail};
+use p3_plans::first_plan_offence;
 use p3_syntax::{ReadFail, read_domain, read_problem};
-use p3_tree::{Domain, Problem};
+use p3_tree::Task;
 use p3_types::{CheckFail, Checked, check};
 use std::alloc::Global;
 
-/// The task that the texts spell, where nothing is refused of it.
-pub(crate) fn accepted(alloc: Global, texts: &Texts<'_>) -> Result<Whole, Ending>
+/// The task that the texts of a side spell, where they show no refusal by themselves.
+#[tactic(auto, using(crate::proofs::SpelledLemmas::halves_spell))]
+pub(crate) fn spelled_task(alloc: Global, side: Side, texts: &Texts<'_>) -> Result<Task, Ending>
+    ensures spelled { IfOk result (IsSpelled (task_texts side (all_texts texts.now))) }
+    ensures err { IfErr result
+        (IsRefusedFor (all_texts texts.now) (IsOfHalves side (all_texts texts.now))) }
+{
+    let domain = match read_domain(alloc, side, texts.domain_of(side)) {
+        Ok(half) => half,
+        Err(fail) => return Err(not_read(alloc, texts, fail)),
+    };
+    let problem = match read_problem(alloc, side, texts.problem_of(side)) {
+        Ok(half) => half,
+        Err(fail) => return Err(not_read(alloc, texts, fail)),
+    };
+    Ok(Task { domain, problem })
+}
+
+/// Looks through the text of the plan for its first offence.
+pub(crate) fn readable_plan(alloc: Global, texts: &Texts<'_>) -> Result<(), Ending>
+    ensures free { OnOk result (plan_offence texts.now.plan.now ≡ None) }
+    ensures err { IfErr result
+        (IsRefusedFor (all_texts texts.now) (IsOfPlan (all_texts texts.now))) }
+{
+    match first_plan_offence(texts.plan) {
+        None => Ok(()),
+        Some(refusal) => Err(texts.refused(alloc, &refusal)),
+    }
+}
+
+/// The task of a side that its texts spell, with all that belongs to it, where nothing is refused.
+pub(crate) fn accepted(
+    alloc: Global,
+    side: Side,
+    texts: &Texts<'_>,
+    task: Task,
+) -> Result<Whole, Ending>
+    requires { IsSpelled (task_texts side (all_texts texts.now)) task }
     ensures accepted { IfOk result (λ whole.
-        AreAccepted Source texts.now.domain.now texts.now.problem.now whole.checked.task) }
+        AreAcceptedFor side (all_texts texts.now) whole.checked.task) }
     ensures ready { IfOk result (λ whole.
         CanBeCompiled whole.checked.task whole.ground_task whole.weights) }
     ensures err { IfErr result
-        (IsRefusedBy (IsRefusal texts.now.domain.now texts.now.problem.now)) }
+        (IsRefusedFor (all_texts texts.now) (IsOfTask side (all_texts texts.now))) }
 {
-    let checked = checked_task(alloc, texts)?;
+    let checked = checked(alloc, side, texts, task)?;
     match Whole::accept(alloc, checked) {
         Ok(whole) => Ok(whole),
         Err(WholeFail::Refused(refusal)) => Err(texts.refused(alloc, &refusal)),
@@ -38,45 +79,18 @@ pub(crate) fn accepted(alloc: Global, texts: &Texts<'_>) -> Result<Whole, Ending
     }
 }
 
-/// The well-formed task that the texts spell.
-#[tactic(auto, using(crate::proofs::SpelledLemmas::halves_spell))]
-fn checked_task(alloc: Global, texts: &Texts<'_>) -> Result<Checked, Ending>
+/// The task that the texts spell, where it is well-formed.
+fn checked(alloc: Global, side: Side, texts: &Texts<'_>, task: Task) -> Result<Checked, Ending>
+    requires { IsSpelled (task_texts side (all_texts texts.now)) task }
     ensures spelled { IfOk result (λ checked.
-        IsSpelled texts.now.domain.now texts.now.problem.now checked.task) }
-    ensures side { IfOk result (λ checked. checked.side ≡ Source) }
+        IsSpelled (task_texts side (all_texts texts.now)) checked.task) }
+    ensures side { IfOk result (λ checked. checked.side ≡ side) }
     ensures well_formed { IfOk result (λ checked. WellFormed checked.task) }
     ensures err { IfErr result
-        (IsRefusedBy (IsRefusal texts.now.domain.now texts.now.problem.now)) }
+        (IsRefusedFor (all_texts texts.now) (IsOfTask side (all_texts texts.now))) }
 {
-    let domain = match read_domain(alloc, Side::Source, texts.domain) {
-        Ok(half) => half,
-        Err(fail) => return Err(not_read(alloc, texts, fail)),
-    };
-    let problem = match read_problem(alloc, Side::Source, texts.problem) {
-        Ok(half) => half,
-        Err(fail) => return Err(not_read(alloc, texts, fail)),
-    };
-    checked(alloc, texts, domain, problem)
-}
-
-/// The task of two halves that the texts spell, where it is well-formed.
-#[tactic(auto, using(crate::proofs::SpelledLemmas::has_texts))]
-fn checked(
-    alloc: Global,
-    texts: &Texts<'_>,
-    domain: Domain,
-    problem: Problem,
-) -> Result<Checked, Ending>
-    requires { IsSpelled texts.now.domain.now texts.now.problem.now
-        (record { domain = domain; problem = problem }) }
-    ensures spelled { IfOk result (λ checked.
-        IsSpelled texts.now.domain.now texts.now.problem.now checked.task) }
-    ensures side { IfOk result (λ checked. checked.side ≡ Source) }
-    ensures well_formed { IfOk result (λ checked. WellFormed checked.task) }
-    ensures err { IfErr result
-        (IsRefusedBy (IsRefusal texts.now.domain.now texts.now.problem.now)) }
-{
-    match check(alloc, Side::Source, domain, problem) {
+    let Task { domain, problem } = task;
+    match check(alloc, side, domain, problem) {
         Ok(checked) => Ok(checked),
         Err(CheckFail::Refused(refusal)) => Err(texts.refused(alloc, &refusal)),
         Err(CheckFail::NoMemory) => Err(Ending::OutOfMemory),
@@ -85,7 +99,7 @@ fn checked(
 
 /// The ending where a half was not read.
 fn not_read(alloc: Global, texts: &Texts<'_>, fail: ReadFail) -> Ending
-    ensures { EndsAs texts.now.domain.now texts.now.problem.now fail result }
+    ensures { EndsAs (all_texts texts.now) fail result }
 {
     match fail {
         ReadFail::Refused(refusal) => texts.refused(alloc, &refusal),

@@ -2,18 +2,19 @@
 
 ghost use Rattle.std.specs.Prelude.{◌≡◌, ◌↔◌, IfSome, IsTrue, None};
 ghost use Rattle.p3_base.specs.Outside.{Rose};
-ghost use Rattle.p3_cli.specs.Asked.{asked_request};
+ghost use Rattle.p3_tree.specs.Commands.{inputs};
+ghost use Rattle.p3_cli.specs.Asked.{asked_command};
 ghost use Rattle.p3_cli.specs.Meaning.{IsDone, IsFaithfulRun, IsLaidOutRun};
-ghost use Rattle.p3_cli.specs.Request.{inputs, request_of};
+ghost use Rattle.p3_cli.specs.Request.{command_asked};
 ghost use Rattle.p3_cli.specs.Run.{
   Answers,
   AreHeld,
   Comes,
   Ends,
-  IsRefusedIn,
+  IsStatusIn,
   Leaves,
   MustComplete,
-  MustRefuse,
+  MustReject,
   OthersStay,
   Tells,
 };
@@ -32,21 +33,23 @@ use std::alloc::Global;
 /// Does what the words ask for, and answers the status of the process.
 ///
 /// It reads the inputs in order, computes, writes the outputs in order, and then puts the report.
-/// The statuses are 0 (done), 2 (an input is refused), 3 (an input was not read), 4 (an output was
-/// not written), 5 (want of memory, at any point before the first write, or where a write answers
-/// it), 6 (done, but the report was not put) and 64 (usage).
+/// The statuses are 0 (done), 1 (a plan is not valid), 2 (an input is refused), 3 (an input was not
+/// read), 4 (an output was not written), 5 (want of memory, at any point before the first write, or
+/// where a write answers it), 6 (done, but the report was not put) and 64 (usage).
 pub fn run<F: Files, S: Sink>(alloc: Global, words: &[Word], files: &mut F, out: &mut S) -> u8
     requires { IsTrue (F.seen files.old).is_sure
-        → AreHeld (request_of words.now) (F.seen files.old).held }
+        → AreHeld (command_asked words.now) (F.seen files.old).held }
 
     // The words decide about usage, and then no file is touched.
-    ensures usage { (result ≡ status.usage) ↔ (request_of words.now ≡ None) }
-    ensures usage_untouched { request_of words.now ≡ None → files.new ≡ files.old }
+    ensures usage { (result ≡ status.usage) ↔ (command_asked words.now ≡ None) }
+    ensures usage_untouched { command_asked words.now ≡ None → files.new ≡ files.old }
 
-    // A refusal comes where it is shown, and where it is shown it comes.
+    // What is read is refused, or a plan is not valid, where that is shown; and where it is, it comes.
     ensures refused { result ≡ status.refused
-        → IfSome (F.seen files.old).held (IsRefusedIn (request_of words.now)) }
-    ensures refuses { MustRefuse (request_of words.now) (F.seen files.old)
+        → IfSome (F.seen files.old).held (IsStatusIn (command_asked words.now) status.refused) }
+    ensures invalid { result ≡ status.invalid
+        → IfSome (F.seen files.old).held (IsStatusIn (command_asked words.now) status.invalid) }
+    ensures rejects { MustReject (command_asked words.now) (F.seen files.old)
         (F.seen files.new) result }
 
     // A failure comes only where the outside failed.
@@ -58,23 +61,23 @@ pub fn run<F: Files, S: Sink>(alloc: Global, words: &[Word], files: &mut F, out:
         → Rose (S.seen out.old).faults (S.seen out.new).faults }
 
     // What is accepted is done, but for faults and want of memory.
-    ensures completes { MustComplete (request_of words.now)
+    ensures completes { MustComplete (command_asked words.now)
         (F.seen files.old) (F.seen files.new) (S.seen out.old) (S.seen out.new) result }
 
     // A done run leaves a faithful translation of the task that it read, and puts that task's report.
-    ensures faithful { IsDone result → IsFaithfulRun (request_of words.now)
+    ensures faithful { IsDone result → IsFaithfulRun (command_asked words.now)
         (F.seen files.old) (F.seen files.new) (S.seen out.old) (S.seen out.new) result }
 
     // It is the layout of a target to which a ground task that stands for the task is compiled.
     ensures layout { IsDone result
-        → IsLaidOutRun (request_of words.now) (F.seen files.old) (F.seen files.new) }
+        → IsLaidOutRun (command_asked words.now) (F.seen files.old) (F.seen files.new) }
 
     // A name that is no output holds what it held.
-    ensures others { OthersStay (request_of words.now) (F.seen files.old).held
+    ensures others { OthersStay (command_asked words.now) (F.seen files.old).held
         (F.seen files.new).held }
 
     // What is left in the files and put into the sink is what the ending says.
-    ensures ending { (how : Ending) × Ends (request_of words.now)
+    ensures ending { (how : Ending) × Ends (command_asked words.now)
         (F.seen files.old) (F.seen files.new) (S.seen out.old) (S.seen out.new) result how }
 {
     let ending = ending_of(alloc, words, files);
@@ -84,9 +87,10 @@ pub fn run<F: Files, S: Sink>(alloc: Global, words: &[Word], files: &mut F, out:
 /// How doing what the words ask for ends.
 fn ending_of<F: Files>(alloc: Global, words: &[Word], files: &mut F) -> Ending
     requires { IsTrue (F.seen files.old).is_sure
-        → AreHeld (request_of words.now) (F.seen files.old).held }
-    ensures answers { Answers (request_of words.now) (F.seen files.old) (F.seen files.new) result }
-    ensures untouched { request_of words.now ≡ None → files.new ≡ files.old }
+        → AreHeld (command_asked words.now) (F.seen files.old).held }
+    ensures answers { Answers (command_asked words.now)
+        (F.seen files.old) (F.seen files.new) result }
+    ensures untouched { command_asked words.now ≡ None → files.new ≡ files.old }
 {
     match asked(words) {
         None => Ending::Usage,
@@ -98,9 +102,9 @@ fn ending_of<F: Files>(alloc: Global, words: &[Word], files: &mut F) -> Ending
 /// in order.
 fn carried_out<F: Files>(alloc: Global, request: &Request<'_>, files: &mut F) -> Ending
     requires { IsTrue (F.seen files.old).is_sure
-        → AreStored (F.seen files.old).held (inputs (asked_request request.now)) }
-    ensures comes { Comes (asked_request request.now) (F.seen files.old) (F.seen files.new) result }
-    ensures leaves { Leaves (asked_request request.now)
+        → AreStored (F.seen files.old).held (inputs (asked_command request.now)) }
+    ensures comes { Comes (asked_command request.now) (F.seen files.old) (F.seen files.new) result }
+    ensures leaves { Leaves (asked_command request.now)
         (F.seen files.old).held (F.seen files.new).held result }
 {
     let inputs = match request.inputs(alloc) {

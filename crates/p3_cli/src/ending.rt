@@ -5,8 +5,11 @@ ghost use Rattle.p3_base.specs.Outside.{IsPartlyPut, Rose, with_put};
 ghost use Rattle.p3_tree.specs.Reports.Lines.{line, role_name};
 
 use crate::role::role_word;
-use crate::status::{DONE, OUT_OF_MEMORY, REFUSED, UNREAD, UNWRITTEN, USAGE};
+use crate::status::{DONE, INVALID, OUT_OF_MEMORY, REFUSED, UNREAD, UNWRITTEN, USAGE};
 use p3_base::{List, NoMemory, Role, Sink, SinkFailed};
+
+/// What is put where the words have none of the listed shapes.
+const USAGE_LINES: &[u8] = b"usage: pddl3c compile D P OD OP\n       pddl3c evaluate D P PLAN\n";
 
 /// How a run ends.
 #[derive(Debug, Drop)]
@@ -15,6 +18,8 @@ pub enum Ending {
     Done(List<u8>),
     /// An input is refused: the line that says why and where.
     Refused(List<u8>),
+    /// A plan is not valid: the line of its first fault.
+    Invalid(List<u8>),
     /// An input has more bytes than the limit.
     TooLong(Role),
     /// An input was not read.
@@ -47,6 +52,7 @@ impl Ending {
         match self {
             Ending::Done(_) => DONE,
             Ending::Refused(_) | Ending::TooLong(_) => REFUSED,
+            Ending::Invalid(_) => INVALID,
             Ending::ReadFailed(_) => UNREAD,
             Ending::WriteFailed(_) => UNWRITTEN,
             Ending::OutOfMemory => OUT_OF_MEMORY,
@@ -64,12 +70,14 @@ impl Ending {
         ensures faults_grow { (S.seen out.old).faults ≤ (S.seen out.new).faults }
     {
         match self {
-            Ending::Done(lines) | Ending::Refused(lines) => out.put(lines.items()),
+            Ending::Done(lines) | Ending::Refused(lines) | Ending::Invalid(lines) => {
+                out.put(lines.items())
+            }
             Ending::TooLong(role) => put_about(out, b"refused 21 file too long: ", *role),
             Ending::ReadFailed(role) => put_about(out, b"read fault: ", *role),
             Ending::WriteFailed(role) => put_about(out, b"write fault: ", *role),
             Ending::OutOfMemory => out.put(b"want of memory\n"),
-            Ending::Usage => out.put(b"usage: pddl3c compile D P OD OP\n"),
+            Ending::Usage => out.put(USAGE_LINES),
         }
     }
 }

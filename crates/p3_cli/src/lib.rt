@@ -4,7 +4,9 @@
 mod acceptance;
 mod call;
 mod ending;
+mod evaluation;
 mod laws;
+mod plan_report;
 mod product;
 mod quantity;
 mod refusal;
@@ -19,3 +21,4 @@ mod translation;
 pub use call::run;
 pub use ending::Ending;
 pub use laws::{compiled_tasks_are_faithful, written_targets_are_faithful_texts};
+pub use p3_judge::{TextVerdict, judge_text};

@@ -1,14 +1,14 @@
 //! What a command makes of the texts that it read.
 
 ghost use Rattle.std.specs.Prelude.{◌≡◌, ◌∷◌, [], map, IfOk, IfErr, OnOk};
-ghost use Rattle.p3_tree.specs.Commands.{source_inputs};
-ghost use Rattle.p3_cli.specs.Asked.{asked_request, asked_writings};
-ghost use Rattle.p3_cli.specs.Product.{Accepts, Produces, Refuses};
-ghost use Rattle.p3_cli.specs.Request.{inputs, outputs};
+ghost use Rattle.p3_tree.specs.Commands.{Evaluate, inputs, outputs, source_inputs};
+ghost use Rattle.p3_cli.specs.Asked.{asked_command, asked_writings};
+ghost use Rattle.p3_cli.specs.Product.{Accepts, Produces, Rejects};
+ghost use Rattle.p3_cli.specs.Refusing.{IsRejectedBy, all_texts, only_task, with_plan};
 ghost use Rattle.p3_cli.specs.Store.{AreWithin};
-ghost use Rattle.p3_cli.specs.Translation.{IsRefusedBy};
 
 use crate::Ending;
+use crate::evaluation::evaluate;
 use crate::request::{Request, Written};
 use crate::texts::Texts;
 use crate::translation::{TargetFiles, translate};
@@ -29,17 +29,18 @@ pub(crate) fn product_of<'a>(
     request: &Request<'a>,
     texts: &[Vec<u8>],
 ) -> Result<Product<'a>, Ending>
-    requires { AreWithin (inputs (asked_request request.now)) (map (λ text. text.items) texts.now) }
+    requires { AreWithin (inputs (asked_command request.now))
+        (map (λ text. text.items) texts.now) }
     ensures outputs { IfOk result (λ product.
         map (λ written. written.0) (asked_writings product.writings.items)
-        ≡ outputs (asked_request request.now)) }
+        ≡ outputs (asked_command request.now)) }
     ensures ok { IfOk result (λ product.
-        Produces (asked_request request.now) (map (λ text. text.items) texts.now)
+        Produces (asked_command request.now) (map (λ text. text.items) texts.now)
         (asked_writings product.writings.items) product.report.items) }
     ensures accepted { OnOk result
-        (Accepts (asked_request request.now) (map (λ text. text.items) texts.now)) }
-    ensures err { IfErr result (IsRefusedBy
-        (Refuses (asked_request request.now) (map (λ text. text.items) texts.now))) }
+        (Accepts (asked_command request.now) (map (λ text. text.items) texts.now)) }
+    ensures err { IfErr result (IsRejectedBy
+        (Rejects (asked_command request.now) (map (λ text. text.items) texts.now))) }
 {
     match request {
         Request::Compile {
@@ -51,14 +52,19 @@ pub(crate) fn product_of<'a>(
             &TargetFiles { domain, problem },
             &texts_of_task(texts),
         ),
+        Request::Evaluate { .. } => Ok(Product {
+            writings: Vec::new(alloc),
+            report: evaluate(alloc, &texts_of_plan(texts))?,
+        }),
     }
 }
 
 /// The texts of a task.
 fn texts_of_task(texts: &[Vec<u8>]) -> Texts<'_>
     requires { AreWithin (source_inputs [] []) (map (λ text. text.items) texts.now) }
-    ensures { map (λ text. text.items) texts.now
+    ensures read { map (λ text. text.items) texts.now
         ≡ result.domain.now ∷ result.problem.now ∷ [] }
+    ensures only { all_texts result ≡ only_task result.domain.now result.problem.now }
 {
     let [domain, problem] = texts else {
         unreachable!()
@@ -66,5 +72,28 @@ fn texts_of_task(texts: &[Vec<u8>]) -> Texts<'_>
     Texts {
         domain: domain.as_slice(),
         problem: problem.as_slice(),
+        written_domain: b"".as_slice(),
+        written_problem: b"".as_slice(),
+        plan: b"".as_slice(),
+    }
+}
+
+/// The texts of a task and of a plan for it.
+fn texts_of_plan(texts: &[Vec<u8>]) -> Texts<'_>
+    requires { AreWithin (inputs (Evaluate [] [] [])) (map (λ text. text.items) texts.now) }
+    ensures read { map (λ text. text.items) texts.now
+        ≡ result.domain.now ∷ result.problem.now ∷ result.plan.now ∷ [] }
+    ensures only { all_texts result
+        ≡ with_plan result.domain.now result.problem.now result.plan.now }
+{
+    let [domain, problem, plan] = texts else {
+        unreachable!()
+    };
+    Texts {
+        domain: domain.as_slice(),
+        problem: problem.as_slice(),
+        written_domain: b"".as_slice(),
+        written_problem: b"".as_slice(),
+        plan: plan.as_slice(),
     }
 }

@@ -54,13 +54,18 @@ fn push_measure(
         ++ entry (codes "direction") (direction_name weights.now.direction)
         ++ scale_line (10 ^ places)) }
 {
-    push_base(alloc, out, places, weights.base)?;
+    push_quantity_line(alloc, out, "base", places, weights.base)?;
     push_direction(out, weights.direction)?;
     push_scale(alloc, out, places)
 }
 
 /// Puts a line of a word and a number.
-fn push_count(alloc: Global, out: &mut Vec<u8>, word: &str, number: u128) -> Result<(), NoMemory>
+pub(crate) fn push_count(
+    alloc: Global,
+    out: &mut Vec<u8>,
+    word: &str,
+    number: u128,
+) -> Result<(), NoMemory>
     ensures { OnOk result (out.new.items ≡ out.old.items ++ entry word.now (decimal number)) }
 {
     push(out, word)?;
@@ -69,14 +74,21 @@ fn push_count(alloc: Global, out: &mut Vec<u8>, word: &str, number: u128) -> Res
     push(out, "\n")
 }
 
-/// Puts the line of the base, a number of units of so many places.
-fn push_base(alloc: Global, out: &mut Vec<u8>, places: u32, base: i128) -> Result<(), NoMemory>
+/// Puts a line of a word and a number of units of so many places.
+pub(crate) fn push_quantity_line(
+    alloc: Global,
+    out: &mut Vec<u8>,
+    word: &str,
+    places: u32,
+    units: i128,
+) -> Result<(), NoMemory>
     requires { places ≤ 6 }
     ensures { OnOk result (out.new.items
-        ≡ out.old.items ++ entry (codes "base") (shown_quantity places base)) }
+        ≡ out.old.items ++ entry word.now (shown_quantity places units)) }
 {
-    push(out, "base ")?;
-    push_quantity(alloc, out, places, base)?;
+    push(out, word)?;
+    push(out, " ")?;
+    push_quantity(alloc, out, places, units)?;
     push(out, "\n")
 }
 
@@ -104,7 +116,7 @@ fn push_scale(alloc: Global, out: &mut Vec<u8>, places: u32) -> Result<(), NoMem
 }
 
 /// Puts a text at the end.
-fn push(out: &mut Vec<u8>, text: &str) -> Result<(), NoMemory>
+pub(crate) fn push(out: &mut Vec<u8>, text: &str) -> Result<(), NoMemory>
     ensures { OnOk result (out.new.items ≡ out.old.items ++ text.now) }
 {
     out.extend_from_slice(text.as_bytes())?;

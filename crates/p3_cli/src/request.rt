@@ -2,17 +2,28 @@
 
 ghost use Rattle.std.specs.Prelude.{◌≡◌, IfOk};
 ghost use Rattle.std.specs.Option.{option_map};
-ghost use Rattle.p3_cli.specs.Request.{request_of, inputs};
-ghost use Rattle.p3_tree.specs.Commands.{is_file_word};
 ghost use Rattle.p3_base.specs.declared.refusal.Side.TheVariants.{Source};
+ghost use Rattle.p3_tree.specs.Commands.{
+  compile_words,
+  evaluate_words,
+  has_file_words,
+  inputs,
+  is_file_word,
+  plan_input,
+};
+ghost use Rattle.p3_tree.specs.Names.{same_name};
 ghost use Rattle.p3_tree.specs.Sides.{byte_limit};
-ghost use Rattle.p3_cli.specs.Asked.{asked_request, asked_input, asked_inputs};
+ghost use Rattle.p3_cli.specs.Asked.{asked_command, asked_input, asked_inputs};
+ghost use Rattle.p3_cli.specs.Request.{command_asked, command_named};
 
 use p3_base::{NoMemory, Role, Word};
 use std::alloc::Global;
 
 /// The greatest number of bytes of a file of the task read.
 const SOURCE_LIMIT: u32 = 16_777_216;
+
+/// The greatest number of bytes of a file of a plan.
+const PLAN_LIMIT: u32 = 16_777_216;
 
 /// A command with the names of its files.
 #[derive(Clone, Copy)]
@@ -27,6 +38,15 @@ pub(crate) enum Request<'a> {
         written_domain: &'a Word,
         /// The problem written.
         written_problem: &'a Word,
+    },
+    /// Judge a plan of a task.
+    Evaluate {
+        /// The domain.
+        domain: &'a Word,
+        /// The problem.
+        problem: &'a Word,
+        /// The plan.
+        plan: &'a Word,
     },
 }
 
@@ -54,23 +74,64 @@ pub(crate) struct Written<'a> {
 
 /// What the words ask for, or `None` where they have none of the listed shapes.
 pub(crate) fn asked(words: &[Word]) -> Option<Request<'_>>
-    ensures { option_map asked_request result ≡ request_of words.now }
+    ensures { option_map asked_command result ≡ command_asked words.now }
 {
-    match words {
-        [command, domain, problem, written_domain, written_problem]
-            if command.bytes() == b"compile".as_slice()
-                && is_file_word(domain)
-                && is_file_word(problem)
-                && is_file_word(written_domain)
-                && is_file_word(written_problem)
-                && written_domain.bytes() != written_problem.bytes() => {
-            Some(Request::Compile {
-                domain,
-                problem,
-                written_domain,
-                written_problem,
-            })
-        }
+    let [name, files @ ..] = words else {
+        return None;
+    };
+    let request = named(name.bytes(), files)?;
+    if request.has_file_words() {
+        Some(request)
+    } else {
+        None
+    }
+}
+
+/// The command of that name with these files.
+fn named<'a>(name: &[u8], files: &'a [Word]) -> Option<Request<'a>>
+    ensures { option_map asked_command result ≡ command_named name.now files.now }
+{
+    if is_word(b"compile", name) {
+        compile(files)
+    } else if is_word(b"evaluate", name) {
+        evaluate(files)
+    } else {
+        None
+    }
+}
+
+/// Whether it is the word.
+fn is_word(word: &[u8], name: &[u8]) -> bool
+    ensures { result ≡ same_name word.now name.now }
+{
+    word == name
+}
+
+/// `compile` with these files.
+fn compile(files: &[Word]) -> Option<Request<'_>>
+    ensures { option_map asked_command result ≡ compile_words files.now }
+{
+    match files {
+        [domain, problem, written_domain, written_problem] => Some(Request::Compile {
+            domain,
+            problem,
+            written_domain,
+            written_problem,
+        }),
+        _ => None,
+    }
+}
+
+/// `evaluate` with these files.
+fn evaluate(files: &[Word]) -> Option<Request<'_>>
+    ensures { option_map asked_command result ≡ evaluate_words files.now }
+{
+    match files {
+        [domain, problem, plan] => Some(Request::Evaluate {
+            domain,
+            problem,
+            plan,
+        }),
         _ => None,
     }
 }
@@ -83,9 +144,34 @@ fn is_file_word(word: &Word) -> bool
 }
 
 impl<'a> Request<'a> {
+    /// Whether all names can name files, and no two outputs have the same name.
+    fn has_file_words(&self) -> bool
+        ensures { result ≡ has_file_words (asked_command self.now) }
+    {
+        match self {
+            Request::Compile {
+                domain,
+                problem,
+                written_domain,
+                written_problem,
+            } => {
+                is_file_word(domain)
+                    && is_file_word(problem)
+                    && is_file_word(written_domain)
+                    && is_file_word(written_problem)
+                    && written_domain.bytes() != written_problem.bytes()
+            }
+            Request::Evaluate {
+                domain,
+                problem,
+                plan,
+            } => is_file_word(domain) && is_file_word(problem) && is_file_word(plan),
+        }
+    }
+
     /// The files that are read, in the order of the command line.
     pub(crate) fn inputs(&self, alloc: Global) -> Result<Vec<Input<'a>>, NoMemory>
-        ensures { IfOk result (λ all. asked_inputs all.items ≡ inputs (asked_request self.now)) }
+        ensures { IfOk result (λ all. asked_inputs all.items ≡ inputs (asked_command self.now)) }
     {
         match self {
             Request::Compile {
@@ -95,6 +181,15 @@ impl<'a> Request<'a> {
             } => Ok(vec![in alloc;
                 source(Role::Domain, domain),
                 source(Role::Problem, problem),
+            ]?),
+            Request::Evaluate {
+                domain,
+                problem,
+                plan,
+            } => Ok(vec![in alloc;
+                source(Role::Domain, domain),
+                source(Role::Problem, problem),
+                plan_file(plan),
             ]?),
         }
     }
@@ -109,5 +204,16 @@ fn source(role: Role, name: &Word) -> Input<'_>
         role,
         name,
         limit: SOURCE_LIMIT,
+    }
+}
+
+/// The file of a plan.
+fn plan_file(name: &Word) -> Input<'_>
+    ensures { asked_input result ≡ plan_input name.now }
+{
+    Input {
+        role: Role::Plan,
+        name,
+        limit: PLAN_LIMIT,
     }
 }

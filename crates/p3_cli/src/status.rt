@@ -3,6 +3,9 @@
 /// Everything was done, and the report was put.
 pub(crate) const DONE: u8 = 0;
 
+/// A plan is not valid.
+pub(crate) const INVALID: u8 = 1;
+
 /// What was read is refused.
 pub(crate) const REFUSED: u8 = 2;
 

@@ -4,23 +4,22 @@ ghost use Rattle.std.specs.Prelude.{◌≡◌, map, IfOk, IfErr};
 ghost use Rattle.p3_formula.specs.Targets.{IsNamed, IsSized};
 ghost use Rattle.p3_cli.specs.Asked.{asked_writings};
 ghost use Rattle.p3_cli.specs.Product.{OfTwoTexts};
-ghost use Rattle.p3_cli.specs.Request.{target_outputs};
+ghost use Rattle.p3_cli.specs.Refusing.{IsRefusedTask, all_texts};
 ghost use Rattle.p3_cli.specs.Translation.{
   AreTextsOf,
   CanBeCompiled,
-  IsRefusal,
-  IsRefusedBy,
   IsTranslation,
   IsWritten,
+  target_outputs,
 };
 
 use crate::Ending;
-use crate::acceptance::accepted;
+use crate::acceptance::{accepted, spelled_task};
 use crate::product::Product;
 use crate::report::compiled_report;
 use crate::request::Written;
 use crate::texts::Texts;
-use p3_base::{NoMemory, Role, Word};
+use p3_base::{NoMemory, Role, Side, Word};
 use p3_compile::compile;
 use p3_eval::Whole;
 use p3_formula::Target;
@@ -46,10 +45,10 @@ pub(crate) fn translate<'a>(
     ensures made { IfOk result (λ product. OfTwoTexts
         (λ od op. IsTranslation texts.now.domain.now texts.now.problem.now od op product.report.items)
         (asked_writings product.writings.items)) }
-    ensures err { IfErr result
-        (IsRefusedBy (IsRefusal texts.now.domain.now texts.now.problem.now)) }
+    ensures err { IfErr result (IsRefusedTask (all_texts texts.now)) }
 {
-    let whole = accepted(alloc, texts)?;
+    let task = spelled_task(alloc, Side::Source, texts)?;
+    let whole = accepted(alloc, Side::Source, texts, task)?;
     let product = translation(alloc, files, &whole)?;
     Ok(product)
 }

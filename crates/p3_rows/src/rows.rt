@@ -47,7 +47,7 @@ impl Row<'_> {
 const WITH_COMMENT: &[u8] =
     b"(DEFINE (Domain D) (:Predicates (P)) ; caf\xc3\xa9\n(:action a :parameters () :precondition () :effect (p)))\n";
 
-const USAGE: &str = "usage: pddl3c compile D P OD OP\n";
+const USAGE: &str = "usage: pddl3c compile D P OD OP\n       pddl3c evaluate D P PLAN\n";
 
 #[test]
 fn each_run_ends_as_it_must(rt: HostRuntime) -> Result<(), Fail> {

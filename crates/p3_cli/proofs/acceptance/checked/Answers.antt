@@ -1,11 +1,16 @@
 use Rattle.std.proofs.Common.{subst}
-use Rattle.p3_base.specs.declared.refusal.Side.TheVariants.{Source}
 use Rattle.p3_types.specs.Checks.{IsFailOf}
-use Rattle.p3_cli.proofs.SpelledLemmas.{offence_refused}
+use Rattle.p3_cli.specs.Refusing.{all_texts}
+use Rattle.p3_cli.proofs.SpelledLemmas.{has_texts, offence_refused, short_domain, short_problem}
 use Rattle.p3_cli.proofs.acceptance.checked.Goals as goal
 
 pub returns-in-Err-Refused-clause-err : goal.returns-in-Err-Refused-clause-err
 returns-in-Err-Refused-clause-err c =
-    offence_refused c.args.texts.now.domain.now c.args.texts.now.problem.now (record { domain = c.args.domain; problem = c.args.problem }) c.in-Err-Refused.refusal c.refused.result c.requires
-    (subst (IsFailOf Source (record { domain = c.args.domain; problem = c.args.problem })) c.in-Err-Refused.field-0-is c.in-Err-Refused.ensures.refused)
+    offence_refused c.args.side (all_texts c.args.texts.now) c.args.task c.in-Err-Refused.refusal c.refused.result c.requires
+    (subst (IsFailOf c.args.side c.args.task) c.in-Err-Refused.field-0-is c.in-Err-Refused.ensures.refused)
     c.refused.ensures
+
+pub check-requires : goal.check-requires
+check-requires c = record {
+  texts = has_texts c.args.side (all_texts c.args.texts.now) c.args.task c.requires (short_domain c.args.side c.args.texts.now) (short_problem c.args.side c.args.texts.now);
+}

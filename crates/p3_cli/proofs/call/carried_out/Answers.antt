@@ -1,14 +1,17 @@
-use Rattle.std.proofs.Common.{◌∙◌, ap, sym, subst, map}
-use Rattle.p3_cli.specs.Asked.{asked_inputs, asked_request, asked_writings}
+use Rattle.std.proofs.Common.{◌≡◌, ◌∙◌, ap, sym, subst, map}
+use Rattle.p3_cli.specs.Asked.{asked_inputs, asked_command, asked_writings}
 use Rattle.p3_cli.specs.Outcome.{WriteFails}
-use Rattle.p3_cli.proofs.RunLemmas.{all_accepted, refused_comes, unwritten_comes, unwritten_leaves}
+use Rattle.p3_cli.specs.Run.{Leaves}
+use Rattle.p3_cli.specs.Store.{holding_all}
+use Rattle.p3_cli.specs.declared.ending.Ending.TheVariants.{Done}
+use Rattle.p3_cli.proofs.RunLemmas.{all_accepted, rejected_comes, done_leaves, unwritten_comes, unwritten_leaves}
 use Rattle.p3_cli.proofs.call.carried_out.Goals as goal
 
 pub returns-in-Err-product_of-clause-comes : goal.returns-in-Err-product_of-clause-comes
 returns-in-Err-product_of-clause-comes g c =
     let same = ap asked_inputs c.as_slice.ensures.value ∙ c.in-Ok.ensures in
     let are = sym (ap (λ xs. map (λ text. text.items) xs) c.as_slice-2.ensures.value) in
-    refused_comes (asked_request c.args.request.now) _ same _ _ are
+    rejected_comes (asked_command c.args.request.now) _ same _ _ are
     (g.F.Files.seen c.args.files.now)
     (g.F.Files.seen c.read_all.new.files)
     c.in-Err-product_of.ending c.in-Ok-read_all.ensures.ok c.in-Err-product_of.ensures.err
@@ -17,13 +20,13 @@ pub returns-in-Ok-write_all-clause-comes : goal.returns-in-Ok-write_all-clause-c
 returns-in-Ok-write_all-clause-comes g c =
     let same = ap asked_inputs c.as_slice.ensures.value ∙ c.in-Ok.ensures in
     let are = sym (ap (λ xs. map (λ text. text.items) xs) c.as_slice-2.ensures.value) in
-    all_accepted (asked_request c.args.request.now) _ same _ _ are _ c.in-Ok-read_all.ensures.ok c.in-Ok-product_of.ensures.accepted
+    all_accepted (asked_command c.args.request.now) _ same _ _ are _ c.in-Ok-read_all.ensures.ok c.in-Ok-product_of.ensures.accepted
 
 pub returns-clause-comes : goal.returns-clause-comes
 returns-clause-comes g c =
     let same = ap asked_inputs c.as_slice.ensures.value ∙ c.in-Ok.ensures in
     let are = sym (ap (λ xs. map (λ text. text.items) xs) c.as_slice-2.ensures.value) in
-    unwritten_comes (asked_request c.args.request.now) _ same _ _ are (g.F.Files.seen c.args.files.now) (g.F.Files.seen c.write_all.new.files) c.in-Err-write_all.ending _ _ _ c.in-Ok-read_all.ensures.ok c.in-Ok-product_of.ensures.accepted
+    unwritten_comes (asked_command c.args.request.now) _ same _ _ are (g.F.Files.seen c.args.files.now) (g.F.Files.seen c.write_all.new.files) c.in-Err-write_all.ending _ _ _ c.in-Ok-read_all.ensures.ok c.in-Ok-product_of.ensures.accepted
     c.read_all.ensures.write_faults_grow c.in-Err-write_all.ensures.err
 
 pub returns-clause-leaves : goal.returns-clause-leaves
@@ -33,6 +36,17 @@ returns-clause-leaves g c =
     let mid = g.F.Files.seen c.read_all.new.files in
     let new = g.F.Files.seen c.write_all.new.files in
     let fails = subst (λ writings. WriteFails (asked_writings writings) mid.held new.held mid.write_faults new.write_faults c.in-Err-write_all.ending) c.as_slice-3.ensures.value c.in-Err-write_all.ensures.err in
-    unwritten_leaves (asked_request c.args.request.now) _ same _ _ are (g.F.Files.seen c.args.files.now).held mid.held new.held (asked_writings c.in-Ok-product_of.product.writings.items)
+    unwritten_leaves (asked_command c.args.request.now) _ same _ _ are (g.F.Files.seen c.args.files.now).held mid.held new.held (asked_writings c.in-Ok-product_of.product.writings.items)
     c.in-Ok-product_of.product.report.items _ _ c.in-Err-write_all.ending c.in-Ok-read_all.ensures.ok c.read_all.ensures.held_stays c.in-Ok-product_of.ensures.outputs
     c.in-Ok-product_of.ensures.ok fails
+
+pub returns-in-Ok-write_all-clause-leaves : goal.returns-in-Ok-write_all-clause-leaves
+returns-in-Ok-write_all-clause-leaves g c =
+    let same = ap asked_inputs c.as_slice.ensures.value ∙ c.in-Ok.ensures in
+    let are = sym (ap (λ xs. map (λ text. text.items) xs) c.as_slice-2.ensures.value) in
+    let mid = g.F.Files.seen c.read_all.new.files in
+    let new = g.F.Files.seen c.write_all.new.files in
+    let is = subst (λ writings. new.held ≡ holding_all (asked_writings writings) mid.held) c.as_slice-3.ensures.value c.in-Ok-write_all.ensures.ok in
+    subst (λ report. Leaves (asked_command c.args.request.now) (g.F.Files.seen c.args.files.now).held new.held (Done report)) (sym c.from.ensures)
+    (done_leaves (asked_command c.args.request.now) _ same _ _ are (g.F.Files.seen c.args.files.now).held mid.held new.held (asked_writings c.in-Ok-product_of.product.writings.items)
+    c.in-Ok-product_of.product.report.items c.in-Ok-read_all.ensures.ok c.read_all.ensures.held_stays c.in-Ok-product_of.ensures.outputs c.in-Ok-product_of.ensures.ok is)

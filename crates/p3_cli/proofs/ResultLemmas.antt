@@ -1,0 +1,14 @@
+-- What is so of a result where it is an answer, or where it is a failure.
+use Rattle.std.specs.Prelude.{IfErr, IfOk, OnOk, Result, Ok, Err}
+
+pub on_ok : {A E : Type 0} {P Q : Type 0} (result : Result A E) → (P → Q) → OnOk result P → OnOk result Q
+on_ok (Ok answer) more is = more is
+on_ok (Err error) more is = tt
+
+pub if_ok : {A E : Type 0} {P Q : A → Type 0} (result : Result A E) → ((answer : A) → P answer → Q answer) → IfOk result P → IfOk result Q
+if_ok (Ok answer) more is = more answer is
+if_ok (Err error) more is = tt
+
+pub if_err : {A E : Type 0} {P Q : E → Type 0} (result : Result A E) → ((error : E) → P error → Q error) → IfErr result P → IfErr result Q
+if_err (Ok answer) more is = tt
+if_err (Err error) more is = more error is

@@ -1,0 +1,90 @@
+-- What `evaluate` makes of the texts of a task and of a plan for it.
+use Rattle.std.specs.Prelude.{ℕ, ◌≡◌, ◌≤◌, ◌⊎◌, List, [], ◌∷◌, ◌++◌, codes, flat_map, length, pos, Some}
+use Rattle.std.specs.Fmt.{decimal}
+use Rattle.p3_base.specs.declared.refusal.Side.TheVariants.{Source}
+use Rattle.p3_tree.specs.Costs.{cost_places}
+use Rattle.p3_tree.specs.Metrics.{cost, violated}
+use Rattle.p3_tree.specs.Names.{Name}
+use Rattle.p3_tree.specs.Plans.{Plan}
+use Rattle.p3_tree.specs.PlanTexts.{IsPlanText, step_limit}
+use Rattle.p3_tree.specs.PreferenceNames.{ordered_names}
+use Rattle.p3_tree.specs.Refusals.First.{AreAccepted, Given}
+use Rattle.p3_tree.specs.Reports.Lines.{entry}
+use Rattle.p3_tree.specs.Reports.Plans.{evaluated_lines, fault_line}
+use Rattle.p3_tree.specs.Reports.Quantities.{shown_quantity}
+use Rattle.p3_tree.specs.Validity.{Fault, Valid, first_fault}
+use Rattle.p3_tree.specs.declared.task.Task.{Task}
+use Rattle.p3_ground.specs.PlansByNumber.{AreNumbers}
+use Rattle.p3_run.specs.Runs.{Ran}
+use Rattle.p3_cli.specs.Refusing.{AllTexts, IsRefusal, IsRejectedBy, task_texts}
+use Rattle.p3_cli.specs.declared.ending.Ending.{Ending}
+use Rattle.p3_cli.specs.declared.ending.Ending.TheVariants.{Invalid}
+
+-- ---- of the texts
+
+-- the texts of a task and of a plan for it
+abbrev pub given_plan : AllTexts → Given
+given_plan texts = record { tasks = task_texts Source texts ∷ []; plans = texts.plan ∷ [] }
+
+-- nothing is refused of d, p and q, which are the texts of the task and of the plan
+pub record AreOfPlan (d p q : List ℕ) (task : Task) (plan : Plan) : Type 0 where
+  pub accepted : AreAccepted Source d p task
+  pub spelled : IsPlanText q plan
+  pub few : length plan ≤ step_limit
+
+-- the plan is valid, and the report tells of it
+pub record IsEvaluation (d p q report : List ℕ) : Type 0 where
+  pub task : Task
+  pub plan : Plan
+  pub texts : AreOfPlan d p q task plan
+  pub valid : Valid task plan
+  pub told : report ≡ evaluated_lines task plan
+
+-- the plan is not valid, and the ending says its first fault
+pub record IsInvalidPlan (d p q : List ℕ) (how : Ending) : Type 0 where
+  pub task : Task
+  pub plan : Plan
+  pub texts : AreOfPlan d p q task plan
+  pub fault : Fault
+  pub first : first_fault task plan ≡ Some fault
+  pub says : how ≡ Invalid (fault_line fault)
+
+-- the ending says why there is no report: the first refusal of the texts, or the first fault of the plan
+abbrev pub RejectsPlan : AllTexts → Ending → Type 0
+RejectsPlan texts how = IsRefusal (given_plan texts) texts how ⊎ IsInvalidPlan texts.domain texts.problem texts.plan how
+
+abbrev pub IsRejectedPlan : AllTexts → Ending → Type 0
+IsRejectedPlan texts how = IsRejectedBy (RejectsPlan texts) how
+
+-- ---- of a plan
+
+-- the lines of its cost, of the count of a preference name, and of all counts
+abbrev pub cost_line : Task → Plan → List ℕ
+cost_line T plan = entry (codes "cost") (shown_quantity (cost_places T) (pos (cost T plan)))
+
+abbrev pub count_line : Task → Plan → Name → List ℕ
+count_line T plan name = entry (codes "violated " ++ name) (decimal (violated T plan name))
+
+abbrev pub count_lines : Task → Plan → List ℕ
+count_lines T plan = flat_map (count_line T plan) (ordered_names T)
+
+-- it is so of the plan of the steps that a run has done
+abbrev pub OfRun : Task → Ran → (Plan → Type 0) → Type 0
+OfRun T ran Says = (plan : Plan) → AreNumbers T plan ran.plan → Says plan
+
+-- ---- of an accepted task and the text of a plan for it
+
+-- the plan of the text is valid, and the report tells of it
+pub record IsReportOf (T : Task) (report : List ℕ) (plan : Plan) : Type 0 where
+  pub valid : Valid T plan
+  pub told : report ≡ evaluated_lines T plan
+
+-- the ending says the first fault of the plan
+pub record IsFaultOf (T : Task) (how : Ending) (plan : Plan) : Type 0 where
+  pub fault : Fault
+  pub first : first_fault T plan ≡ Some fault
+  pub says : how ≡ Invalid (fault_line fault)
+
+-- it is so of the plan that the text spells
+abbrev pub OfText : List ℕ → (Plan → Type 0) → Type 0
+OfText text Says = (plan : Plan) → IsPlanText text plan → Says plan

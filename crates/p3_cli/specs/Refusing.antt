@@ -1,0 +1,129 @@
+-- The texts that a command has read, and the endings that say why nothing is made of them.
+use Rattle.std.specs.Prelude.{ℕ, ◌≡◌, List, [], Some}
+use Rattle.p3_base.specs.declared.refusal.Refusal.{Refusal}
+use Rattle.p3_base.specs.declared.refusal.Role.{Role}
+use Rattle.p3_base.specs.declared.refusal.Role.TheVariants as role
+use Rattle.p3_base.specs.declared.refusal.Side.{Side}
+use Rattle.p3_base.specs.declared.refusal.Side.TheVariants.{Source, Written}
+use Rattle.p3_tree.specs.Grammar.Texts.{Reads}
+use Rattle.p3_tree.specs.PlanTexts.{plan_offence}
+use Rattle.p3_tree.specs.Refusals.First.{AreAccepted, AreReadable, Given, IsFirstOfTexts, IsFirstRefusal, TaskTexts, given_task, halves}
+use Rattle.p3_tree.specs.Refusals.First as first
+use Rattle.p3_tree.specs.Reports.Refusals.{refusal_line}
+use Rattle.p3_tree.specs.declared.task.Task.{Task}
+use Rattle.p3_syntax.specs.declared.error.ReadFail.{ReadFail}
+use Rattle.p3_syntax.specs.declared.error.ReadFail.TheVariants as fail
+use Rattle.p3_cli.specs.declared.ending.Ending.{Ending}
+use Rattle.p3_cli.specs.declared.ending.Ending.TheVariants.{Done, Refused, Invalid, TooLong, ReadFailed, WriteFailed, OutOfMemory, Usage}
+use Rattle.p3_cli.specs.declared.texts.Texts.{Texts}
+
+-- ---- what is read
+
+-- the texts that were read, by what they are; one that was not read is empty
+pub record AllTexts : Type 0 where
+  pub domain : List ℕ
+  pub problem : List ℕ
+  pub written_domain : List ℕ
+  pub written_problem : List ℕ
+  pub plan : List ℕ
+
+-- the texts that the code has
+abbrev pub all_texts : Texts → AllTexts
+all_texts texts = record {
+  domain = texts.domain.now;
+  problem = texts.problem.now;
+  written_domain = texts.written_domain.now;
+  written_problem = texts.written_problem.now;
+  plan = texts.plan.now;
+}
+
+-- the text of the file that a role names
+abbrev pub text_of : Role → AllTexts → List ℕ
+text_of role.Domain texts = texts.domain
+text_of role.Problem texts = texts.problem
+text_of role.WrittenDomain texts = texts.written_domain
+text_of role.WrittenProblem texts = texts.written_problem
+text_of role.Plan texts = texts.plan
+
+abbrev pub domain_of : Side → AllTexts → List ℕ
+domain_of Source texts = texts.domain
+domain_of Written texts = texts.written_domain
+
+abbrev pub problem_of : Side → AllTexts → List ℕ
+problem_of Source texts = texts.problem
+problem_of Written texts = texts.written_problem
+
+-- the texts of the task of a side
+abbrev pub task_texts : Side → AllTexts → TaskTexts
+task_texts side texts = record { side = side; domain = domain_of side texts; problem = problem_of side texts }
+
+-- a task that is read alone
+abbrev pub only_task : List ℕ → List ℕ → AllTexts
+only_task d p = record { domain = d; problem = p; written_domain = []; written_problem = []; plan = [] }
+
+-- a task with a plan for it
+abbrev pub with_plan : List ℕ → List ℕ → List ℕ → AllTexts
+with_plan d p q = record { domain = d; problem = p; written_domain = []; written_problem = []; plan = q }
+
+-- nothing is refused of the texts by themselves, and they are those of the task
+pub record IsSpelled (texts : TaskTexts) (task : Task) : Type 0 where
+  pub readable : AreReadable (halves texts)
+  pub reads : Reads texts.domain texts.problem task
+
+-- they are short enough, and nothing is refused of them
+abbrev pub AreAcceptedFor : Side → AllTexts → Task → Type 0
+AreAcceptedFor side texts task = AreAccepted side (domain_of side texts) (problem_of side texts) task
+
+-- ---- what is refused
+
+-- the first refusal that the halves of a side show by themselves
+abbrev pub IsOfHalves : Side → AllTexts → Refusal → Type 0
+IsOfHalves side texts refusal = IsFirstOfTexts (halves (task_texts side texts)) refusal
+
+-- the refusal of the task that they spell
+abbrev pub IsOfTask : Side → AllTexts → Refusal → Type 0
+IsOfTask side texts refusal = first.IsRefusedTask (task_texts side texts) refusal
+
+-- the first offence of the plan's text
+abbrev pub IsOfPlan : AllTexts → Refusal → Type 0
+IsOfPlan texts refusal = plan_offence texts.plan ≡ Some refusal
+
+-- ---- what is said of it
+
+-- the ending that says a refusal of a text
+abbrev pub refused_in : List ℕ → Refusal → Ending
+refused_in text refusal = Refused (refusal_line text refusal)
+
+-- the ending says a refusal that is shown
+pub record Says (texts : AllTexts) (Shows : Refusal → Type 0) (how : Ending) : Type 0 where
+  pub refusal : Refusal
+  pub shows : Shows refusal
+  pub says : how ≡ refused_in (text_of refusal.pos.role texts) refusal
+
+-- an ending where nothing is made: what is read is refused or not valid, and so it is said; or memory is wanting
+abbrev pub IsRejectedBy : (Ending → Type 0) → Ending → Type 0
+IsRejectedBy Tells OutOfMemory = Unit {0}
+IsRejectedBy Tells (Refused line) = Tells (Refused line)
+IsRejectedBy Tells (Invalid line) = Tells (Invalid line)
+IsRejectedBy Tells (Done report) = ⊥
+IsRejectedBy Tells (TooLong role) = ⊥
+IsRejectedBy Tells (ReadFailed role) = ⊥
+IsRejectedBy Tells (WriteFailed role) = ⊥
+IsRejectedBy Tells Usage = ⊥
+
+-- the ending says a refusal that is shown, or memory is wanting
+abbrev pub IsRefusedFor : AllTexts → (Refusal → Type 0) → Ending → Type 0
+IsRefusedFor texts Shows how = IsRejectedBy (Says texts Shows) how
+
+-- how it ends where a half is not read
+abbrev pub EndsAs : AllTexts → ReadFail → Ending → Type 0
+EndsAs texts (fail.Refused refusal) how = IsRejectedBy (λ end. end ≡ refused_in (text_of refusal.pos.role texts) refusal) how
+EndsAs texts fail.NoMemory how = how ≡ OutOfMemory
+
+-- the ending says the first refusal of what is given
+abbrev pub IsRefusal : Given → AllTexts → Ending → Type 0
+IsRefusal given texts how = Says texts (IsFirstRefusal given) how
+
+-- of a task that is read alone: the ending says its first refusal, or memory is wanting
+abbrev pub IsRefusedTask : AllTexts → Ending → Type 0
+IsRefusedTask texts how = IsRejectedBy (IsRefusal (given_task Source texts.domain texts.problem) texts) how

@@ -1,0 +1,86 @@
+//! What `evaluate` makes of the texts of a task and of a plan for it.
+
+ghost use Rattle.std.specs.Prelude.{◌≡◌, ◌≤◌, IfErr, IfOk, None, OnOk, length};
+ghost use Rattle.p3_base.specs.declared.refusal.Side.TheVariants.{Source};
+ghost use Rattle.p3_tree.specs.PlanTexts.{plan_offence};
+ghost use Rattle.p3_tree.specs.Reports.Plans.{fault_line};
+ghost use Rattle.p3_eval.specs.Judged.{fault_in};
+ghost use Rattle.p3_cli.specs.Evaluation.{
+  IsEvaluation,
+  IsFaultOf,
+  IsRejectedPlan,
+  IsReportOf,
+  OfText,
+  given_plan,
+};
+ghost use Rattle.p3_cli.specs.Refusing.{
+  AreAcceptedFor,
+  IsRefusal,
+  IsRejectedBy,
+  all_texts,
+};
+ghost use Rattle.p3_cli.specs.declared.ending.Ending.TheVariants.{Invalid};
+
+use crate::Ending;
+use crate::acceptance::{accepted, readable_plan, spelled_task};
+use crate::plan_report::{evaluated_report, fault_text};
+use crate::texts::Texts;
+use p3_base::{List, Side};
+use p3_eval::{PlanFault, Whole};
+use p3_judge::first_fault;
+use std::alloc::Global;
+
+/// Judges the plan that a text spells, for the task that the two other texts spell: the report of a
+/// valid plan.
+pub(crate) fn evaluate(alloc: Global, texts: &Texts<'_>) -> Result<Vec<u8>, Ending>
+    ensures report { IfOk result (λ report.
+        IsEvaluation texts.now.domain.now texts.now.problem.now texts.now.plan.now report.items) }
+    ensures err { IfErr result (IsRejectedPlan (all_texts texts.now)) }
+{
+    let whole = judged_task(alloc, texts)?;
+    judged(alloc, &whole, texts.plan)
+}
+
+/// The task for which a plan is judged, where nothing is refused of it and of the plan's text.
+fn judged_task(alloc: Global, texts: &Texts<'_>) -> Result<Whole, Ending>
+    ensures accepted { IfOk result (λ whole.
+        AreAcceptedFor Source (all_texts texts.now) whole.checked.task) }
+    ensures free { OnOk result (plan_offence texts.now.plan.now ≡ None) }
+    ensures err { IfErr result
+        (IsRejectedBy (IsRefusal (given_plan (all_texts texts.now)) (all_texts texts.now))) }
+{
+    let task = spelled_task(alloc, Side::Source, texts)?;
+    match readable_plan(alloc, texts) {
+        Ok(()) => accepted(alloc, Side::Source, texts, task),
+        Err(ending) => {
+            drop(task);
+            Err(ending)
+        }
+    }
+}
+
+/// The report of the plan of a text for an accepted task, where it is valid.
+fn judged(alloc: Global, whole: &Whole, plan: &[u8]) -> Result<Vec<u8>, Ending>
+    requires short { length plan.now ≤ 16777216 }
+    requires free { plan_offence plan.now ≡ None }
+    ensures report { IfOk result (λ report.
+        OfText plan.now (IsReportOf whole.now.checked.task report.items)) }
+    ensures err { IfErr result
+        (IsRejectedBy (λ how. OfText plan.now (IsFaultOf whole.now.checked.task how))) }
+{
+    let mut run = whole.begin(alloc)?;
+    match first_fault(whole.checked(), &mut run, plan) {
+        None => Ok(evaluated_report(alloc, whole.checked(), &run)?),
+        Some(fault) => Err(invalid(alloc, &fault)),
+    }
+}
+
+/// The ending that says the first fault of a plan.
+fn invalid(alloc: Global, fault: &PlanFault) -> Ending
+    ensures { IsRejectedBy (λ how. how ≡ Invalid (fault_line (fault_in fault.now))) result }
+{
+    match fault_text(alloc, fault) {
+        Ok(line) => Ending::Invalid(List::from(line)),
+        Err(_) => Ending::OutOfMemory,
+    }
+}
