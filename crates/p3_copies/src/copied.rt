@@ -43,8 +43,9 @@ fn first_v(bytes: &[u8]) -> Option<usize>
     None
 }
 
-/// The number that is written so.
-fn number_of(digits: &[u8]) -> Option<u32>
+/// The number that is written so, without superfluous zeros, where it is below 2^32. It takes no
+/// memory.
+pub fn number_of(digits: &[u8]) -> Option<u32>
     ensures some { IfSome result (λ number. decimal number ≡ digits.now) }
     ensures none { IfNone result (IsNoNumber digits.now) }
 {
