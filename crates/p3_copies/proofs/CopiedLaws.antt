@@ -1,9 +1,8 @@
 -- The number between an `s` and a `v` at the front of a name.
-use Rattle.std.proofs.Common.{◌≡◌, ◌∙◌, ◌≢◌, ℕ, zero, suc, ◌+◌, ◌*◌, ◌-◌, ◌<◌, ◌≤◌, ◌^◌, Bool, true, false, cond, List, [], ◌∷◌, ◌++◌, length, take, drop, get_or, refl, sym, ap, subst, arith, rules, Option, Some, None, Result, Ok, Err, append_assoc}
-use Rattle.std.specs.Prelude.{◌==◌, codes, find, IfSome, IfNone}
+use Rattle.std.proofs.Common.{◌≡◌, ◌∙◌, ◌≢◌, ℕ, zero, suc, ◌+◌, ◌*◌, ◌-◌, ◌<◌, ◌^◌, Bool, true, false, List, [], ◌∷◌, ◌++◌, length, take, drop, get_or, refl, sym, ap, subst, arith, rules, Option, Some, None, Result, Ok, Err, append_assoc}
+use Rattle.std.specs.Prelude.{◌==◌, codes, IfSome, IfNone}
 use Rattle.std.specs.Result.{result_ok}
 use Rattle.std.specs.Fmt.{decimal}
-use Rattle.std.specs.List.{range_with_len}
 use Rattle.std.specs.Str.{all_ascii_digits, IsUtf8}
 use Rattle.std.specs.Str.Parse.{ParsesUnsigned}
 use Rattle.std.proofs.lemmas.Bool.{and_parts}
@@ -16,8 +15,8 @@ use Rattle.std.proofs.lemmas.Str.{IsUtf8-from_ascii}
 use Rattle.std.proofs.lemmas.Str.Parse.{IsNumeralModel, numerals_by_fold, not_in_digits, parse_plain}
 use Rattle.p3_base.specs.Copies.{copy_prefix, copy_name, is_copy_of}
 use Rattle.p3_base.specs.Words.{Name}
-use Rattle.p3_base.proofs.CopyLemmas.{begins, begins_with, copy_of_own, copy_of_only}
-use Rattle.p3_copies.specs.Copied.{IsFirstV, IsNoCopy, IsNoNumber, IsNotNumbered, is_numbered, is_padded}
+use Rattle.p3_base.proofs.CopyLemmas.{begins, begins_with, copy_of_own}
+use Rattle.p3_copies.specs.Copied.{IsFirstV, IsNoNumber, IsNotNumbered, is_numbered, is_padded}
 
 -- ---- numbers as words of digits
 

@@ -1,8 +1,8 @@
 -- The steps as which actions count, by their names.
-use Rattle.std.proofs.Common.{◌≡◌, ◌∙◌, ℕ, zero, suc, ◌+◌, ◌<◌, ◌≤◌, ◌^◌, Bool, true, false, cond, length, drop, refl, sym, ap, arith, Option, Some, None}
+use Rattle.std.proofs.Common.{◌≡◌, ◌∙◌, ℕ, zero, suc, ◌+◌, ◌<◌, ◌≤◌, ◌^◌, Bool, true, false, cond, length, drop, refl, sym, ap, arith, Some, None}
 use Rattle.std.specs.Prelude.{find}
 use Rattle.std.specs.List.{range_with_len}
-use Rattle.p3_base.specs.Copies.{copy_prefix, copy_name, is_copy_of}
+use Rattle.p3_base.specs.Copies.{copy_prefix, is_copy_of}
 use Rattle.p3_base.specs.Words.{Name}
 use Rattle.p3_base.proofs.CopyLemmas.{copy_of_only}
 use Rattle.p3_copies.specs.Copied.{IsNoCopy}

@@ -2,10 +2,10 @@
 use Rattle.std.proofs.Common.{ℕ, List, refl, [], ◌∷◌, map, arith}
 use Rattle.std.specs.List.{All}
 use Rattle.std.proofs.lemmas.List.Elements.{All-cons}
-use Rattle.p3_formula.specs.Conditions.{HasAtomsBelow, IsReady, IsWithinLimits, cost_limit, greatest_width}
+use Rattle.p3_formula.specs.Conditions.{HasAtomsBelow, IsReady, IsWithinLimits}
 use Rattle.p3_formula.specs.GroundPlans.{GroundValid}
 use Rattle.p3_formula.specs.Tidy.{look}
-use Rattle.p3_formula.specs.Weighted.{AreNamedBelow, HasNameBelow, weight_of, weighted_cost, width_of}
+use Rattle.p3_formula.specs.Weighted.{AreNamedBelow, HasNameBelow}
 use Rattle.p3_formula.specs.declared.modal.GroundPref.{GroundPref}
 use Rattle.p3_formula.specs.declared.modal.GroundSoft.{GroundSoft}
 use Rattle.p3_formula.specs.declared.task.GroundStep.{GroundStep}

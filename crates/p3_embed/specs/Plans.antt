@@ -7,7 +7,7 @@ use Rattle.p3_formula.specs.GroundPlans.{GroundPlan}
 use Rattle.p3_formula.specs.declared.target.Target.{Target}
 use Rattle.p3_formula.specs.declared.task.GroundTask.{GroundTask}
 use Rattle.p3_ground.specs.PlansByNumber.{AreNumbers, are_bare, names_of}
-use Rattle.p3_eval.specs.Judged.{fault_in}
+use Rattle.p3_eval.specs.Judged.{HasItsStep, fault_in}
 use Rattle.p3_embed.specs.Embeds.{IsEmbedded}
 use Rattle.p3_embed.specs.declared.error.EmbedFail.{EmbedFail}
 use Rattle.p3_embed.specs.declared.error.EmbedFail.TheVariants.{Invalid, NoMemory}
@@ -19,7 +19,7 @@ pub record IsEmbeddedPlan (T : Task) (G : GroundTask) (X : Target) (plan q : Pla
   pub bare : are_bare q ≡ true
   pub embedded : IsEmbedded G X numbers (names_of q)
 
--- the plan is not valid, and this is its first fault
+-- the plan is not valid, and this is its first fault, with the step that it has
 abbrev pub IsFailOf : Task → Plan → EmbedFail → Type 0
-IsFailOf T plan (Invalid fault) = first_fault T plan ≡ Some (fault_in fault)
+IsFailOf T plan (Invalid fault) = (first_fault T plan ≡ Some (fault_in fault)) × HasItsStep fault
 IsFailOf T plan NoMemory = Unit {0}

@@ -1,6 +1,6 @@
 //! Plans of tasks, embedded in targets.
 
-ghost use Rattle.std.specs.Prelude.{◌≡◌, ◌≤◌, None, length, option_map, pos, true, IfOk, IfErr, OnOk};
+ghost use Rattle.std.specs.Prelude.{◌≡◌, ◌≤◌, None, length, option_map, pos, true, IfOk, IfErr, IfSome, OnOk};
 ghost use Rattle.std.specs.List.{All};
 ghost use Rattle.p3_tree.specs.Limits.{step_count};
 ghost use Rattle.p3_tree.specs.StepNumbers.{IsOwn};
@@ -8,7 +8,7 @@ ghost use Rattle.p3_tree.specs.Validity.{first_fault};
 ghost use Rattle.p3_formula.specs.Targets.{Compiled, target_cost};
 ghost use Rattle.p3_ground.specs.PlansByNumber.{AreNumbers, are_bare, names_of};
 ghost use Rattle.p3_run.specs.Runs.{most_steps};
-ghost use Rattle.p3_eval.specs.Judged.{fault_in};
+ghost use Rattle.p3_eval.specs.Judged.{HasItsStep, fault_in};
 ghost use Rattle.p3_embed.specs.Plans.{IsEmbeddedPlan, IsFailOf};
 
 use crate::EmbedFail;
@@ -71,8 +71,9 @@ pub fn embed(
 /// The first fault of the plan, if it has one.
 fn first_fault(alloc: Global, task: &Whole, plan: &[Step]) -> Result<Option<PlanFault>, NoMemory>
     requires { length plan.now ≤ most_steps }
-    ensures { IfOk result (λ found.
+    ensures told { IfOk result (λ found.
         first_fault task.now.checked.task plan.now ≡ option_map fault_in found) }
+    ensures placed { IfOk result (λ found. IfSome found HasItsStep) }
 {
     let mut run = task.begin(alloc)?;
     Ok(run.judge_plan(task.checked(), plan))

@@ -33,7 +33,7 @@ module _ (T U : Task) (plan : Plan) where
   pub not_both : (lifted : Lifted) (fail : LiftFail) → IsLifted T U plan lifted → IsLiftFail T U plan fail → fail ≡ NoMemory
   not_both lifted NotPlain one is = clash one.of.plain is
   not_both lifted (Invalid told) one is = absurd (no_fault U plan told one.of.valid is.1)
-  not_both lifted (Mismatch (Fails told)) one is = absurd (no_fault T lifted.plan told one.valid (ap (first_fault T) one.plan ∙ is.1))
+  not_both lifted (Mismatch (Fails told)) one is = absurd (no_fault T lifted.plan told one.valid (ap (first_fault T) one.plan ∙ is.1.0, is.1.1))
   not_both lifted (Mismatch (Numbers cost loss)) one is = absurd (is.1.apart (is.1.cost ∙ sym one.cost ∙ one.loss ∙ ap (loss_above T) one.plan ∙ sym is.1.loss))
   not_both lifted NoMemory one is = refl
 
@@ -48,8 +48,8 @@ module _ (T U : Task) (plan : Plan) where
   -- what is told is what the tasks and the plan say
   is_told : (fail : LiftFail) → IsLiftFail T U plan fail → fail ≢ NoMemory → told_by fail ≡ told_of (is_plain U) (first_fault U plan) (first_fault T (lift T plan))
   is_told NotPlain is some = ap (λ b. told_of b (first_fault U plan) (first_fault T (lift T plan))) (sym is)
-  is_told (Invalid fault) is some = λ i. told_of (sym is.0 i) (sym is.1 i) (first_fault T (lift T plan))
-  is_told (Mismatch (Fails fault)) is some = λ i. told_of (sym is.0.plain i) (sym ((valid_where_no_fault U plan).0 is.0.valid) i) (sym is.1 i)
+  is_told (Invalid fault) is some = λ i. told_of (sym is.0 i) (sym is.1.0 i) (first_fault T (lift T plan))
+  is_told (Mismatch (Fails fault)) is some = λ i. told_of (sym is.0.plain i) (sym ((valid_where_no_fault U plan).0 is.0.valid) i) (sym is.1.0 i)
   is_told (Mismatch (Numbers cost loss)) is some =
       (λ i. told.OtherLoss (is.1.cost i) (is.1.loss i))
       ∙ (λ i. told_of (sym is.0.plain i) (sym ((valid_where_no_fault U plan).0 is.0.valid) i) (sym ((valid_where_no_fault T (lift T plan)).0 is.1.valid) i))

@@ -15,7 +15,7 @@ use Rattle.p3_lift.specs.declared.answers.LiftFail.TheVariants.{Mismatch}
 
 -- a valid plan has no first fault
 pub no_fault : (T : Task) (plan : Plan) (told : PlanFault) → Valid T plan → IsFaultOf T plan told → ⊥
-no_fault T plan told valid is = let no : None ≡ Some (fault_in told) = sym ((valid_where_no_fault T plan).0 valid) ∙ is in cc
+no_fault T plan told valid is = let no : None ≡ Some (fault_in told) = sym ((valid_where_no_fault T plan).0 valid) ∙ is.0 in cc
 
 module _ (T U : Task) (faithful : Faithful T U) (plan : Plan) where
   sound_differ : (differ : Differ) → IsSound T U plan → IsDiffer T U plan differ → ⊥

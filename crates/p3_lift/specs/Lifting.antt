@@ -5,7 +5,7 @@ use Rattle.p3_tree.specs.Metrics.{base_loss, loss, value}
 use Rattle.p3_tree.specs.Plans.{Plan}
 use Rattle.p3_tree.specs.Validity.{Valid, first_fault}
 use Rattle.p3_tree.specs.declared.task.Task.{Task}
-use Rattle.p3_eval.specs.Judged.{fault_in}
+use Rattle.p3_eval.specs.Judged.{HasItsStep, fault_in}
 use Rattle.p3_eval.specs.declared.fault.PlanFault.{PlanFault}
 use Rattle.p3_lift.specs.declared.answers.Differ.{Differ}
 use Rattle.p3_lift.specs.declared.answers.Differ.TheVariants.{Fault, Numbers}
@@ -37,9 +37,9 @@ pub record IsLifted (T U : Task) (written : Plan) (lifted : Lifted) : Type 0 whe
 
 -- ---- or it is not
 
--- it is the first fault of the plan
+-- it is the first fault of the plan, with the step that it has
 abbrev pub IsFaultOf : Task → Plan → PlanFault → Type 0
-IsFaultOf T plan told = first_fault T plan ≡ Some (fault_in told)
+IsFaultOf T plan told = (first_fault T plan ≡ Some (fault_in told)) × HasItsStep told
 
 -- the lifted plan is valid, and its loss above the base is not what the plan costs
 pub record AreApart (T U : Task) (written : Plan) (spent lost : ℤ) : Type 0 where

@@ -17,7 +17,7 @@ pub numbers_of-requires-clause-own : goal.numbers_of-requires-clause-own
 numbers_of-requires-clause-own c =
     subst (λ (checked : Checked). All (IsOwn checked.task) c.items-steps.result.now) (sym c.checked.ensures.checked)
     (steps_are_own c.args.task.now.checked.task c.args.task.now.ground_task c.args.task.now.weights (belong_together c.args.task.now) c.items-steps.result.now
-    (c.in_ok-fault.ensures ∙ ap (option_map fault_in) c.in_default.is))
+    (c.in_ok-fault.ensures.told ∙ ap (option_map fault_in) c.in_default.is))
 
 pub embed_numbers-requires : goal.embed_numbers-requires
 embed_numbers-requires c = record {
@@ -26,6 +26,6 @@ embed_numbers-requires c = record {
   valid = subst (λ (G : GroundTask). GroundValid G c.as_slice.result.now) (sym c.ground_task.ensures)
       (subst (GroundValid c.args.task.now.ground_task) (sym c.as_slice.ensures.value)
       (numbers_are_valid c.args.task.now.checked.task c.args.task.now.ground_task c.args.task.now.weights (belong_together c.args.task.now) c.items-steps.result.now
-      (c.in_ok-fault.ensures ∙ ap (option_map fault_in) c.in_default.is) c.in_ok-numbers.numbers.items
+      (c.in_ok-fault.ensures.told ∙ ap (option_map fault_in) c.in_default.is) c.in_ok-numbers.numbers.items
       (subst (λ (checked : Checked). AreNumbers checked.task c.items-steps.result.now c.in_ok-numbers.numbers.items) c.checked.ensures.checked c.in_ok-numbers.ensures)));
 }
