@@ -1,5 +1,5 @@
 -- The laws of the layers put together: the task of a compiled target is a faithful translation, and so is what its texts are read as.
-use Rattle.std.proofs.Common.{◌≡◌, ◌∙◌, ℕ, ◌+◌, refl, sym, ap, subst, true, List, [], ◌∷◌, map, length, arith, pos, ◌+ℤ◌, ◌-ℤ◌}
+use Rattle.std.proofs.Common.{◌≡◌, ◌∙◌, ℕ, ◌+◌, ◌&&◌, Bool, false, refl, sym, ap, subst, true, List, [], ◌∷◌, map, length, arith, pos, ◌+ℤ◌, ◌-ℤ◌}
 use Rattle.std.specs.Prelude.{ℤ}
 use Rattle.std.proofs.lemmas.Int.{ints}
 use Rattle.std.proofs.lemmas.List.{length-map}
@@ -8,6 +8,7 @@ use Rattle.p3_tree.specs.Constraints.{instances}
 use Rattle.p3_tree.specs.Erased.{erased}
 use Rattle.p3_tree.specs.Faithful.{Faithful, IsSound, HasOneSource, extra}
 use Rattle.p3_tree.specs.Lifting.{lift}
+use Rattle.p3_tree.specs.Names.{Name, is_empty}
 use Rattle.p3_tree.specs.Metrics.{value, loss, loss_at, base_loss, violated}
 use Rattle.p3_tree.specs.Offences.{WellFormed}
 use Rattle.p3_tree.specs.Plans.{Plan, steps_fit}
@@ -17,7 +18,7 @@ use Rattle.p3_tree.specs.declared.task.Task.{Task}
 use Rattle.p3_tree.proofs.OffsetLemmas.{faithful_offset_free}
 use Rattle.p3_tree.proofs.StepNumberLaws.{steps_have_numbers}
 use Rattle.p3_formula.specs.GroundPlans.{GroundPlan, ground_cost, ground_loss}
-use Rattle.p3_formula.specs.Targets.{TargetPlan, TargetValid, Compiled, IsSoundFor, HasOneOrigin, ground_lift}
+use Rattle.p3_formula.specs.Targets.{TargetPlan, TargetValid, Compiled, IsSoundFor, HasOneOrigin, ground_lift, target_cost}
 use Rattle.p3_formula.specs.declared.target.Target.{Target}
 use Rattle.p3_formula.specs.declared.target.Weights.{Weights}
 use Rattle.p3_formula.specs.declared.task.GroundTask.{GroundTask}
@@ -35,13 +36,29 @@ use Rattle.p3_writer.specs.TaskOf.{task_of}
 use Rattle.p3_writer.specs.Texts.{IsDomainTextOf, IsProblemTextOf}
 use Rattle.p3_writer.specs.Written.{IsWritten, bare}
 use Rattle.p3_writer.proofs.WrittenShape.{is_written}
-use Rattle.p3_cli.specs.WrittenText.{HasFaithfulText}
+use Rattle.p3_embed.specs.Plans.{IsEmbeddedPlan}
+use Rattle.p3_cli.specs.Embedding.{IsSource}
+use Rattle.p3_cli.specs.WrittenText.{HasFaithfulText, HasText}
 
 -- ---- plans of bare steps
 
 bare_named : (names : TargetPlan) → names_of (map bare names) ≡ names
 bare_named [] = refl
 bare_named (name ∷ names) = ap (λ others. name ∷ others) (bare_named names)
+
+no_args : (args : List Name) → is_empty args ≡ true → [] ≡ args
+no_args [] e = refl
+no_args (arg ∷ args) e = absurd (cc)
+
+both_parts : (first second : Bool) → (first && second) ≡ true → (first ≡ true) × (second ≡ true)
+both_parts true second e = (refl, e)
+both_parts false second e = absurd (cc)
+
+bare_again : (plan : Plan) → are_bare plan ≡ true → map bare (names_of plan) ≡ plan
+bare_again [] e = refl
+bare_again (step ∷ plan) e =
+    let both = both_parts (is_empty step.args) (are_bare plan) e in
+    λ i. record { action = step.action; args = no_args step.args both.0 i } ∷ bare_again plan both.1 i
 
 bare_bare : (names : TargetPlan) → are_bare (map bare names) ≡ true
 bare_bare [] = refl
@@ -131,6 +148,37 @@ module _ (T : Task) (G : GroundTask) (w : Weights) (X : Target) (well : WellForm
       let (numbers, are) = has_numbers T K p (valid_fits T p valid) in
       one_source_by p numbers are (compiled.one_to_one numbers (sym (valid_alike T stands.atoms G S K p numbers are) ∙ valid))
 
+  -- ---- a plan that is embedded
+
+  module _ (p q : Plan) (is : IsEmbeddedPlan T G X p q) where
+    abbrev names_in_order : TargetPlan
+    names_in_order = names_of q
+
+    abbrev origin : HasOneOrigin G X is.numbers
+    origin = record { origin = names_in_order; valid = is.embedded.valid; lifts = is.embedded.lifts; only = is.embedded.only }
+
+    spelled : map bare names_in_order ≡ q
+    spelled = bare_again q is.bare
+
+    its_numbers : ground_lift G (names_of (map bare names_in_order)) ≡ is.numbers
+    its_numbers = ap (ground_lift G) (bare_named names_in_order) ∙ is.embedded.lifts
+
+    its_lift : lift T (map bare names_in_order) ≡ p
+    its_lift =
+        same_plan T (lift T (map bare names_in_order)) p is.numbers
+        (subst (AreNumbers T (lift T (map bare names_in_order))) its_numbers (lift_alike T G S.step_count (map bare names_in_order) (bare_bare names_in_order))) is.are
+
+    -- it is the one source of the plan
+    pub is_source : IsSource T (task_of X) p q
+    is_source = record {
+      valid = subst (Valid (task_of X)) spelled (written.valid names_in_order ∙ is.embedded.valid);
+      lifts = subst (λ source. lift T source ≡ p) spelled its_lift;
+      only = λ other valid lifts. only_source p is.numbers is.are origin other valid lifts ∙ spelled;
+    }
+
+    pub source_cost : value (task_of X) q ≡ pos (target_cost X names_in_order)
+    source_cost = ap (value (task_of X)) (sym spelled) ∙ written.value names_in_order
+
   pub compiled_faithful : Faithful T (task_of X)
   compiled_faithful = record {
     well_formed = written.well_formed;
@@ -144,9 +192,8 @@ module _ (T : Task) (G : GroundTask) (w : Weights) (X : Target) (well : WellForm
 
 -- ---- texts
 
--- offsets have no meaning
-pub texts_faithful : (d p : List ℕ) (T U : Task) → Faithful T U → IsDomainTextOf d U.domain → IsProblemTextOf p U.problem → HasFaithfulText d p T
-texts_faithful d p T U faithful domain problem =
+pub text_of_task : (d p : List ℕ) (U : Task) → IsDomainTextOf d U.domain → IsProblemTextOf p U.problem → HasText d p U
+text_of_task d p U domain problem =
     let read : Task = record { domain = domain.read; problem = problem.read } in
     let same : erased read ≡ erased U = λ i. record { domain = domain.same i; problem = problem.same i } in (
       read,
@@ -157,5 +204,13 @@ texts_faithful d p T U faithful domain problem =
         problem_balanced = problem.balanced;
         texts = record { domain = domain.is_text; problem = problem.is_text };
       },
-      (faithful_offset_free T read).0 (subst (Faithful (erased T)) (sym same) ((faithful_offset_free T U).1 faithful)),
+      same,
     )
+
+-- offsets have no meaning
+pub faithful_read : (T U read : Task) → erased read ≡ erased U → Faithful T U → Faithful T read
+faithful_read T U read same faithful = (faithful_offset_free T read).0 (subst (Faithful (erased T)) (sym same) ((faithful_offset_free T U).1 faithful))
+
+pub texts_faithful : (d p : List ℕ) (T U : Task) → Faithful T U → IsDomainTextOf d U.domain → IsProblemTextOf p U.problem → HasFaithfulText d p T
+texts_faithful d p T U faithful domain problem =
+    let text = text_of_task d p U domain problem in (text.0, text.1, faithful_read T U text.0 text.2 faithful)

@@ -1,15 +1,19 @@
 -- What the names of a command hold, before and after it.
-use Rattle.std.proofs.Common.{◌≡◌, ◌∙◌, ◌≢◌, ℕ, Bool, true, false, cond, List, ◌∷◌, length, Option, Some, None, sym, ap, subst, refl}
-use Rattle.std.specs.Prelude.{nat_lt, IsSomeAnd}
+use Rattle.std.proofs.Common.{◌≡◌, ◌∙◌, ℕ, Bool, true, false, not, ◌&&◌, ◌||◌, cond, List, [], ◌∷◌, length, map, Option, Some, None, ap, refl}
+use Rattle.std.specs.Prelude.{nat_lt}
+use Rattle.std.specs.Option.{option_map}
 use Rattle.std.specs.Cmp.Lexicographic.{nat_list_cmp_total}
 use Rattle.std.specs.FinMap.{get, insert, get-insert}
 use Rattle.std.proofs.lemmas.Map.Text.{is_eq-slice_cmp}
 use Rattle.std.specs.Str.{bytes_eq}
 use Rattle.std.proofs.lemmas.Slice.Eq.{bytes_eq-Decides}
 use Rattle.p3_base.specs.Outside.{Store, bytes_under}
-use Rattle.p3_tree.specs.Commands.{Input}
-use Rattle.p3_cli.specs.Meaning.{HoldBoth, HoldAll}
-use Rattle.p3_cli.specs.Store.{Reading, Texts, TooLong, Absent, with_text, reading, reading_on}
+use Rattle.p3_base.specs.Words.{are_different, has_name}
+use Rattle.p3_tree.specs.Commands.{Input, Output}
+use Rattle.p3_cli.specs.Meaning.{AllHold}
+use Rattle.p3_cli.specs.Product.{texts_in}
+use Rattle.p3_cli.specs.Store.{Reading, Texts, TooLong, Absent, with_text, reading, reading_on, holding_all}
+use Rattle.p3_cli.proofs.RunLemmas.{AreOthers, same_holding_all}
 
 -- ---- what was read
 
@@ -27,39 +31,58 @@ first_read input (Some found) rest text texts is =
     by (TooLong role) e = absurd (cc)
     by Absent e = absurd (cc)
 
--- the first input held the first text
-pub first_held : (store : Store) (input : Input) (others : List Input) (text : List ℕ) (texts : List (List ℕ)) → reading store (input ∷ others) ≡ Texts (text ∷ texts) → (bytes_under store input.name ≡ Some text) × (reading store others ≡ Texts texts)
-first_held store input others text texts is = first_read input (bytes_under store input.name) (reading store others) text texts is
+-- an input that is read gives a text
+some_text : (input : Input) (held : Option (List ℕ)) (rest : Reading) → reading_on input held rest ≡ Texts [] → ⊥
+some_text input None rest is = cc
+some_text input (Some found) rest is =
+    elim (nat_lt input.limit (length found)) as (λ long. cond long (TooLong input.role) (with_text found rest) ≡ Texts [] → ⊥) [
+      | true ↦ λ e. cc
+      | false ↦ λ e. by rest e
+    ] is
+  where
+    by : (rest : Reading) → with_text found rest ≡ Texts [] → ⊥
+    by (Texts others) e = cc
+    by (TooLong role) e = cc
+    by Absent e = cc
+
+-- the inputs held the texts that were read
+pub all_held : (store : Store) (inputs : List Input) (texts : List (List ℕ)) → reading store inputs ≡ Texts texts → AllHold store (map (λ (input : Input). input.name) inputs) texts
+all_held store [] [] is = tt
+all_held store [] (text ∷ texts) is = absurd (cc)
+all_held store (input ∷ inputs) [] is = absurd (some_text input (bytes_under store input.name) (reading store inputs) is)
+all_held store (input ∷ inputs) (text ∷ texts) is =
+    let both = first_read input (bytes_under store input.name) (reading store inputs) text texts is in (both.0, all_held store inputs texts both.1)
 
 -- ---- what was written
 
-put_under : (store : Store) (key value name : List ℕ) → bytes_under (insert store key value) name ≡ cond (bytes_eq name key) (Some value) (bytes_under store name)
-put_under store key value name = get-insert nat_list_cmp_total store key value name ∙ ap (λ same. cond same (Some value) (get store name)) (is_eq-slice_cmp name key)
+put_under : (store : Store) (key value : List ℕ) → bytes_under (insert store key value) key ≡ Some value
+put_under store key value =
+    get-insert nat_list_cmp_total store key value key ∙ ap (λ same. cond same (Some value) (get store key)) (is_eq-slice_cmp key key ∙ (bytes_eq-Decides key key).1 refl)
 
-same_bytes : (name : List ℕ) → bytes_eq name name ≡ true
-same_bytes name = (bytes_eq-Decides name name).1 refl
+no_other : (first : Bool) (rest : Bool) → (first || rest) ≡ false → rest ≡ false
+no_other true rest e = absurd (cc)
+no_other false rest e = e
 
-other_bytes : (test : Bool) → (test ≡ true → ⊥) → test ≡ false
-other_bytes true apart = absurd (apart refl)
-other_bytes false apart = refl
-
--- two names that were written hold their texts
-pub both_written : (store : Store) (first second one two : List ℕ) → first ≢ second → (bytes_under (insert (insert store first one) second two) first ≡ Some one) × (bytes_under (insert (insert store first one) second two) second ≡ Some two)
-both_written store first second one two apart = (
-  put_under (insert store first one) second two first
-      ∙ ap (λ same. cond same (Some two) (bytes_under (insert store first one) first)) (other_bytes (bytes_eq first second) (λ e. apart ((bytes_eq-Decides first second).0 e)))
-      ∙ put_under store first one first ∙ ap (λ same. cond same (Some one) (bytes_under store first)) (same_bytes first),
-  put_under (insert store first one) second two second ∙ ap (λ same. cond same (Some two) (bytes_under (insert store first one) second)) (same_bytes second),
+-- names without this one are others
+are_others : (name : List ℕ) (writings : List (Output × List ℕ)) → has_name (map (λ (output : Output). output.name) (map (λ written. written.0) writings)) name ≡ false → AreOthers name writings
+are_others name [] e = tt
+are_others name (written ∷ writings) e = (
+  λ same. let found : bytes_eq written.0.name name ≡ true = (bytes_eq-Decides written.0.name name).1 same in cc,
+  are_others name writings (no_other (bytes_eq written.0.name name) (has_name (map (λ (output : Output). output.name) (map (λ written. written.0) writings)) name) e),
 )
 
-pub hold_both : (store : Store) (first second one two : List ℕ) (Says : List ℕ → List ℕ → Type 0) → bytes_under store first ≡ Some one → bytes_under store second ≡ Some two → Says one two
-    → HoldBoth store first second Says
-hold_both store first second one two Says is also says =
-    subst (λ held. IsSomeAnd held (λ one. IsSomeAnd (bytes_under store second) (λ two. Says one two))) (sym is)
-    (subst (λ held. IsSomeAnd held (λ two. Says one two)) (sym also) says)
+and_parts : (first second : Bool) → (not first && second) ≡ true → (first ≡ false) × (second ≡ true)
+and_parts true second e = absurd (cc)
+and_parts false second e = (refl, e)
 
-pub hold_all : (store : Store) (first second third one two three : List ℕ) (Says : List ℕ → List ℕ → List ℕ → Type 0) → bytes_under store first ≡ Some one → bytes_under store second ≡ Some two
-    → bytes_under store third ≡ Some three → Says one two three → HoldAll store first second third Says
-hold_all store first second third one two three Says is also last says =
-    hold_both store first second one two (λ a b. IsSomeAnd (bytes_under store third) (λ c. Says a b c)) is also
-    (subst (λ held. IsSomeAnd held (λ c. Says one two c)) (sym last) says)
+-- the outputs hold the texts that were written, if no two have the same name
+pub all_written : (writings : List (Output × List ℕ)) (store last : Store) → are_different (map (λ (output : Output). output.name) (map (λ written. written.0) writings)) ≡ true → Some last ≡ holding_all writings (Some store)
+    → AllHold last (map (λ (output : Output). output.name) (map (λ written. written.0) writings)) (texts_in writings)
+all_written [] store last apart is = tt
+all_written (written ∷ writings) store last apart is =
+    let name = written.0.name in
+    let put = insert store name written.1 in
+    let both = and_parts (has_name (map (λ (output : Output). output.name) (map (λ w. w.0) writings)) name) (are_different (map (λ (output : Output). output.name) (map (λ w. w.0) writings))) apart in
+    let stays : Some (bytes_under last name) ≡ Some (bytes_under put name) = ap (option_map (λ s. bytes_under s name)) is ∙ same_holding_all name writings (Some put) (are_others name writings both.0) in
+    let same : bytes_under last name ≡ bytes_under put name = cc in
+    (same ∙ put_under store name written.1, all_written writings put last both.1 is)

@@ -1,6 +1,10 @@
+pub mod EmbeddingLemmas
 pub mod FaithfulLaws
+pub mod GroupLemmas
 pub mod HeldLemmas
 pub mod MeaningLemmas
+pub mod NameLemmas
+pub mod NumberLemmas
 pub mod ProductLemmas
 pub mod PutLemmas
 pub mod QuantityLemmas
@@ -10,4 +14,5 @@ pub mod RunLemmas
 pub mod SpelledLemmas
 pub mod StoreLemmas
 pub mod TranslationLemmas
+pub mod WordLaws
 pub mod WordLemmas

@@ -1,59 +1,112 @@
 -- What a command makes of its texts, and why it makes nothing of them, as what is said of the texts in order.
-use Rattle.std.proofs.Common.{◌≡◌, ◌∙◌, ℕ, List, [], ◌∷◌, Some, None, sym, subst, inl, inr}
-use Rattle.p3_base.specs.declared.refusal.Side.TheVariants.{Source}
-use Rattle.p3_tree.specs.Commands.{Compile, Evaluate}
-use Rattle.p3_tree.specs.PlanTexts.{plan_offence}
+use Rattle.std.proofs.Common.{◌≡◌, ◌∙◌, ◌≤◌, ℕ, List, [], ◌∷◌, None, length, refl, sym, subst, inl, inr}
+use Rattle.p3_base.specs.declared.refusal.Side.TheVariants.{Source, Written}
+use Rattle.p3_tree.specs.Commands.{Compile, Embed, Evaluate, Generate, Lift}
+use Rattle.p3_tree.specs.PlanTexts.{IsPlanText, plan_offence, step_limit}
+use Rattle.p3_tree.specs.Plans.{Plan}
 use Rattle.p3_tree.specs.Refusals.First.{given_task}
-use Rattle.p3_tree.specs.Validity.{first_fault}
+use Rattle.p3_tree.specs.Samples.{sample_domain, sample_plan, sample_problem}
 use Rattle.p3_tree.specs.declared.task.Task.{Task}
-use Rattle.p3_tree.proofs.TextLemmas.{one_task_at_most}
-use Rattle.p3_tree.proofs.ValidityLemmas.{valid_where_no_fault}
+use Rattle.p3_tree.proofs.RefusalLaws.{nothing_is_refused}
 use Rattle.p3_plans.specs.Laws.{HasPlan}
-use Rattle.p3_plans.proofs.PlanLaws.{a_plan_where_no_offence, one_plan_at_most}
-use Rattle.p3_cli.specs.Evaluation.{AreOfPlan, IsEvaluation, IsFaultOf, IsInvalidPlan, IsRejectedPlan, IsReportOf, OfText, RejectsPlan, given_plan}
+use Rattle.p3_plans.proofs.PlanLaws.{a_plan_where_no_offence}
+use Rattle.p3_cli.specs.Embedding.{IsEmbedding}
+use Rattle.p3_cli.specs.Evaluation.{AreOfPlan, IsEvaluation, IsFaultOf, IsRejectedPlan, IsReportOf, OfText, RejectsPlan, given_plan}
+use Rattle.p3_lift.specs.Lifting.{IsLiftFail}
+use Rattle.p3_lift.specs.declared.answers.LiftFail.{LiftFail}
+use Rattle.p3_cli.specs.Lifting.{IsLifting, RejectsLift, TellsFail}
 use Rattle.p3_cli.specs.Product.{Accepts, Produces, Rejects}
-use Rattle.p3_cli.specs.Refusing.{AllTexts, AreAcceptedFor, IsRefusal, IsRefusedTask, IsRejectedBy, only_task, with_plan}
+use Rattle.p3_cli.specs.Refusing.{AllTexts, AreAcceptedFor, IsRefusal, IsRefusedTask, IsRejectedBy, for_lift, only_task, with_plan}
+use Rattle.p3_cli.specs.Sampling.{IsSampling}
+use Rattle.p3_cli.specs.Store.{AreWithin}
+use Rattle.p3_cli.specs.Translation.{HasLayout, IsTranslation}
+use Rattle.p3_cli.specs.WrittenText.{HasPlanLayout}
 use Rattle.p3_cli.specs.declared.ending.Ending.{Ending}
-use Rattle.p3_cli.proofs.RejectionLemmas.{not_refused}
+use Rattle.p3_cli.proofs.RejectionLemmas.{lift_accepted, plan_accepted}
 use Rattle.p3_cli.proofs.SpelledLemmas.{says_more}
 
 -- ---- of a task that is read alone
 
-pub compile_rejects : (a b c d : List ℕ) (read : List (List ℕ)) (texts : AllTexts) → read ≡ texts.domain ∷ texts.problem ∷ [] → texts ≡ only_task texts.domain texts.problem → (how : Ending) → IsRefusedTask texts how
-    → IsRejectedBy (Rejects (Compile a b c d) read) how
-compile_rejects a b c d read texts is only how told =
-    subst (λ found. IsRejectedBy (Rejects (Compile a b c d) found) how) (sym is)
-    (says_more (IsRefusal (given_task Source texts.domain texts.problem) texts) (IsRefusal (given_task Source texts.domain texts.problem) (only_task texts.domain texts.problem))
-    (λ end said. subst (λ all. IsRefusal (given_task Source texts.domain texts.problem) all end) only said) how told)
+module _ (a b od op : List ℕ) (read : List (List ℕ)) (texts : AllTexts) (is : read ≡ texts.domain ∷ texts.problem ∷ []) where
+  pub compile_rejects : texts ≡ only_task texts.domain texts.problem → (how : Ending) → IsRefusedTask texts how → IsRejectedBy (Rejects (Compile a b od op) read) how
+  compile_rejects only how told =
+      subst (λ found. IsRejectedBy (Rejects (Compile a b od op) found) how) (sym is)
+      (says_more (IsRefusal (given_task Source texts.domain texts.problem) texts) (IsRefusal (given_task Source texts.domain texts.problem) (only_task texts.domain texts.problem))
+      (λ end said. subst (λ all. IsRefusal (given_task Source texts.domain texts.problem) all end) only said) how told)
+
+  module _ (first second report : List ℕ) (means : IsTranslation texts.domain texts.problem first second report) where
+    pub compile_produces : HasLayout texts.domain texts.problem first second → Produces (Compile a b od op) read (first ∷ second ∷ []) report
+    compile_produces layout = subst (λ found. Produces (Compile a b od op) found (first ∷ second ∷ []) report) (sym is) (record { means = means; layout = layout })
+
+    pub compile_accepts : Accepts (Compile a b od op) read
+    compile_accepts = subst (Accepts (Compile a b od op)) (sym is) (λ how shown. nothing_is_refused Source texts.domain texts.problem means.task means.accepted shown.refusal shown.shows)
 
 -- ---- of a task with a plan
 
-pub evaluate_rejects : (a b c : List ℕ) (read : List (List ℕ)) (texts : AllTexts) → read ≡ texts.domain ∷ texts.problem ∷ texts.plan ∷ [] → texts ≡ with_plan texts.domain texts.problem texts.plan
-    → (how : Ending) → IsRejectedPlan texts how → IsRejectedBy (Rejects (Evaluate a b c) read) how
-evaluate_rejects a b c read texts is only how told =
-    subst (λ found. IsRejectedBy (Rejects (Evaluate a b c) found) how) (sym is)
-    (says_more (RejectsPlan texts) (RejectsPlan (with_plan texts.domain texts.problem texts.plan)) (λ end said. subst (λ all. RejectsPlan all end) only said) how told)
+-- what is so of the texts of a task and of a plan alone
+with_plan_rejects : (texts : AllTexts) → texts ≡ with_plan texts.domain texts.problem texts.plan → (how : Ending) → IsRejectedPlan texts how → IsRejectedBy (RejectsPlan (with_plan texts.domain texts.problem texts.plan)) how
+with_plan_rejects texts only = says_more (RejectsPlan texts) (RejectsPlan (with_plan texts.domain texts.problem texts.plan)) (λ how said. subst (λ all. RejectsPlan all how) only said)
 
-pub evaluate_produces : (a b c : List ℕ) (read : List (List ℕ)) (texts : AllTexts) (report : List ℕ) → read ≡ texts.domain ∷ texts.problem ∷ texts.plan ∷ [] → IsEvaluation texts.domain texts.problem texts.plan report
-    → Produces (Evaluate a b c) read [] report
-evaluate_produces a b c read texts report is made = subst (λ found. Produces (Evaluate a b c) found [] report) (sym is) made
+module _ (read : List (List ℕ)) (texts : AllTexts) (is : read ≡ texts.domain ∷ texts.problem ∷ texts.plan ∷ []) where
+  module _ (a b c : List ℕ) where
+    pub evaluate_rejects : texts ≡ with_plan texts.domain texts.problem texts.plan → (how : Ending) → IsRejectedPlan texts how → IsRejectedBy (Rejects (Evaluate a b c) read) how
+    evaluate_rejects only how told = subst (λ found. IsRejectedBy (Rejects (Evaluate a b c) found) how) (sym is) (with_plan_rejects texts only how told)
 
--- a valid plan is not one with a fault
-not_invalid : (d p q report : List ℕ) (how : Ending) → IsEvaluation d p q report → IsInvalidPlan d p q how → ⊥
-not_invalid d p q report how made wrong =
-    let one : made.task ≡ wrong.task = one_task_at_most d p made.task wrong.task made.texts.accepted.task.reads wrong.texts.accepted.task.reads in
-    let same : made.plan ≡ wrong.plan = one_plan_at_most q made.plan wrong.plan made.texts.spelled wrong.texts.spelled in
-    let none : first_fault made.task made.plan ≡ None = (valid_where_no_fault made.task made.plan).0 made.valid in
-    let no : None ≡ Some wrong.fault = sym none ∙ (λ i. first_fault (one i) (same i)) ∙ wrong.first in
-    cc
+    module _ (report : List ℕ) (means : IsEvaluation texts.domain texts.problem texts.plan report) where
+      pub evaluate_produces : Produces (Evaluate a b c) read [] report
+      evaluate_produces = subst (λ found. Produces (Evaluate a b c) found [] report) (sym is) (record { means = means; layout = tt })
 
-pub evaluate_accepts : (a b c : List ℕ) (read : List (List ℕ)) (texts : AllTexts) (report : List ℕ) → read ≡ texts.domain ∷ texts.problem ∷ texts.plan ∷ [] → IsEvaluation texts.domain texts.problem texts.plan report
-    → Accepts (Evaluate a b c) read
-evaluate_accepts a b c read texts report is made = subst (Accepts (Evaluate a b c)) (sym is) (λ how rejects. by how rejects)
-  where
-    by : (how : Ending) → RejectsPlan (with_plan texts.domain texts.problem texts.plan) how → ⊥
-    by how (inl refused) = not_refused texts.domain texts.problem texts.plan _ made.task made.plan how made.texts refused
-    by how (inr wrong) = not_invalid texts.domain texts.problem texts.plan report how made wrong
+      pub evaluate_accepts : Accepts (Evaluate a b c) read
+      evaluate_accepts = subst (Accepts (Evaluate a b c)) (sym is) (plan_accepted texts.domain texts.problem texts.plan means.task means.plan means.texts means.valid)
+
+  module _ (a b c od op out : List ℕ) where
+    pub embed_rejects : texts ≡ with_plan texts.domain texts.problem texts.plan → (how : Ending) → IsRejectedPlan texts how → IsRejectedBy (Rejects (Embed a b c od op out) read) how
+    embed_rejects only how told = subst (λ found. IsRejectedBy (Rejects (Embed a b c od op out) found) how) (sym is) (with_plan_rejects texts only how told)
+
+    module _ (first second third report : List ℕ) (means : IsEmbedding texts.domain texts.problem texts.plan first second third report) where
+      pub embed_produces : HasLayout texts.domain texts.problem first second → HasPlanLayout third → Produces (Embed a b c od op out) read (first ∷ second ∷ third ∷ []) report
+      embed_produces layout lines = subst (λ found. Produces (Embed a b c od op out) found (first ∷ second ∷ third ∷ []) report) (sym is) (record { means = means; layout = (layout, lines) })
+
+      pub embed_accepts : Accepts (Embed a b c od op out) read
+      embed_accepts = subst (Accepts (Embed a b c od op out)) (sym is) (plan_accepted texts.domain texts.problem texts.plan means.task means.plan means.texts means.valid)
+
+-- ---- of two tasks and a plan
+
+module _ (a b od op c out : List ℕ) (read : List (List ℕ)) (texts : AllTexts) (is : read ≡ texts.domain ∷ texts.problem ∷ texts.written_domain ∷ texts.written_problem ∷ texts.plan ∷ []) where
+  abbrev the_texts : AllTexts
+  the_texts = for_lift texts.domain texts.problem texts.written_domain texts.written_problem texts.plan
+
+  pub lift_rejects : (how : Ending) → IsRejectedBy (RejectsLift texts) how → IsRejectedBy (Rejects (Lift a b od op c out) read) how
+  lift_rejects how told = subst (λ found. IsRejectedBy (Rejects (Lift a b od op c out) found) how) (sym is) (says_more (RejectsLift texts) (RejectsLift the_texts) (λ end said. said) how told)
+
+  module _ (text report : List ℕ) (means : IsLifting texts.domain texts.problem texts.written_domain texts.written_problem texts.plan text report) where
+    pub lift_produces : HasPlanLayout text → Produces (Lift a b od op c out) read (text ∷ []) report
+    lift_produces lines = subst (λ found. Produces (Lift a b od op c out) found (text ∷ []) report) (sym is) (record { means = means; layout = lines })
+
+    pub lift_accepts : Accepts (Lift a b od op c out) read
+    lift_accepts = subst (Accepts (Lift a b od op c out)) (sym is) (lift_accepted the_texts means.task means.written means.plan means.texts means.lifted means.is)
+
+-- ---- of a sample
+
+-- where no file is read there is no text
+pub nothing_read : (read : List (List ℕ)) → AreWithin [] read → [] ≡ read
+nothing_read [] within = refl
+nothing_read (text ∷ read) within = absurd within
+
+pub sample_rejects : (n : ℕ) (d p q : List ℕ) (texts : AllTexts) → texts ≡ with_plan d p q → d ≡ sample_domain → p ≡ sample_problem n → q ≡ sample_plan n → (how : Ending) → IsRejectedPlan texts how
+    → IsRejectedPlan (with_plan sample_domain (sample_problem n) (sample_plan n)) how
+sample_rejects n d p q texts only domain problem plan how = subst (λ all. IsRejectedPlan all how) (only ∙ (λ i. with_plan (domain i) (problem i) (plan i)))
+
+module _ (n : ℕ) (a b c d p q report : List ℕ) (means : IsSampling n d p q report) where
+  pub generate_produces : Produces (Generate n a b c) [] (d ∷ p ∷ q ∷ []) report
+  generate_produces = record { means = means; layout = tt }
+
+  pub generate_accepts : Accepts (Generate n a b c) []
+  generate_accepts =
+      subst (λ text. (how : Ending) → RejectsPlan (with_plan sample_domain (sample_problem n) text) how → ⊥) means.plan
+      (subst (λ text. (how : Ending) → RejectsPlan (with_plan sample_domain text q) how → ⊥) means.problem
+      (subst (λ text. (how : Ending) → RejectsPlan (with_plan text p q) how → ⊥) means.domain
+      (plan_accepted d p q means.reported.task means.reported.plan means.reported.of means.reported.valid)))
 
 -- ---- of the plan of a text
 
@@ -85,6 +138,30 @@ module _ (texts : AllTexts) (task : Task) (accepted : AreAcceptedFor Source text
 
   pub rejected_plan : (how : Ending) → IsRejectedBy (λ end. OfText texts.plan (IsFaultOf task end)) how → IsRejectedPlan texts how
   rejected_plan = says_more (λ end. OfText texts.plan (IsFaultOf task end)) (RejectsPlan texts) invalid_plan
+
+-- a plan that is read and is not valid
+pub faulty_plan : (texts : AllTexts) (task : Task) → AreAcceptedFor Source texts task → (plan : Plan) → IsPlanText texts.plan plan → length plan ≤ step_limit → (how : Ending) → IsRejectedBy (λ end. IsFaultOf task end plan) how → IsRejectedPlan texts how
+faulty_plan texts task accepted plan spelled few =
+    says_more (λ end. IsFaultOf task end plan) (RejectsPlan texts) (λ how wrong. inr (record {
+      task = task;
+      plan = plan;
+      texts = record { accepted = accepted; spelled = spelled; few = few };
+      fault = wrong.fault;
+      first = wrong.first;
+      says = wrong.says;
+    }))
+
+-- a plan that is read and is not lifted
+pub unlifted_plan : (texts : AllTexts) (T U : Task) (plan : Plan) → AreAcceptedFor Source texts T → AreAcceptedFor Written texts U → IsPlanText texts.plan plan → length plan ≤ step_limit
+    → (why : LiftFail) → IsLiftFail T U plan why → (how : Ending) → IsRejectedBy (TellsFail why) how → IsRejectedBy (RejectsLift texts) how
+unlifted_plan texts T U plan source written spelled few why shows =
+    says_more (TellsFail why) (RejectsLift texts) (λ how told. inr (record {
+      task = T;
+      written = U;
+      plan = plan;
+      of = record { source = source; written = written; spelled = spelled; few = few };
+      unlifted = record { why = why; shows = shows; says = told };
+    }))
 
 pub refused_plan : (texts : AllTexts) (how : Ending) → IsRejectedBy (IsRefusal (given_plan texts) texts) how → IsRejectedPlan texts how
 refused_plan texts = says_more (IsRefusal (given_plan texts) texts) (RejectsPlan texts) (λ how said. inl said)

@@ -1,38 +1,34 @@
 -- There is one reason at most to make nothing of what is read.
-use Rattle.std.proofs.Common.{◌≡◌, ◌∙◌, ℕ, List, [], ◌∷◌, None, sym, ap, inl, inr}
+use Rattle.std.proofs.Common.{◌≡◌, ◌∙◌, ℕ, List, [], ◌∷◌, Some, None, true, false, sym, ap, subst, inl, inr, refl}
 use Rattle.p3_base.specs.declared.refusal.Refusal.{Refusal}
-use Rattle.p3_base.specs.declared.refusal.Side.TheVariants.{Source}
+use Rattle.p3_base.specs.declared.refusal.Side.TheVariants.{Source, Written}
 use Rattle.p3_tree.specs.Commands.{Command, Compile, Lift, Embed, Evaluate, Generate}
+use Rattle.p3_tree.specs.Lifting.{is_plain, lift}
 use Rattle.p3_tree.specs.Plans.{Plan}
 use Rattle.p3_tree.specs.PlanTexts.{plan_offence}
 use Rattle.p3_tree.specs.Refusals.First.{AreAccepted, IsFirstRefusal}
+use Rattle.p3_tree.specs.Samples.{sample_domain, sample_plan, sample_problem}
+use Rattle.p3_tree.specs.Validity.{Fault, Valid, first_fault}
 use Rattle.p3_tree.specs.declared.task.Task.{Task}
 use Rattle.p3_tree.proofs.RefusalLaws.{nothing_is_refused}
-use Rattle.p3_plans.proofs.PlanLaws.{a_plan_where_no_offence}
+use Rattle.p3_tree.proofs.TextLemmas.{one_task_at_most}
+use Rattle.p3_tree.proofs.ValidityLemmas.{valid_where_no_fault}
+use Rattle.p3_plans.proofs.PlanLaws.{a_plan_where_no_offence, one_plan_at_most}
+use Rattle.p3_eval.specs.Judged.{fault_in}
+use Rattle.p3_lift.specs.Lifting.{IsLiftFail, IsLifted, loss_above}
+use Rattle.p3_lift.specs.declared.answers.Differ.TheVariants as differ
+use Rattle.p3_lift.specs.declared.answers.LiftFail.{LiftFail}
+use Rattle.p3_lift.specs.declared.answers.LiftFail.TheVariants as fail
+use Rattle.p3_lift.specs.declared.answers.Lifted.{Lifted}
 use Rattle.p3_cli.specs.Ending.{status_of}
-use Rattle.p3_cli.specs.Evaluation.{AreOfPlan, given_plan}
+use Rattle.p3_cli.specs.Evaluation.{AreOfPlan, IsInvalidPlan, RejectsPlan, given_plan}
+use Rattle.p3_cli.specs.Lifting.{AreOfLift, RejectsLift, TellsFail, given_lift}
 use Rattle.p3_cli.specs.Product.{Rejects}
-use Rattle.p3_cli.specs.Refusing.{IsRefusal, AllTexts, with_plan}
+use Rattle.p3_cli.specs.Refusing.{IsRefusal, AllTexts, for_lift, with_plan}
 use Rattle.p3_cli.specs.Run.{ShownBy}
 use Rattle.p3_cli.specs.Store.{Reading, Texts, TooLong, Absent}
 use Rattle.p3_cli.specs.declared.ending.Ending.{Ending}
 use Rattle.p3_cli.specs.declared.ending.Ending.TheVariants as ending
-
--- of an accepted task and a plan without an offence nothing is refused
-pub nothing_of_plan : (d p q : List ℕ) (T : Task) → AreAccepted Source d p T → plan_offence q ≡ None → (r : Refusal) → IsFirstRefusal (given_plan (with_plan d p q)) r → ⊥
-nothing_of_plan d p q T accepted free r (inl (inl first)) = accepted.readable r (inl first)
-nothing_of_plan d p q T accepted free r (inl (inr (before, inl second))) = accepted.readable r (inr (before, inl second))
-nothing_of_plan d p q T accepted free r (inl (inr (before, inr (also, inl offence)))) = cc
-nothing_of_plan d p q T accepted free r (inl (inr (before, inr (also, inr none)))) = none.1
-nothing_of_plan d p q T accepted free r (inr (readable, of_task)) = nothing_is_refused Source d p T accepted r (inr (accepted.readable, of_task))
-
-module _ (d p q : List ℕ) where
-  free : (task : Task) (plan : Plan) → AreOfPlan d p q task plan → plan_offence q ≡ None
-  free task plan of = (a_plan_where_no_offence q).0 (record { plan = plan; spelled = of.spelled; few = of.few })
-
-  -- a plan is judged only where nothing is refused
-  pub not_refused : {A : Type 0} (texts : AllTexts) (task : Task) (plan : Plan) (how : Ending) → AreOfPlan d p q task plan → IsRefusal (given_plan (with_plan d p q)) texts how → A
-  not_refused texts task plan how of said = absurd (nothing_of_plan d p q task of.accepted (free task plan of) said.refusal said.shows)
 
 refused_status : (how : Ending) (line : List ℕ) → how ≡ ending.Refused line → status_of how ≡ 2
 refused_status how line is = ap status_of is
@@ -40,23 +36,158 @@ refused_status how line is = ap status_of is
 invalid_status : (how : Ending) (line : List ℕ) → how ≡ ending.Invalid line → status_of how ≡ 1
 invalid_status how line is = ap status_of is
 
+-- a valid plan has no fault
+no_fault : {A : Type 0} (T : Task) (plan : Plan) (fault : Fault) → Valid T plan → first_fault T plan ≡ Some fault → A
+no_fault T plan fault valid first = let none : first_fault T plan ≡ None = (valid_where_no_fault T plan).0 valid in absurd (cc)
+
+-- ---- of a task and a plan
+
+-- of an accepted task and a plan without an offence nothing is refused
+nothing_of_plan : (d p q : List ℕ) (T : Task) → AreAccepted Source d p T → plan_offence q ≡ None → (r : Refusal) → IsFirstRefusal (given_plan (with_plan d p q)) r → ⊥
+nothing_of_plan d p q T accepted free r (inl (inl first)) = accepted.readable r (inl first)
+nothing_of_plan d p q T accepted free r (inl (inr (before, inl second))) = accepted.readable r (inr (before, inl second))
+nothing_of_plan d p q T accepted free r (inl (inr (before, inr (also, inl offence)))) = cc
+nothing_of_plan d p q T accepted free r (inl (inr (before, inr (also, inr none)))) = none.1
+nothing_of_plan d p q T accepted free r (inr (readable, of_task)) = nothing_is_refused Source d p T accepted r (inr (accepted.readable, of_task))
+
+module _ (d p q : List ℕ) where
+  module _ (task : Task) (plan : Plan) (of : AreOfPlan d p q task plan) where
+    free : plan_offence q ≡ None
+    free = (a_plan_where_no_offence q).0 (record { plan = plan; spelled = of.spelled; few = of.few })
+
+    -- a plan is judged only where nothing is refused
+    not_refused : {A : Type 0} (how : Ending) → IsRefusal (given_plan (with_plan d p q)) (with_plan d p q) how → A
+    not_refused how said = absurd (nothing_of_plan d p q task of.accepted free said.refusal said.shows)
+
+    not_invalid : Valid task plan → (how : Ending) → IsInvalidPlan d p q how → ⊥
+    not_invalid valid how wrong =
+        let one : task ≡ wrong.task = one_task_at_most d p task wrong.task of.accepted.task.reads wrong.texts.accepted.task.reads in
+        let same : plan ≡ wrong.plan = one_plan_at_most q plan wrong.plan of.spelled wrong.texts.spelled in
+        no_fault task plan wrong.fault valid ((λ i. first_fault (one i) (same i)) ∙ wrong.first)
+
+    -- a valid plan is accepted
+    pub plan_accepted : Valid task plan → (how : Ending) → RejectsPlan (with_plan d p q) how → ⊥
+    plan_accepted valid how (inl refused) = not_refused how refused
+    plan_accepted valid how (inr wrong) = not_invalid valid how wrong
+
+  plan_reason : (how other : Ending) → RejectsPlan (with_plan d p q) how → RejectsPlan (with_plan d p q) other → status_of how ≡ status_of other
+  plan_reason how other (inl shown) (inl also) = refused_status how _ shown.says ∙ sym (refused_status other _ also.says)
+  plan_reason how other (inr shown) (inr also) = invalid_status how _ shown.says ∙ sym (invalid_status other _ also.says)
+  plan_reason how other (inl shown) (inr also) = not_refused also.task also.plan also.texts how shown
+  plan_reason how other (inr shown) (inl also) = not_refused shown.task shown.plan shown.texts other also
+
+-- ---- of two tasks and a plan
+
+module _ (texts : AllTexts) where
+  module _ (T U : Task) (plan : Plan) (of : AreOfLift texts T U plan) where
+    free_plan : plan_offence texts.plan ≡ None
+    free_plan = (a_plan_where_no_offence texts.plan).0 (record { plan = plan; spelled = of.spelled; few = of.few })
+
+    nothing_of_lift : (r : Refusal) → IsFirstRefusal (given_lift texts) r → ⊥
+    nothing_of_lift r (inl (inl first)) = of.source.readable r (inl first)
+    nothing_of_lift r (inl (inr (before, inl second))) = of.source.readable r (inr (before, inl second))
+    nothing_of_lift r (inl (inr (before, inr (also, inl third)))) = of.written.readable r (inl third)
+    nothing_of_lift r (inl (inr (before, inr (also, inr (readable, inl fourth))))) = of.written.readable r (inr (readable, inl fourth))
+    nothing_of_lift r (inl (inr (before, inr (also, inr (readable, inr (last, inl offence)))))) = let other : None ≡ Some r = sym free_plan ∙ offence in absurd (cc)
+    nothing_of_lift r (inl (inr (before, inr (also, inr (readable, inr (last, inr none)))))) = none.1
+    nothing_of_lift r (inr (readable, inl of_source)) = nothing_is_refused Source texts.domain texts.problem T of.source r (inr (of.source.readable, inl of_source))
+    nothing_of_lift r (inr (readable, inr (spelled, inl of_written))) =
+        nothing_is_refused Written texts.written_domain texts.written_problem U of.written r (inr (of.written.readable, inl of_written))
+    nothing_of_lift r (inr (readable, inr (spelled, inr none))) = none.1
+
+    not_refused_lift : {A : Type 0} (how : Ending) → IsRefusal (given_lift texts) texts how → A
+    not_refused_lift how said = absurd (nothing_of_lift said.refusal said.shows)
+
+    -- what is said of the tasks and the plan of the texts is said of these
+    of_these : (T' U' : Task) (plan' : Plan) → AreOfLift texts T' U' plan' → (why : LiftFail) → IsLiftFail T' U' plan' why → IsLiftFail T U plan why
+    of_these T' U' plan' other why =
+        let one : T' ≡ T = one_task_at_most texts.domain texts.problem T' T other.source.task.reads of.source.task.reads in
+        let two : U' ≡ U = one_task_at_most texts.written_domain texts.written_problem U' U other.written.task.reads of.written.task.reads in
+        let same : plan' ≡ plan = one_plan_at_most texts.plan plan' plan other.spelled of.spelled in
+        λ shown. subst (λ p. IsLiftFail T U p why) same (subst (λ u. IsLiftFail T u plan' why) two (subst (λ t. IsLiftFail t U' plan' why) one shown))
+
+    not_plain : {A : Type 0} → is_plain U ≡ true → is_plain U ≡ false → A
+    not_plain plain other = absurd (cc)
+
+    -- a plan that is lifted is lifted for no reason not to be
+    not_unlifted : (lifted : Lifted) → IsLifted T U plan lifted → (why : LiftFail) (how : Ending) → IsLiftFail T U plan why → TellsFail why how → ⊥
+    not_unlifted lifted is fail.NotPlain how shown says = not_plain is.of.plain shown
+    not_unlifted lifted is (fail.Invalid told) how shown says = no_fault U plan (fault_in told) is.of.valid shown.1.0
+    not_unlifted lifted is (fail.Mismatch (differ.Fault told)) how shown says = no_fault T (lift T plan) (fault_in told) (subst (Valid T) is.plan is.valid) shown.1.0
+    not_unlifted lifted is (fail.Mismatch (differ.Numbers cost loss)) how shown says =
+        shown.1.apart (shown.1.cost ∙ sym is.cost ∙ is.loss ∙ ap (loss_above T) is.plan ∙ sym shown.1.loss)
+    not_unlifted lifted is fail.NoMemory how shown says = says
+
+    pub lift_accepted : (lifted : Lifted) → IsLifted T U plan lifted → (how : Ending) → RejectsLift texts how → ⊥
+    lift_accepted lifted is how (inl refused) = not_refused_lift how refused
+    lift_accepted lifted is how (inr wrong) =
+        not_unlifted lifted is wrong.unlifted.why how (of_these wrong.task wrong.written wrong.plan wrong.of wrong.unlifted.why wrong.unlifted.shows) wrong.unlifted.says
+
+  -- whether the plan is not valid for the written task decides about the status
+  abbrev fail_status : LiftFail → ℕ
+  fail_status (fail.Invalid told) = 1
+  fail_status fail.NotPlain = 2
+  fail_status (fail.Mismatch other) = 2
+  fail_status fail.NoMemory = 5
+
+  told_status : (why : LiftFail) (how : Ending) → TellsFail why how → status_of how ≡ fail_status why
+  told_status fail.NotPlain how says = ap status_of says
+  told_status (fail.Invalid told) how says = ap status_of says
+  told_status (fail.Mismatch other) how says = ap status_of says
+  told_status fail.NoMemory how says = absurd says
+
+  fails_alike : (T U : Task) (plan : Plan) (why other : LiftFail) (how end : Ending) → IsLiftFail T U plan why → IsLiftFail T U plan other → TellsFail why how → TellsFail other end → fail_status why ≡ fail_status other
+  fails_alike T U plan fail.NoMemory other how end shown also says too = absurd says
+  fails_alike T U plan fail.NotPlain fail.NoMemory how end shown also says too = absurd too
+  fails_alike T U plan fail.NotPlain fail.NotPlain how end shown also says too = refl
+  fails_alike T U plan fail.NotPlain (fail.Mismatch b) how end shown also says too = refl
+  fails_alike T U plan fail.NotPlain (fail.Invalid b) how end shown also says too = let plain : is_plain U ≡ true = also.0 in absurd (cc)
+  fails_alike T U plan (fail.Invalid a) fail.NoMemory how end shown also says too = absurd too
+  fails_alike T U plan (fail.Invalid a) (fail.Invalid b) how end shown also says too = refl
+  fails_alike T U plan (fail.Invalid a) fail.NotPlain how end shown also says too = let plain : is_plain U ≡ true = shown.0 in absurd (cc)
+  fails_alike T U plan (fail.Invalid a) (fail.Mismatch b) how end shown also says too = no_fault U plan (fault_in a) also.0.valid shown.1.0
+  fails_alike T U plan (fail.Mismatch a) fail.NoMemory how end shown also says too = absurd too
+  fails_alike T U plan (fail.Mismatch a) fail.NotPlain how end shown also says too = refl
+  fails_alike T U plan (fail.Mismatch a) (fail.Mismatch b) how end shown also says too = refl
+  fails_alike T U plan (fail.Mismatch a) (fail.Invalid b) how end shown also says too = no_fault U plan (fault_in b) shown.0.valid also.1.0
+
+  lift_reason : (how other : Ending) → RejectsLift texts how → RejectsLift texts other → status_of how ≡ status_of other
+  lift_reason how other (inl shown) (inl also) = refused_status how _ shown.says ∙ sym (refused_status other _ also.says)
+  lift_reason how other (inl shown) (inr also) = not_refused_lift also.task also.written also.plan also.of how shown
+  lift_reason how other (inr shown) (inl also) = not_refused_lift shown.task shown.written shown.plan shown.of other also
+  lift_reason how other (inr shown) (inr also) =
+      told_status shown.unlifted.why how shown.unlifted.says
+      ∙ fails_alike also.task also.written also.plan shown.unlifted.why also.unlifted.why how other
+      (of_these also.task also.written also.plan also.of shown.task shown.written shown.plan shown.of shown.unlifted.why shown.unlifted.shows) also.unlifted.shows shown.unlifted.says also.unlifted.says
+      ∙ sym (told_status also.unlifted.why other also.unlifted.says)
+
+-- ---- of each command
+
 -- all reasons have one status
 one_reason : (command : Command) (texts : List (List ℕ)) (how other : Ending) → Rejects command texts how → Rejects command texts other → status_of how ≡ status_of other
 one_reason (Compile a b c d) [] how other shown also = absurd shown
 one_reason (Compile a b c d) (x ∷ []) how other shown also = absurd shown
 one_reason (Compile a b c d) (x ∷ y ∷ []) how other shown also = refused_status how _ shown.says ∙ sym (refused_status other _ also.says)
 one_reason (Compile a b c d) (x ∷ y ∷ z ∷ texts) how other shown also = absurd shown
+one_reason (Lift a b c d e f) [] how other shown also = absurd shown
+one_reason (Lift a b c d e f) (x ∷ []) how other shown also = absurd shown
+one_reason (Lift a b c d e f) (x ∷ y ∷ []) how other shown also = absurd shown
+one_reason (Lift a b c d e f) (x ∷ y ∷ z ∷ []) how other shown also = absurd shown
+one_reason (Lift a b c d e f) (x ∷ y ∷ z ∷ u ∷ []) how other shown also = absurd shown
+one_reason (Lift a b c d e f) (x ∷ y ∷ z ∷ u ∷ v ∷ []) how other shown also = lift_reason (for_lift x y z u v) how other shown also
+one_reason (Lift a b c d e f) (x ∷ y ∷ z ∷ u ∷ v ∷ w ∷ texts) how other shown also = absurd shown
+one_reason (Embed a b c d e f) [] how other shown also = absurd shown
+one_reason (Embed a b c d e f) (x ∷ []) how other shown also = absurd shown
+one_reason (Embed a b c d e f) (x ∷ y ∷ []) how other shown also = absurd shown
+one_reason (Embed a b c d e f) (x ∷ y ∷ z ∷ []) how other shown also = plan_reason x y z how other shown also
+one_reason (Embed a b c d e f) (x ∷ y ∷ z ∷ u ∷ texts) how other shown also = absurd shown
 one_reason (Evaluate a b c) [] how other shown also = absurd shown
 one_reason (Evaluate a b c) (x ∷ []) how other shown also = absurd shown
 one_reason (Evaluate a b c) (x ∷ y ∷ []) how other shown also = absurd shown
-one_reason (Evaluate a b c) (x ∷ y ∷ z ∷ []) how other (inl shown) (inl also) = refused_status how _ shown.says ∙ sym (refused_status other _ also.says)
-one_reason (Evaluate a b c) (x ∷ y ∷ z ∷ []) how other (inr shown) (inr also) = invalid_status how _ shown.says ∙ sym (invalid_status other _ also.says)
-one_reason (Evaluate a b c) (x ∷ y ∷ z ∷ []) how other (inl shown) (inr also) = not_refused x y z _ also.task also.plan how also.texts shown
-one_reason (Evaluate a b c) (x ∷ y ∷ z ∷ []) how other (inr shown) (inl also) = not_refused x y z _ shown.task shown.plan other shown.texts also
+one_reason (Evaluate a b c) (x ∷ y ∷ z ∷ []) how other shown also = plan_reason x y z how other shown also
 one_reason (Evaluate a b c) (x ∷ y ∷ z ∷ u ∷ texts) how other shown also = absurd shown
-one_reason (Lift a b c d e f) texts how other shown also = absurd shown
-one_reason (Embed a b c d e f) texts how other shown also = absurd shown
-one_reason (Generate a b c d) texts how other shown also = absurd shown
+one_reason (Generate n a b c) [] how other shown also = plan_reason sample_domain (sample_problem n) (sample_plan n) how other shown also
+one_reason (Generate n a b c) (x ∷ texts) how other shown also = absurd shown
 
 pub one_status : (command : Command) (read : Reading) (how other : Ending) → ShownBy command read how → ShownBy command read other → status_of how ≡ status_of other
 one_status command (Texts texts) how other shown also = one_reason command texts how other shown also

@@ -12,7 +12,7 @@ use Rattle.p3_base.specs.Outside.{FilesSeen, SinkSeen, Store, Rose, bytes_under,
 use Rattle.p3_base.specs.declared.refusal.Role.{Role}
 use Rattle.p3_cli.specs.Ending.{status_of, unput_status}
 use Rattle.p3_cli.specs.Outcome.{ReadsAll, WriteFails}
-use Rattle.p3_cli.specs.Product.{Accepts, Produces, Rejects}
+use Rattle.p3_cli.specs.Product.{Accepts, Produces, Rejects, texts_in}
 use Rattle.p3_cli.specs.Refusing.{IsRejectedBy}
 use Rattle.p3_tree.specs.Commands.{Command, Input, Output, inputs, outputs}
 use Rattle.p3_cli.specs.Run.{AnyFaultRose, MustComplete, MustReject, IsAccepted, IsProduct, IsRejectionIn, ShownBy, Comes, Leaves, Tells, Answers, IsRejectedIn, IsStatusIn, IsAcceptedIn, SameUnder, OthersStay}
@@ -64,22 +64,22 @@ module _ (command : Command) (asked : List Input) (same : asked ≡ inputs comma
 
   -- what was made of it is the product of what is held
   product_is : (told : Option Store) (writings : List (Output × List ℕ)) (report : List ℕ) → ReadsAll told asked found → map (λ written. written.0) writings ≡ outputs command
-      → Produces command texts writings report → IsProduct told command writings report
+      → Produces command texts (texts_in writings) report → IsProduct told command writings report
   product_is told writings report read named made = record { outputs = named; made = made_of told read }
     where
       made_of : (told : Option Store) → ReadsAll told asked found
-          → IfSome told (λ store. (read : List (List ℕ)) × (reading store (inputs command) ≡ Texts read) × Produces command read writings report)
+          → IfSome told (λ store. (read : List (List ℕ)) × (reading store (inputs command) ≡ Texts read) × Produces command read (texts_in writings) report)
       made_of None read = tt
       made_of (Some store) read = (texts, (λ i. reading store (sym same i)) ∙ read ∙ ap Texts are, made)
 
   -- what is left where all is written
   pub done_leaves : (old mid new : Option Store) (writings : List (Output × List ℕ)) (report : List ℕ) → ReadsAll old asked found → mid ≡ old
-      → map (λ written. written.0) writings ≡ outputs command → Produces command texts writings report → new ≡ holding_all writings mid → Leaves command old new (ending.Done report)
+      → map (λ written. written.0) writings ≡ outputs command → Produces command texts (texts_in writings) report → new ≡ holding_all writings mid → Leaves command old new (ending.Done report)
   done_leaves old mid new writings report read stays named made is = (writings, product_is old writings report read named made, subst (λ told. new ≡ holding_all writings told) stays is)
 
   -- what is left where it was not written whole
   pub unwritten_leaves : (old mid new : Option Store) (writings : List (Output × List ℕ)) (report : List ℕ) (before after : ℕ) (how : Ending) → ReadsAll old asked found → mid ≡ old
-      → map (λ written. written.0) writings ≡ outputs command → Produces command texts writings report → WriteFails writings mid new before after how → Leaves command old new how
+      → map (λ written. written.0) writings ≡ outputs command → Produces command texts (texts_in writings) report → WriteFails writings mid new before after how → Leaves command old new how
   unwritten_leaves old mid new writings report before after (ending.WriteFailed role) read stays named made fails =
       (writings, report, product_is old writings report read named made, subst (λ told. IsWrittenUpTo role writings told new) stays fails.0)
   unwritten_leaves old mid new writings report before after ending.OutOfMemory read stays named made fails =
@@ -208,10 +208,10 @@ same_holding name other bytes (Some store) apart =
     ∙ ap (λ here. cond here (Some bytes) (get store name))
     (untied (slice_cmp nat_cmp name other) (λ tie. apart (sym (slice_cmp-IsAntisymmetric nat_cmp-IsAntisymmetric name other tie)))))
 
-abbrev AreOthers : List ℕ → List (Output × List ℕ) → Type 0
+abbrev pub AreOthers : List ℕ → List (Output × List ℕ) → Type 0
 AreOthers name writings = AllByRecursion (λ output. output.name ≢ name) (map (λ written. written.0) writings)
 
-same_holding_all : (name : List ℕ) (writings : List (Output × List ℕ)) (told : Option Store) → AreOthers name writings → SameUnder name told (holding_all writings told)
+pub same_holding_all : (name : List ℕ) (writings : List (Output × List ℕ)) (told : Option Store) → AreOthers name writings → SameUnder name told (holding_all writings told)
 same_holding_all name [] told others = refl
 same_holding_all name (written ∷ writings) told others =
     same_holding_all name writings (holding written.0.name written.1 told) others.1 ∙ same_holding name written.0.name written.1 told others.0

@@ -6,7 +6,7 @@ use Rattle.p3_base.specs.declared.refusal.Side.TheVariants.{Source, Written}
 use Rattle.p3_tree.specs.Grammar.Halves.{domain_place, problem_place}
 use Rattle.p3_tree.specs.FirstOffence.{first_offence}
 use Rattle.p3_tree.specs.PlanTexts.{plan_offence}
-use Rattle.p3_tree.specs.Refusals.First.{AreReadable, HalfText, IsFirstRefusal, IsReadable, IsRefusedText, given_task, given_texts, halves, refusal_of, task_refusal}
+use Rattle.p3_tree.specs.Refusals.First.{AreReadable, HalfText, IsFirstRefusal, SpellATask, IsReadable, IsRefusedText, given_task, given_texts, halves, refusal_of, task_refusal}
 use Rattle.p3_tree.specs.Refusals.Counts.{action_refusals, size_refusals}
 use Rattle.p3_tree.specs.Refusals.Metric.{metric_refusals}
 use Rattle.p3_tree.specs.Refusals.Places.{first_some}
@@ -19,6 +19,7 @@ use Rattle.p3_syntax.specs.declared.error.ReadFail.{ReadFail}
 use Rattle.p3_syntax.specs.declared.error.ReadFail.TheVariants as fail
 use Rattle.p3_types.specs.Texts.{HasTexts}
 use Rattle.p3_cli.specs.Evaluation.{given_plan}
+use Rattle.p3_cli.specs.Lifting.{given_lift}
 use Rattle.p3_cli.specs.Refusing.{AllTexts, AreAcceptedFor, EndsAs, IsOfHalves, IsOfPlan, IsOfTask, IsRefusal, IsRefusedFor, IsRefusedTask, IsRejectedBy, IsSpelled, Says, all_texts, domain_of, problem_of, refused_in, task_texts, text_of}
 use Rattle.p3_cli.specs.declared.texts.Texts.{Texts}
 use Rattle.p3_cli.specs.declared.ending.Ending.{Ending}
@@ -170,3 +171,57 @@ module _ (texts : AllTexts) where
 
     pub plan_of_task : plan_offence texts.plan ≡ None → (how : Ending) → IsRefusedFor texts (IsOfTask Source texts) how → IsRejectedBy (IsRefusal (given_plan texts) texts) how
     plan_of_task free = shows_more texts (IsOfTask Source texts) Shown (λ refusal shown. inr (all_readable free, inl shown))
+
+-- ---- two tasks with a plan
+
+module _ (texts : AllTexts) where
+  abbrev IsShown : Refusal → Type 0
+  IsShown = IsFirstRefusal (given_lift texts)
+
+  source_half : (refusal : Refusal) → IsOfHalves Source texts refusal → IsShown refusal
+  source_half refusal (inl one) = inl (inl one)
+  source_half refusal (inr (before, inl other)) = inl (inr (before, inl other))
+  source_half refusal (inr (before, inr (also, none))) = absurd none
+
+  pub lift_of_source : (how : Ending) → IsRefusedFor texts (IsOfHalves Source texts) how → IsRejectedBy (IsRefusal (given_lift texts) texts) how
+  lift_of_source = shows_more texts (IsOfHalves Source texts) IsShown source_half
+
+  module _ (task : Task) (spelled : IsSpelled (task_texts Source texts) task) where
+    source_one : IsReadable (HalfText Source InDomain texts.domain)
+    source_one refusal shown = spelled.readable refusal (inl shown)
+
+    source_two : IsReadable (HalfText Source InProblem texts.problem)
+    source_two refusal shown = spelled.readable refusal (inr (source_one, inl shown))
+
+    written_half : (refusal : Refusal) → IsOfHalves Written texts refusal → IsShown refusal
+    written_half refusal (inl one) = inl (inr (source_one, inr (source_two, inl one)))
+    written_half refusal (inr (before, inl other)) = inl (inr (source_one, inr (source_two, inr (before, inl other))))
+    written_half refusal (inr (before, inr (also, none))) = absurd none
+
+    pub lift_of_written : (how : Ending) → IsRefusedFor texts (IsOfHalves Written texts) how → IsRejectedBy (IsRefusal (given_lift texts) texts) how
+    lift_of_written = shows_more texts (IsOfHalves Written texts) IsShown written_half
+
+    module _ (written : Task) (also : IsSpelled (task_texts Written texts) written) where
+      written_one : IsReadable (HalfText Written InDomain texts.written_domain)
+      written_one refusal shown = also.readable refusal (inl shown)
+
+      written_two : IsReadable (HalfText Written InProblem texts.written_problem)
+      written_two refusal shown = also.readable refusal (inr (written_one, inl shown))
+
+      pub lift_of_plan : (how : Ending) → IsRefusedFor texts (IsOfPlan texts) how → IsRejectedBy (IsRefusal (given_lift texts) texts) how
+      lift_of_plan = shows_more texts (IsOfPlan texts) IsShown (λ refusal shown. inl (inr (source_one, inr (source_two, inr (written_one, inr (written_two, inl shown))))))
+
+      module _ (free : plan_offence texts.plan ≡ None) where
+        five_readable : AreReadable (given_texts (given_lift texts))
+        five_readable refusal (inl one) = source_one refusal one
+        five_readable refusal (inr (a, inl two)) = source_two refusal two
+        five_readable refusal (inr (a, inr (b, inl three))) = written_one refusal three
+        five_readable refusal (inr (a, inr (b, inr (c, inl four)))) = written_two refusal four
+        five_readable refusal (inr (a, inr (b, inr (c, inr (d, inl last))))) = cc
+        five_readable refusal (inr (a, inr (b, inr (c, inr (d, inr none))))) = none.1
+
+        pub lift_of_task : (how : Ending) → IsRefusedFor texts (IsOfTask Source texts) how → IsRejectedBy (IsRefusal (given_lift texts) texts) how
+        lift_of_task = shows_more texts (IsOfTask Source texts) IsShown (λ refusal shown. inr (five_readable, inl shown))
+
+        pub lift_of_other : SpellATask (task_texts Source texts) → (how : Ending) → IsRefusedFor texts (IsOfTask Written texts) how → IsRejectedBy (IsRefusal (given_lift texts) texts) how
+        lift_of_other first = shows_more texts (IsOfTask Written texts) IsShown (λ refusal shown. inr (five_readable, inr (first, inl shown)))

@@ -1,6 +1,6 @@
 -- How a run ends: its status, and the lines that it puts.
-use Rattle.std.specs.Prelude.{ℕ, List, ◌++◌, codes}
-use Rattle.p3_tree.specs.Reports.Lines.{line, read_fault_line, write_fault_line, want_of_memory_line}
+use Rattle.std.specs.Prelude.{ℕ, List}
+use Rattle.p3_tree.specs.Reports.Lines.{read_fault_line, write_fault_line, want_of_memory_line, usage_lines}
 use Rattle.p3_tree.specs.Reports.Refusals.{too_long_line}
 use Rattle.p3_cli.specs.Status as status
 use Rattle.p3_cli.specs.declared.ending.Ending.{Ending}
@@ -31,4 +31,4 @@ lines_of (TooLong role) = too_long_line role
 lines_of (ReadFailed role) = read_fault_line role
 lines_of (WriteFailed role) = write_fault_line role
 lines_of OutOfMemory = want_of_memory_line
-lines_of Usage = line (codes "usage: pddl3c compile D P OD OP") ++ line (codes "       pddl3c evaluate D P PLAN")
+lines_of Usage = usage_lines

@@ -1,12 +1,15 @@
 pub mod Asked
+pub mod Embedding
 pub mod Ending
 pub mod Evaluation
+pub mod Lifting
 pub mod Meaning
 pub mod Outcome
 pub mod Product
 pub mod Refusing
 pub mod Request
 pub mod Run
+pub mod Sampling
 pub mod Status
 pub mod Store
 pub mod Translation

@@ -65,6 +65,10 @@ only_task d p = record { domain = d; problem = p; written_domain = []; written_p
 abbrev pub with_plan : List ℕ → List ℕ → List ℕ → AllTexts
 with_plan d p q = record { domain = d; problem = p; written_domain = []; written_problem = []; plan = q }
 
+-- a task with one that is written for it, and a plan for that
+abbrev pub for_lift : List ℕ → List ℕ → List ℕ → List ℕ → List ℕ → AllTexts
+for_lift d p od op q = record { domain = d; problem = p; written_domain = od; written_problem = op; plan = q }
+
 -- nothing is refused of the texts by themselves, and they are those of the task
 pub record IsSpelled (texts : TaskTexts) (task : Task) : Type 0 where
   pub readable : AreReadable (halves texts)

@@ -4,7 +4,7 @@ use Rattle.std.specs.Option.{option_map}
 use Rattle.std.specs.List.{AllByRecursion}
 use Rattle.p3_base.specs.Outside.{FilesSeen, SinkSeen, Store, Rose, IsPartlyPut, bytes_under, with_put}
 use Rattle.p3_cli.specs.Ending.{status_of, unput_status, lines_of}
-use Rattle.p3_cli.specs.Product.{Rejects, Accepts, Produces}
+use Rattle.p3_cli.specs.Product.{Rejects, Accepts, Produces, texts_in}
 use Rattle.p3_tree.specs.Commands.{Command, Output, inputs, outputs}
 use Rattle.p3_cli.specs.Status as status
 use Rattle.p3_cli.specs.Store.{Reading, Texts, TooLong, Absent, reading, AreStored, holding_all, AreFirstWritten, IsWrittenUpTo}
@@ -28,7 +28,7 @@ IsAccepted store command = (texts : List (List ℕ)) × (reading store (inputs c
 -- there is a text for each output, and the texts and the report are what the command makes of what was read
 pub record IsProduct (told : Option Store) (command : Command) (writings : List (Output × List ℕ)) (report : List ℕ) : Type 0 where
   pub outputs : map (λ written. written.0) writings ≡ outputs command
-  pub made : IfSome told (λ store. (read : List (List ℕ)) × (reading store (inputs command) ≡ Texts read) × Produces command read writings report)
+  pub made : IfSome told (λ store. (read : List (List ℕ)) × (reading store (inputs command) ≡ Texts read) × Produces command read (texts_in writings) report)
 
 -- when an ending of a command comes
 abbrev pub Comes : Command → FilesSeen → FilesSeen → Ending → Type 0

@@ -1,8 +1,6 @@
 -- What `compile` makes of a task, and of the texts of its two halves.
-use Rattle.std.specs.Prelude.{ℕ, ◌≡◌, List, [], ◌∷◌}
-use Rattle.p3_base.specs.declared.refusal.Role.TheVariants.{WrittenDomain, WrittenProblem}
+use Rattle.std.specs.Prelude.{ℕ, ◌≡◌, List}
 use Rattle.p3_base.specs.declared.refusal.Side.TheVariants.{Source}
-use Rattle.p3_tree.specs.Commands.{Output, output}
 use Rattle.p3_tree.specs.Offences.{WellFormed}
 use Rattle.p3_tree.specs.Refusals.First.{AreAccepted}
 use Rattle.p3_tree.specs.Reports.Tasks.{compiled_lines}
@@ -19,10 +17,6 @@ use Rattle.p3_writer.specs.Layout.{domain_layout, problem_layout}
 use Rattle.p3_writer.specs.TaskOf.{task_of}
 use Rattle.p3_writer.specs.Texts.{IsDomainTextOf, IsProblemTextOf}
 use Rattle.p3_cli.specs.WrittenText.{HasFaithfulText}
-
--- the two files that a target is written to
-abbrev pub target_outputs : List ℕ → List ℕ → List Output
-target_outputs domain problem = output WrittenDomain domain ∷ output WrittenProblem problem ∷ []
 
 -- the texts are the layout of the target, and texts of its task
 pub record AreTextsOf (target : Target) (od op : List ℕ) : Type 0 where
@@ -52,14 +46,15 @@ pub record IsLaidOut (task : Task) (od op : List ℕ) : Type 0 where
   pub domain : od ≡ domain_layout target
   pub problem : op ≡ problem_layout target
 
--- the texts and the report that are made of a task: the grammar reads the texts as a faithful translation of it
-pub record IsWritten (task : Task) (od op report : List ℕ) : Type 0 where
+-- nothing is refused of d and p, and the texts od and op are laid out for the task that they spell
+pub record HasLayout (d p od op : List ℕ) : Type 0 where
+  pub task : Task
+  pub accepted : AreAccepted Source d p task
   pub laid_out : IsLaidOut task od op
-  pub text : HasFaithfulText od op task
-  pub told : report ≡ compiled_lines task
 
--- nothing is refused of d and p, and the texts od and op and the report are made of the task that they spell
+-- nothing is refused of d and p, the grammar reads od and op as a faithful translation of the task that they spell, and the report is the task's
 pub record IsTranslation (d p od op report : List ℕ) : Type 0 where
   pub task : Task
   pub accepted : AreAccepted Source d p task
-  pub written : IsWritten task od op report
+  pub text : HasFaithfulText od op task
+  pub told : report ≡ compiled_lines task

@@ -1,8 +1,8 @@
 //! From the texts of a task to the task with its ground task and weights, where nothing is refused.
 
-ghost use Rattle.std.specs.Prelude.{◌≡◌, IfOk, IfErr, OnOk, None};
+ghost use Rattle.std.specs.Prelude.{◌≡◌, ◌≤◌, IfOk, IfErr, OnOk, None, length};
 ghost use Rattle.p3_tree.specs.Offences.{WellFormed};
-ghost use Rattle.p3_tree.specs.PlanTexts.{plan_offence};
+ghost use Rattle.p3_tree.specs.PlanTexts.{IsPlanText, plan_offence, step_limit};
 ghost use Rattle.p3_cli.specs.Refusing.{
   AreAcceptedFor,
   EndsAs,
@@ -18,11 +18,11 @@ ghost use Rattle.p3_cli.specs.Translation.{CanBeCompiled};
 
 use crate::Ending;
 use crate::texts::Texts;
-use p3_base::Side;
+use p3_base::{NoMemory, Side};
 use p3_eval::{Whole, WholeFail};
-use p3_plans::first_plan_offence;
+use p3_plans::{PlanFail, first_plan_offence, read_plan};
 use p3_syntax::{ReadFail, read_domain, read_problem};
-use p3_tree::Task;
+use p3_tree::{Plan, Task};
 use p3_types::{CheckFail, Checked, check};
 use std::alloc::Global;
 
@@ -53,6 +53,21 @@ pub(crate) fn readable_plan(alloc: Global, texts: &Texts<'_>) -> Result<(), Endi
     match first_plan_offence(texts.plan) {
         None => Ok(()),
         Some(refusal) => Err(texts.refused(alloc, &refusal)),
+    }
+}
+
+/// The plan of a text that has no offence.
+pub(crate) fn plan_of(alloc: Global, text: &[u8]) -> Result<Plan, NoMemory>
+    requires short { length text.now ≤ 16777216 }
+    requires free { plan_offence text.now ≡ None }
+    ensures spelled { IfOk result (IsPlanText text.now) }
+    ensures few { IfOk result (λ plan. length plan ≤ step_limit) }
+{
+    match read_plan(alloc, text) {
+        Ok(plan) => Ok(plan),
+        Err(PlanFail::NoMemory) => Err(NoMemory),
+        // The text has no offence.
+        Err(PlanFail::Refused(_)) => unreachable!(),
     }
 }
 

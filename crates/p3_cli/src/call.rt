@@ -2,10 +2,9 @@
 
 ghost use Rattle.std.specs.Prelude.{◌≡◌, ◌↔◌, IfSome, IsTrue, None};
 ghost use Rattle.p3_base.specs.Outside.{Rose};
-ghost use Rattle.p3_tree.specs.Commands.{inputs};
+ghost use Rattle.p3_tree.specs.Commands.{command_of, inputs};
 ghost use Rattle.p3_cli.specs.Asked.{asked_command};
 ghost use Rattle.p3_cli.specs.Meaning.{IsDone, IsFaithfulRun, IsLaidOutRun};
-ghost use Rattle.p3_cli.specs.Request.{command_asked};
 ghost use Rattle.p3_cli.specs.Run.{
   Answers,
   AreHeld,
@@ -38,18 +37,18 @@ use std::alloc::Global;
 /// where a write answers it), 6 (done, but the report was not put) and 64 (usage).
 pub fn run<F: Files, S: Sink>(alloc: Global, words: &[Word], files: &mut F, out: &mut S) -> u8
     requires { IsTrue (F.seen files.old).is_sure
-        → AreHeld (command_asked words.now) (F.seen files.old).held }
+        → AreHeld (command_of words.now) (F.seen files.old).held }
 
     // The words decide about usage, and then no file is touched.
-    ensures usage { (result ≡ status.usage) ↔ (command_asked words.now ≡ None) }
-    ensures usage_untouched { command_asked words.now ≡ None → files.new ≡ files.old }
+    ensures usage { (result ≡ status.usage) ↔ (command_of words.now ≡ None) }
+    ensures usage_untouched { command_of words.now ≡ None → files.new ≡ files.old }
 
     // What is read is refused, or a plan is not valid, where that is shown; and where it is, it comes.
     ensures refused { result ≡ status.refused
-        → IfSome (F.seen files.old).held (IsStatusIn (command_asked words.now) status.refused) }
+        → IfSome (F.seen files.old).held (IsStatusIn (command_of words.now) status.refused) }
     ensures invalid { result ≡ status.invalid
-        → IfSome (F.seen files.old).held (IsStatusIn (command_asked words.now) status.invalid) }
-    ensures rejects { MustReject (command_asked words.now) (F.seen files.old)
+        → IfSome (F.seen files.old).held (IsStatusIn (command_of words.now) status.invalid) }
+    ensures rejects { MustReject (command_of words.now) (F.seen files.old)
         (F.seen files.new) result }
 
     // A failure comes only where the outside failed.
@@ -61,23 +60,24 @@ pub fn run<F: Files, S: Sink>(alloc: Global, words: &[Word], files: &mut F, out:
         → Rose (S.seen out.old).faults (S.seen out.new).faults }
 
     // What is accepted is done, but for faults and want of memory.
-    ensures completes { MustComplete (command_asked words.now)
+    ensures completes { MustComplete (command_of words.now)
         (F.seen files.old) (F.seen files.new) (S.seen out.old) (S.seen out.new) result }
 
     // A done run leaves a faithful translation of the task that it read, and puts that task's report.
-    ensures faithful { IsDone result → IsFaithfulRun (command_asked words.now)
+    ensures faithful { IsDone result → IsFaithfulRun (command_of words.now)
         (F.seen files.old) (F.seen files.new) (S.seen out.old) (S.seen out.new) result }
 
     // It is the layout of a target to which a ground task that stands for the task is compiled.
     ensures layout { IsDone result
-        → IsLaidOutRun (command_asked words.now) (F.seen files.old) (F.seen files.new) }
+        → IsLaidOutRun (command_of words.now) (F.seen files.old) (F.seen files.new)
+        (S.seen out.old) (S.seen out.new) result }
 
     // A name that is no output holds what it held.
-    ensures others { OthersStay (command_asked words.now) (F.seen files.old).held
+    ensures others { OthersStay (command_of words.now) (F.seen files.old).held
         (F.seen files.new).held }
 
     // What is left in the files and put into the sink is what the ending says.
-    ensures ending { (how : Ending) × Ends (command_asked words.now)
+    ensures ending { (how : Ending) × Ends (command_of words.now)
         (F.seen files.old) (F.seen files.new) (S.seen out.old) (S.seen out.new) result how }
 {
     let ending = ending_of(alloc, words, files);
@@ -87,10 +87,10 @@ pub fn run<F: Files, S: Sink>(alloc: Global, words: &[Word], files: &mut F, out:
 /// How doing what the words ask for ends.
 fn ending_of<F: Files>(alloc: Global, words: &[Word], files: &mut F) -> Ending
     requires { IsTrue (F.seen files.old).is_sure
-        → AreHeld (command_asked words.now) (F.seen files.old).held }
-    ensures answers { Answers (command_asked words.now)
+        → AreHeld (command_of words.now) (F.seen files.old).held }
+    ensures answers { Answers (command_of words.now)
         (F.seen files.old) (F.seen files.new) result }
-    ensures untouched { command_asked words.now ≡ None → files.new ≡ files.old }
+    ensures untouched { command_of words.now ≡ None → files.new ≡ files.old }
 {
     match asked(words) {
         None => Ending::Usage,

@@ -9,7 +9,12 @@ use crate::status::{DONE, INVALID, OUT_OF_MEMORY, REFUSED, UNREAD, UNWRITTEN, US
 use p3_base::{List, NoMemory, Role, Sink, SinkFailed};
 
 /// What is put where the words have none of the listed shapes.
-const USAGE_LINES: &[u8] = b"usage: pddl3c compile D P OD OP\n       pddl3c evaluate D P PLAN\n";
+const USAGE_LINES: &[u8] = b"usage: pddl3c compile D P OD OP
+       pddl3c lift D P OD OP PLAN OUT
+       pddl3c embed D P PLAN OD OP OUT
+       pddl3c evaluate D P PLAN
+       pddl3c generate N D P PLAN
+";
 
 /// How a run ends.
 #[derive(Debug, Drop)]

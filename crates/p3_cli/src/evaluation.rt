@@ -19,6 +19,7 @@ ghost use Rattle.p3_cli.specs.Refusing.{
   IsRejectedBy,
   all_texts,
 };
+ghost use Rattle.p3_cli.specs.Translation.{CanBeCompiled};
 ghost use Rattle.p3_cli.specs.declared.ending.Ending.TheVariants.{Invalid};
 
 use crate::Ending;
@@ -42,9 +43,11 @@ pub(crate) fn evaluate(alloc: Global, texts: &Texts<'_>) -> Result<Vec<u8>, Endi
 }
 
 /// The task for which a plan is judged, where nothing is refused of it and of the plan's text.
-fn judged_task(alloc: Global, texts: &Texts<'_>) -> Result<Whole, Ending>
+pub(crate) fn judged_task(alloc: Global, texts: &Texts<'_>) -> Result<Whole, Ending>
     ensures accepted { IfOk result (λ whole.
         AreAcceptedFor Source (all_texts texts.now) whole.checked.task) }
+    ensures ready { IfOk result (λ whole.
+        CanBeCompiled whole.checked.task whole.ground_task whole.weights) }
     ensures free { OnOk result (plan_offence texts.now.plan.now ≡ None) }
     ensures err { IfErr result
         (IsRejectedBy (IsRefusal (given_plan (all_texts texts.now)) (all_texts texts.now))) }
@@ -76,7 +79,7 @@ fn judged(alloc: Global, whole: &Whole, plan: &[u8]) -> Result<Vec<u8>, Ending>
 }
 
 /// The ending that says the first fault of a plan.
-fn invalid(alloc: Global, fault: &PlanFault) -> Ending
+pub(crate) fn invalid(alloc: Global, fault: &PlanFault) -> Ending
     ensures { IsRejectedBy (λ how. how ≡ Invalid (fault_line (fault_in fault.now))) result }
 {
     match fault_text(alloc, fault) {

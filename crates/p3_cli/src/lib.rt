@@ -3,9 +3,12 @@
 
 mod acceptance;
 mod call;
+mod embedded_report;
+mod embedding;
 mod ending;
 mod evaluation;
 mod laws;
+mod lifting;
 mod plan_report;
 mod product;
 mod quantity;
@@ -13,6 +16,8 @@ mod refusal;
 mod report;
 mod request;
 mod role;
+mod sample_number;
+mod sampling;
 mod status;
 mod store;
 mod texts;

@@ -1,17 +1,26 @@
 //! What a command makes of the texts that it read.
 
 ghost use Rattle.std.specs.Prelude.{◌≡◌, ◌∷◌, [], map, IfOk, IfErr, OnOk};
-ghost use Rattle.p3_tree.specs.Commands.{Evaluate, inputs, outputs, source_inputs};
+ghost use Rattle.p3_tree.specs.Commands.{Evaluate, Lift, inputs, outputs, source_inputs};
 ghost use Rattle.p3_cli.specs.Asked.{asked_command, asked_writings};
-ghost use Rattle.p3_cli.specs.Product.{Accepts, Produces, Rejects};
-ghost use Rattle.p3_cli.specs.Refusing.{IsRejectedBy, all_texts, only_task, with_plan};
+ghost use Rattle.p3_cli.specs.Product.{Accepts, Produces, Rejects, texts_in};
+ghost use Rattle.p3_cli.specs.Refusing.{
+  IsRejectedBy,
+  all_texts,
+  for_lift,
+  only_task,
+  with_plan,
+};
 ghost use Rattle.p3_cli.specs.Store.{AreWithin};
 
 use crate::Ending;
+use crate::embedding::embed;
 use crate::evaluation::evaluate;
+use crate::lifting::lift;
 use crate::request::{Request, Written};
+use crate::sampling::sample;
 use crate::texts::Texts;
-use crate::translation::{TargetFiles, translate};
+use crate::translation::translate;
 use std::alloc::Global;
 
 /// The texts that are written, and the report.
@@ -36,7 +45,7 @@ pub(crate) fn product_of<'a>(
         ≡ outputs (asked_command request.now)) }
     ensures ok { IfOk result (λ product.
         Produces (asked_command request.now) (map (λ text. text.items) texts.now)
-        (asked_writings product.writings.items) product.report.items) }
+        (texts_in (asked_writings product.writings.items)) product.report.items) }
     ensures accepted { OnOk result
         (Accepts (asked_command request.now) (map (λ text. text.items) texts.now)) }
     ensures err { IfErr result (IsRejectedBy
@@ -44,18 +53,38 @@ pub(crate) fn product_of<'a>(
 {
     match request {
         Request::Compile {
-            written_domain: domain,
-            written_problem: problem,
+            written_domain,
+            written_problem,
             ..
-        } => translate(
+        } => Ok(translate(alloc, &texts_of_task(texts))?.product(
             alloc,
-            &TargetFiles { domain, problem },
-            &texts_of_task(texts),
-        ),
+            written_domain,
+            written_problem,
+        )?),
+        Request::Lift { lifted, .. } => {
+            Ok(lift(alloc, &texts_of_lift(texts))?.product(alloc, lifted)?)
+        }
+        Request::Embed {
+            written_domain,
+            written_problem,
+            embedded,
+            ..
+        } => Ok(embed(alloc, &texts_of_plan(texts))?.product(
+            alloc,
+            written_domain,
+            written_problem,
+            embedded,
+        )?),
         Request::Evaluate { .. } => Ok(Product {
             writings: Vec::new(alloc),
             report: evaluate(alloc, &texts_of_plan(texts))?,
         }),
+        Request::Generate {
+            number,
+            domain,
+            problem,
+            plan,
+        } => Ok(sample(alloc, number.number)?.product(alloc, domain, problem, plan)?),
     }
 }
 
@@ -94,6 +123,27 @@ fn texts_of_plan(texts: &[Vec<u8>]) -> Texts<'_>
         problem: problem.as_slice(),
         written_domain: b"".as_slice(),
         written_problem: b"".as_slice(),
+        plan: plan.as_slice(),
+    }
+}
+
+/// The texts of a task, of one that is written for it, and of a plan for that.
+fn texts_of_lift(texts: &[Vec<u8>]) -> Texts<'_>
+    requires { AreWithin (inputs (Lift [] [] [] [] [] [])) (map (λ text. text.items) texts.now) }
+    ensures read { map (λ text. text.items) texts.now
+        ≡ result.domain.now ∷ result.problem.now ∷ result.written_domain.now
+        ∷ result.written_problem.now ∷ result.plan.now ∷ [] }
+    ensures only { all_texts result ≡ for_lift result.domain.now result.problem.now
+        result.written_domain.now result.written_problem.now result.plan.now }
+{
+    let [domain, problem, written_domain, written_problem, plan] = texts else {
+        unreachable!()
+    };
+    Texts {
+        domain: domain.as_slice(),
+        problem: problem.as_slice(),
+        written_domain: written_domain.as_slice(),
+        written_problem: written_problem.as_slice(),
         plan: plan.as_slice(),
     }
 }

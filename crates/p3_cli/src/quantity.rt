@@ -1,7 +1,7 @@
 //! How quantities are printed: with so many digits behind their point.
 
 ghost use Rattle.std.specs.Prelude.{◌≡◌, ◌++◌, ◌<◌, ◌^◌, ◌≤◌, IfOk, OnOk, string_bytes};
-ghost use Rattle.std.specs.Fmt.{decimal};
+ghost use Rattle.std.specs.Fmt.{decimal, signed_decimal};
 ghost use Rattle.p3_cli.specs.Zeros.{zeros};
 ghost use Rattle.p3_tree.specs.Reports.Quantities.{
   magnitude,
@@ -26,6 +26,22 @@ pub(crate) fn push_decimal(alloc: Global, out: &mut Vec<u8>, number: u128) -> Re
 /// A decimal number.
 fn decimal_text(alloc: Global, number: u128) -> Result<String, NoMemory>
     ensures { IfOk result (λ text. string_bytes text ≡ decimal number) }
+{
+    Ok(format!(in alloc; "{number}")?)
+}
+
+/// Puts a decimal number with its sign at the end.
+pub(crate) fn push_signed(alloc: Global, out: &mut Vec<u8>, number: i128) -> Result<(), NoMemory>
+    ensures { OnOk result (out.new.items ≡ out.old.items ++ signed_decimal number) }
+{
+    let text = signed_text(alloc, number)?;
+    out.extend_from_slice(text.as_bytes())?;
+    Ok(())
+}
+
+/// A decimal number with its sign.
+fn signed_text(alloc: Global, number: i128) -> Result<String, NoMemory>
+    ensures { IfOk result (λ text. string_bytes text ≡ signed_decimal number) }
 {
     Ok(format!(in alloc; "{number}")?)
 }

@@ -32,7 +32,11 @@ pub(crate) fn compiled_report(alloc: Global, whole: &Whole) -> Result<Vec<u8>, N
 }
 
 /// Puts the number of steps and that of preference instances.
-fn push_counts(alloc: Global, out: &mut Vec<u8>, task: &GroundTask) -> Result<(), NoMemory>
+pub(crate) fn push_counts(
+    alloc: Global,
+    out: &mut Vec<u8>,
+    task: &GroundTask,
+) -> Result<(), NoMemory>
     ensures { OnOk result (out.new.items ≡ out.old.items
         ++ entry (codes "steps") (decimal task.now.step_count)
         ++ entry (codes "preferences") (decimal (length task.now.soft))) }

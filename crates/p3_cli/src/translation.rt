@@ -1,101 +1,89 @@
 //! What `compile` makes of the texts of a domain and a problem.
 
-ghost use Rattle.std.specs.Prelude.{◌≡◌, map, IfOk, IfErr};
-ghost use Rattle.p3_formula.specs.Targets.{IsNamed, IsSized};
-ghost use Rattle.p3_cli.specs.Asked.{asked_writings};
-ghost use Rattle.p3_cli.specs.Product.{OfTwoTexts};
+ghost use Rattle.std.specs.Prelude.{◌≡◌, ◌∷◌, [], IfOk, IfErr};
+ghost use Rattle.p3_tree.specs.Reports.Tasks.{compiled_lines};
 ghost use Rattle.p3_cli.specs.Refusing.{IsRefusedTask, all_texts};
-ghost use Rattle.p3_cli.specs.Translation.{
-  AreTextsOf,
-  CanBeCompiled,
-  IsTranslation,
-  IsWritten,
-  target_outputs,
-};
+ghost use Rattle.p3_cli.specs.Translation.{CanBeCompiled, HasLayout, IsLaidOut, IsTranslation};
+ghost use Rattle.p3_cli.specs.WrittenText.{HasFaithfulText};
 
 use crate::Ending;
 use crate::acceptance::{accepted, spelled_task};
 use crate::product::Product;
 use crate::report::compiled_report;
-use crate::request::Written;
+use crate::request::writing;
 use crate::texts::Texts;
 use p3_base::{NoMemory, Role, Side, Word};
 use p3_compile::compile;
 use p3_eval::Whole;
-use p3_formula::Target;
 use p3_writer::{write_domain, write_problem};
 use std::alloc::Global;
 
-/// The names of the two files that a target is written to.
-#[derive(Clone, Copy)]
-pub(crate) struct TargetFiles<'a> {
-    pub(crate) domain: &'a Word,
-    pub(crate) problem: &'a Word,
+/// The texts of a translation of a task, and the report.
+#[derive(Drop)]
+pub(crate) struct Translation {
+    /// The domain.
+    pub(crate) domain: Vec<u8>,
+    /// The problem.
+    pub(crate) problem: Vec<u8>,
+    /// The report.
+    pub(crate) report: Vec<u8>,
+}
+
+impl Translation {
+    ghost use Rattle.p3_tree.specs.Commands.{output};
+    ghost use Rattle.p3_base.specs.declared.refusal.Role.TheVariants as role;
+    ghost use Rattle.p3_cli.specs.Asked.{asked_writings};
+
+    /// What is written to the files of these names, and the report.
+    pub(crate) fn product<'a>(
+        self,
+        alloc: Global,
+        domain: &'a Word,
+        problem: &'a Word,
+    ) -> Result<Product<'a>, NoMemory>
+        ensures writings { IfOk result (λ product. asked_writings product.writings.items
+            ≡ (output role.WrittenDomain domain.now, self.domain.items)
+            ∷ (output role.WrittenProblem problem.now, self.problem.items) ∷ []) }
+        ensures report { IfOk result (λ product. product.report.items ≡ self.report.items) }
+    {
+        Ok(Product {
+            writings: vec![in alloc;
+                writing(Role::WrittenDomain, domain, self.domain),
+                writing(Role::WrittenProblem, problem, self.problem),
+            ]?,
+            report: self.report,
+        })
+    }
 }
 
 /// Translates the task that the two texts spell.
-pub(crate) fn translate<'a>(
-    alloc: Global,
-    files: &TargetFiles<'a>,
-    texts: &Texts<'_>,
-) -> Result<Product<'a>, Ending>
-    ensures outputs { IfOk result (λ product.
-        map (λ written. written.0) (asked_writings product.writings.items)
-        ≡ target_outputs files.now.domain.now files.now.problem.now) }
-    ensures made { IfOk result (λ product. OfTwoTexts
-        (λ od op. IsTranslation texts.now.domain.now texts.now.problem.now od op product.report.items)
-        (asked_writings product.writings.items)) }
+pub(crate) fn translate(alloc: Global, texts: &Texts<'_>) -> Result<Translation, Ending>
+    ensures means { IfOk result (λ made. IsTranslation texts.now.domain.now texts.now.problem.now
+        made.domain.items made.problem.items made.report.items) }
+    ensures layout { IfOk result (λ made. HasLayout texts.now.domain.now texts.now.problem.now
+        made.domain.items made.problem.items) }
     ensures err { IfErr result (IsRefusedTask (all_texts texts.now)) }
 {
     let task = spelled_task(alloc, Side::Source, texts)?;
     let whole = accepted(alloc, Side::Source, texts, task)?;
-    let product = translation(alloc, files, &whole)?;
-    Ok(product)
+    let made = translation_of(alloc, &whole)?;
+    Ok(made)
 }
 
 /// What is written of a task of which nothing is refused, and the report.
-fn translation<'a>(
-    alloc: Global,
-    files: &TargetFiles<'a>,
-    whole: &Whole,
-) -> Result<Product<'a>, NoMemory>
+fn translation_of(alloc: Global, whole: &Whole) -> Result<Translation, NoMemory>
     requires { CanBeCompiled whole.now.checked.task whole.now.ground_task whole.now.weights }
-    ensures outputs { IfOk result (λ product.
-        map (λ written. written.0) (asked_writings product.writings.items)
-        ≡ target_outputs files.now.domain.now files.now.problem.now) }
-    ensures made { IfOk result (λ product. OfTwoTexts
-        (λ od op. IsWritten whole.now.checked.task od op product.report.items)
-        (asked_writings product.writings.items)) }
+    ensures text { IfOk result (λ made.
+        HasFaithfulText made.domain.items made.problem.items whole.now.checked.task) }
+    ensures layout { IfOk result (λ made.
+        IsLaidOut whole.now.checked.task made.domain.items made.problem.items) }
+    ensures report { IfOk result (λ made.
+        made.report.items ≡ compiled_lines whole.now.checked.task) }
 {
     let target = compile(alloc, whole.ground_task(), whole.weights())?;
-    let writings = writings(alloc, files, &target)?;
-    let report = compiled_report(alloc, whole)?;
-    Ok(Product { writings, report })
-}
-
-/// The two texts of a target, with the names of their files.
-fn writings<'a>(
-    alloc: Global,
-    files: &TargetFiles<'a>,
-    target: &Target,
-) -> Result<Vec<Written<'a>>, NoMemory>
-    requires sized { IsSized target.now }
-    requires named { IsNamed target.now }
-    ensures outputs { IfOk result (λ writings.
-        map (λ written. written.0) (asked_writings writings.items)
-        ≡ target_outputs files.now.domain.now files.now.problem.now) }
-    ensures texts { IfOk result (λ writings.
-        OfTwoTexts (AreTextsOf target.now) (asked_writings writings.items)) }
-{
-    let domain = Written {
-        role: Role::WrittenDomain,
-        name: files.domain,
-        text: write_domain(alloc, target)?,
-    };
-    let problem = Written {
-        role: Role::WrittenProblem,
-        name: files.problem,
-        text: write_problem(alloc, target)?,
-    };
-    Ok(vec![in alloc; domain, problem]?)
+    Ok(Translation {
+        domain: write_domain(alloc, &target)?,
+        problem: write_problem(alloc, &target)?,
+        report: compiled_report(alloc, whole)?,
+    })
 }

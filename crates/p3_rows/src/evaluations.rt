@@ -1,7 +1,7 @@
 //! Plans that are judged, each with what is printed of it.
 
 use crate::trucks::{TRUCKS_DOMAIN, TRUCKS_PROBLEM};
-use crate::world::{DOMAIN, PROBLEM, World};
+use crate::world::{DOMAIN, PROBLEM, World, replaced};
 use p3_base::Word;
 use std::process::Abort;
 use std::test::Fail;
@@ -28,6 +28,10 @@ fn judges(
     Ok(())
 }
 
+/// An action whose precondition names a variable of another type.
+const SHADOWS: &[u8] =
+    b"(define (domain d) (:types t u) (:predicates (p ?x)) (:action a :parameters (?x - t) :precondition (exists (?x - u) (p ?x))))";
+
 /// A lamp that is switched on and off.
 const LAMP: &[u8] =
     b"(define (domain d) (:predicates (p)) (:action on :effect (p)) (:action off :effect (not (p))))";
@@ -44,7 +48,7 @@ fn each_plan_has_its_counts_and_its_value(rt: HostRuntime) -> Result<(), Fail> {
         b"(define (problem q) (:domain d) (:init) (:constraints (preference o (at-most-once (p)))) (:goal (and)) (:metric minimize (is-violated o)))".as_slice();
     let after =
         b"(define (problem q) (:domain d) (:init) (:constraints (preference c (sometime-after (f) (g)))) (:goal (and)) (:metric minimize (is-violated c)))".as_slice();
-    let cases: [((&[u8], &[u8]), &[u8], &str); 9] = [
+    let cases: [((&[u8], &[u8]), &[u8], &str); 11] = [
         (
             (DOMAIN.as_bytes(), PROBLEM.as_bytes()),
             b"(A)",
@@ -102,6 +106,24 @@ fn each_plan_has_its_counts_and_its_value(rt: HostRuntime) -> Result<(), Fail> {
             b"",
             "valid\nsteps 0\ncost 0\nviolated g 1\nmetric 97\n",
         ),
+        // A variable within hides the one outside.
+        (
+            (
+                SHADOWS,
+                b"(define (problem q) (:domain d) (:objects o - t w - u) (:init (p w)) (:goal (and)))",
+            ),
+            b"(a o)",
+            "valid\nsteps 1\ncost 0\nmetric 0\n",
+        ),
+        // A type without objects.
+        (
+            (
+                b"(define (domain d) (:types t) (:predicates (p ?x)))",
+                b"(define (problem q) (:domain d) (:init) (:goal (and (forall (?x - t) (preference g (p ?x))) (preference h (forall (?x - t) (p ?x))))))",
+            ),
+            b"",
+            "valid\nsteps 0\ncost 0\nviolated g 0\nviolated h 0\nmetric 0\n",
+        ),
     ];
     for (task, plan, lines) in cases {
         judges(&rt, task, plan, 0, lines)?;
@@ -138,6 +160,56 @@ fn a_delivery_is_judged_up_to_its_first_fault(rt: HostRuntime) -> Result<(), Fai
         judges(&rt, task, plan, status, lines)?;
     }
     Ok(())
+}
+
+#[test]
+fn a_step_needs_its_precondition(rt: HostRuntime) -> Result<(), Fail> {
+    let shadowed =
+        b"(define (problem q) (:domain d) (:objects o - t) (:init (p o)) (:goal (and)))".as_slice();
+    judges(
+        &rt,
+        (SHADOWS, shadowed),
+        b"(a o)",
+        1,
+        "invalid step 1: precondition\n",
+    )?;
+    let once =
+        b"(define (domain d) (:predicates (p)) (:action a :precondition (not (p)) :effect (p)))".as_slice();
+    let dark = b"(define (problem q) (:domain d) (:init) (:goal (and)))".as_slice();
+    judges(
+        &rt,
+        (once, dark),
+        b"(a) (a)",
+        1,
+        "invalid step 2: precondition\n",
+    )
+}
+
+#[test]
+fn quantities_have_the_places_of_the_task(rt: HostRuntime) -> Result<(), Fail> {
+    let alloc = rt.alloc();
+    let problem = replaced(alloc, TRUCKS_PROBLEM, "a b) 4)", "a b) 4.25)")?;
+    let plan =
+        b"(load c1 t1 a) (load c2 t1 a) (drive t1 a b) (unload c1 t1 b) (drive t1 b c) (unload c2 t1 c)";
+    let lines =
+        "valid\nsteps 6\ncost 11.25\nviolated light 1\nviolated home 0\nviolated back 1\nviolated once 0\nviolated late 0\nmetric 37.25\n";
+    let task = (TRUCKS_DOMAIN.as_bytes(), problem.as_slice());
+    judges(&rt, task, plan, 0, lines)
+}
+
+#[test]
+fn a_plan_has_a_million_steps_at_most(rt: HostRuntime) -> Result<(), Fail> {
+    let alloc = rt.alloc();
+    let task = (DOMAIN.as_bytes(), PROBLEM.as_bytes());
+    let mut plan = Vec::new(alloc);
+    for _ in 0..1_000_000 {
+        plan.extend_from_slice(b"(a)\n")?;
+    }
+    let lines = "valid\nsteps 1000000\ncost 0\nviolated g 0\nmetric 0\n";
+    judges(&rt, task, plan.as_slice(), 0, lines)?;
+    plan.extend_from_slice(b"(a)\n")?;
+    let line = "refused 18 too many steps: plan 1000001:1 (\n";
+    judges(&rt, task, plan.as_slice(), 2, line)
 }
 
 #[test]

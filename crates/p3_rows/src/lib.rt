@@ -2,6 +2,8 @@
 #![tactic(auto)]
 
 #[cfg(test)]
+mod both_ways;
+#[cfg(test)]
 mod evaluations;
 #[cfg(test)]
 mod examples;
@@ -19,6 +21,8 @@ mod reading;
 mod refusals;
 #[cfg(test)]
 mod rows;
+#[cfg(test)]
+mod samples;
 #[cfg(test)]
 mod translations;
 #[cfg(test)]

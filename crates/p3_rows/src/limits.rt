@@ -7,6 +7,16 @@ use crate::world::DOMAIN;
 use std::alloc::Global;
 use std::test::Fail;
 
+/// A task with an action whose precondition has as many preferences as there are objects.
+const WIDE_DOMAIN: &[u8] =
+    b"(define (domain d) (:types t) (:predicates (r ?x))\n(:action b :parameters (?x) :effect (r ?x))\n(:action a :precondition (forall (?x) (preference w (r ?x)))))\n";
+
+/// How its problem ends, behind the objects.
+const WIDE_ENDS: &[u8] = b")\n(:goal (and)) (:metric minimize (is-violated w)))\n";
+
+/// How a problem begins, up to its objects.
+const BEGINS: &[u8] = b"(define (problem q) (:domain d) (:init) (:objects";
+
 #[test]
 fn a_metric_is_refused_at_the_word(rt: HostRuntime) -> Result<(), Fail> {
     let cases: [(&str, &str); 6] = [
@@ -57,9 +67,9 @@ fn an_action_is_refused_that_is_too_dear(rt: HostRuntime) -> Result<(), Fail> {
     refuses(&rt, domain, problem, line)
 }
 
-/// A problem that begins so, with so many objects of a type behind it, and ends so.
-fn with_objects(alloc: Global, begins: &[u8], count: u32, ends: &[u8]) -> Result<Vec<u8>, Fail> {
-    let mut text = Vec::from_slice(alloc, begins)?;
+/// A problem with so many objects of a type, that ends so behind them.
+fn with_objects(alloc: Global, count: u32, ends: &[u8]) -> Result<Vec<u8>, Fail> {
+    let mut text = Vec::from_slice(alloc, BEGINS)?;
     for number in 0..count {
         text.extend_from_slice(format!(in alloc; " o{number}")?.as_bytes())?;
     }
@@ -70,7 +80,6 @@ fn with_objects(alloc: Global, begins: &[u8], count: u32, ends: &[u8]) -> Result
 #[test]
 fn sizes_are_refused_beyond_their_limits(rt: HostRuntime) -> Result<(), Fail> {
     let alloc = rt.alloc();
-    let begins = b"(define (problem q) (:domain d) (:init) (:objects";
     let cases: [(&[u8], u32, &[u8], &str); 4] = [
         (
             b"(define (domain d) (:predicates (p))\n(:action a :parameters (?a ?b ?c ?d ?e ?f ?g ?h ?i) :effect (p)))\n",
@@ -91,16 +100,24 @@ fn sizes_are_refused_beyond_their_limits(rt: HostRuntime) -> Result<(), Fail> {
             "refused 16 too many preferences: problem 2:25 preference\n",
         ),
         (
-            b"(define (domain d) (:types t) (:predicates (r ?x))\n(:action b :parameters (?x) :effect (r ?x))\n(:action a :precondition (forall (?x) (preference w (r ?x)))))\n",
+            WIDE_DOMAIN,
             201,
-            b")\n(:goal (and)) (:metric minimize (is-violated w)))\n",
+            WIDE_ENDS,
             "refused 17 split too wide: domain 3:10 a\n",
         ),
     ];
     for (domain, count, ends, line) in cases {
-        let problem = with_objects(alloc, begins, count, ends)?;
+        let problem = with_objects(alloc, count, ends)?;
         refuses(&rt, domain, problem.as_slice(), line)?;
     }
+    Ok(())
+}
+
+#[test]
+fn a_step_may_have_two_hundred_preferences(rt: HostRuntime) -> Result<(), Fail> {
+    let problem = with_objects(rt.alloc(), 200, WIDE_ENDS)?;
+    let report = "steps 201\npreferences 0\nbase 0\ndirection minimize\n";
+    translated(&rt, WIDE_DOMAIN, problem.as_slice(), report)?;
     Ok(())
 }
 

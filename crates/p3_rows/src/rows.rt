@@ -47,7 +47,8 @@ impl Row<'_> {
 const WITH_COMMENT: &[u8] =
     b"(DEFINE (Domain D) (:Predicates (P)) ; caf\xc3\xa9\n(:action a :parameters () :precondition () :effect (p)))\n";
 
-const USAGE: &str = "usage: pddl3c compile D P OD OP\n       pddl3c evaluate D P PLAN\n";
+const USAGE: &str =
+    "usage: pddl3c compile D P OD OP\n       pddl3c lift D P OD OP PLAN OUT\n       pddl3c embed D P PLAN OD OP OUT\n       pddl3c evaluate D P PLAN\n       pddl3c generate N D P PLAN\n";
 
 #[test]
 fn each_run_ends_as_it_must(rt: HostRuntime) -> Result<(), Fail> {
@@ -72,6 +73,30 @@ fn each_run_ends_as_it_must(rt: HostRuntime) -> Result<(), Fail> {
         },
         Row {
             words: &["compile", "d", "p", "od", ""],
+            status: 64,
+            printed: USAGE,
+            ..example
+        },
+        Row {
+            words: &["generate", "0", "x", "y", "z"],
+            status: 64,
+            printed: USAGE,
+            ..example
+        },
+        Row {
+            words: &["generate", "201", "x", "y", "z"],
+            status: 64,
+            printed: USAGE,
+            ..example
+        },
+        Row {
+            words: &["generate", "03", "x", "y", "z"],
+            status: 64,
+            printed: USAGE,
+            ..example
+        },
+        Row {
+            words: &["embed", "d", "p", "plan", "x", "y", "x"],
             status: 64,
             printed: USAGE,
             ..example

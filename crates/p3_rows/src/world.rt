@@ -26,6 +26,22 @@ pub(crate) const REPORT: &str = "steps 1\npreferences 1\nbase 0\ndirection minim
 /// The words of the translation.
 pub(crate) const COMPILE: [&str; 5] = ["compile", "d", "p", "od", "op"];
 
+/// The text with one part of it replaced, where it has that part.
+pub(crate) fn replaced(
+    alloc: Global,
+    text: &str,
+    old: &str,
+    new: &str,
+) -> Result<Vec<u8>, NoMemory> {
+    let Some((before, behind)) = text.split_once(old) else {
+        return Vec::from_slice(alloc, text.as_bytes()).map_err(NoMemory::from);
+    };
+    let mut bytes = Vec::from_slice(alloc, before.as_bytes())?;
+    bytes.extend_from_slice(new.as_bytes())?;
+    bytes.extend_from_slice(behind.as_bytes())?;
+    Ok(bytes)
+}
+
 /// Files and a sink in memory.
 #[derive(Drop)]
 pub(crate) struct World {

@@ -1,22 +1,22 @@
-use Rattle.p3_cli.specs.Request.{command_asked}
+use Rattle.p3_tree.specs.Commands.{command_of}
 use Rattle.p3_cli.proofs.MeaningLemmas.{has_words, done_is_faithful, done_is_laid_out}
 use Rattle.p3_cli.proofs.RunLemmas.{refused, rejects, completes, others_stay}
 use Rattle.p3_cli.proofs.call.run.Goals as goal
 
 pub returns-clause-rejects : goal.returns-clause-rejects
-returns-clause-rejects g c = rejects (command_asked c.args.words.now) _ _ _ _ _ _ c.ending_of-ending.ensures.answers c.told.ensures
+returns-clause-rejects g c = rejects (command_of c.args.words.now) _ _ _ _ _ _ c.ending_of-ending.ensures.answers c.told.ensures
 
 pub returns-clause-completes : goal.returns-clause-completes
-returns-clause-completes g c = completes (command_asked c.args.words.now) _ _ _ _ _ _ c.ending_of-ending.ensures.answers c.told.ensures
+returns-clause-completes g c = completes (command_of c.args.words.now) _ _ _ _ _ _ c.ending_of-ending.ensures.answers c.told.ensures
 
 pub returns-clause-others : goal.returns-clause-others
-returns-clause-others g c = others_stay (command_asked c.args.words.now) _ _ c.ending_of-ending.result c.ending_of-ending.ensures.answers
+returns-clause-others g c = others_stay (command_of c.args.words.now) _ _ c.ending_of-ending.result c.ending_of-ending.ensures.answers
 
 pub returns-clause-faithful : goal.returns-clause-faithful
-returns-clause-faithful g c = done_is_faithful (command_asked c.args.words.now) (has_words c.args.words.now) _ _ _ _ _ c.ending_of-ending.result c.ending_of-ending.ensures.answers c.told.ensures
+returns-clause-faithful g c = done_is_faithful (command_of c.args.words.now) (has_words c.args.words.now) _ _ _ _ _ c.ending_of-ending.result c.ending_of-ending.ensures.answers c.told.ensures
 
 pub returns-clause-layout : goal.returns-clause-layout
-returns-clause-layout g c = done_is_laid_out (command_asked c.args.words.now) (has_words c.args.words.now) _ _ _ _ _ c.ending_of-ending.result c.ending_of-ending.ensures.answers c.told.ensures
+returns-clause-layout g c = done_is_laid_out (command_of c.args.words.now) (has_words c.args.words.now) _ _ _ _ _ c.ending_of-ending.result c.ending_of-ending.ensures.answers c.told.ensures
 
 pub returns-clause-refused : goal.returns-clause-refused
-returns-clause-refused g c = refused (command_asked c.args.words.now) _ _ _ _ _ _ c.ending_of-ending.ensures.answers c.told.ensures
+returns-clause-refused g c = refused (command_of c.args.words.now) _ _ _ _ _ _ c.ending_of-ending.ensures.answers c.told.ensures

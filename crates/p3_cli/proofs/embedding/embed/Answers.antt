@@ -1,0 +1,60 @@
+use Rattle.std.proofs.Common.{subst}
+use Rattle.p3_formula.specs.Targets.{Compiled}
+use Rattle.p3_compile.specs.Lean.{IsLean}
+use Rattle.p3_cli.specs.Refusing.{all_texts}
+use Rattle.p3_cli.proofs.EmbeddingLemmas.{embedded_words, is_embedded}
+use Rattle.p3_cli.proofs.ProductLemmas.{faulty_plan}
+use Rattle.p3_cli.proofs.TranslationLemmas.{is_laid_out}
+use Rattle.p3_cli.proofs.embedding.embed.Goals as goal
+
+pub returns-in-Err-clause-err : goal.returns-in-Err-clause-err
+returns-in-Err-clause-err c =
+    let whole = c.in_ok-whole in
+    let plan = c.in_ok-plan in
+    faulty_plan (all_texts c.args.texts.now) whole.whole.checked.task whole.ensures.accepted plan.plan plan.ensures.spelled plan.ensures.few c.in-Err.ending c.in-Err.ensures.err
+
+pub embedding_of-requires-clause-named : goal.embedding_of-requires-clause-named
+embedding_of-requires-clause-named c =
+    let whole = c.in_ok-whole.whole in
+    let X = c.in_ok-target.target in
+    let compiled = subst (λ ground. Compiled ground whole.weights X) c.ground_task.ensures (subst (λ weights. Compiled c.ground_task.result.now weights X) c.weights.ensures.weights c.in_ok-target.ensures.compiled) in
+    embedded_words whole.checked.task whole.ground_task whole.weights X c.in_ok-plan.plan c.in-Ok.embedded.plan compiled c.in-Ok.ensures.plan
+
+pub returns-clause-means : goal.returns-clause-means
+returns-clause-means c =
+    let whole = c.in_ok-whole in
+    let T = whole.whole.checked.task in
+    let G = whole.whole.ground_task in
+    let w = whole.whole.weights in
+    let X = c.in_ok-target.target in
+    let plan = c.in_ok-plan in
+    let source = c.in-Ok in
+    let made = c.in_ok-made in
+    let compiled = subst (λ ground. Compiled ground w X) c.ground_task.ensures (subst (λ weights. Compiled c.ground_task.result.now weights X) c.weights.ensures.weights c.in_ok-target.ensures.compiled) in
+    record {
+      task = T;
+      plan = plan.plan;
+      texts = record { accepted = whole.ensures.accepted; spelled = plan.ensures.spelled; few = plan.ensures.few };
+      valid = source.ensures.valid;
+      embedded =
+          is_embedded T G w X whole.ensures.ready compiled plan.plan source.embedded.plan source.embedded.cost source.ensures.plan source.ensures.cost
+          made.made.domain.items made.made.problem.items made.made.plan.items made.made.report.items
+          made.ensures.text.domain_text made.ensures.text.problem_text made.ensures.plan made.ensures.report;
+    }
+
+pub returns-clause-layout : goal.returns-clause-layout
+returns-clause-layout c =
+    let whole = c.in_ok-whole in
+    let T = whole.whole.checked.task in
+    let G = whole.whole.ground_task in
+    let w = whole.whole.weights in
+    let target = c.in_ok-target in
+    let X = target.target in
+    let made = c.in_ok-made in
+    let compiled = subst (λ ground. Compiled ground w X) c.ground_task.ensures (subst (λ weights. Compiled c.ground_task.result.now weights X) c.weights.ensures.weights target.ensures.compiled) in
+    let lean = subst (λ ground. IsLean ground w X) c.ground_task.ensures (subst (λ weights. IsLean c.ground_task.result.now weights X) c.weights.ensures.weights target.ensures.lean) in
+    record {
+      task = T;
+      accepted = whole.ensures.accepted;
+      laid_out = is_laid_out T G w X whole.ensures.ready compiled target.ensures.tidy lean made.made.domain.items made.made.problem.items made.ensures.text.domain made.ensures.text.problem;
+    }

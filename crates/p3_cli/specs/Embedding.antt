@@ -1,0 +1,36 @@
+-- What `embed` makes of the texts of a task and of a plan for it.
+use Rattle.std.specs.Prelude.{ℕ, ◌≡◌, List, length}
+use Rattle.p3_tree.specs.Faithful.{Faithful}
+use Rattle.p3_tree.specs.Grammar.Texts.{Reads}
+use Rattle.p3_tree.specs.Lifting.{lift}
+use Rattle.p3_tree.specs.Metrics.{value}
+use Rattle.p3_tree.specs.Plans.{Plan}
+use Rattle.p3_tree.specs.PlanTexts.{IsPlanText}
+use Rattle.p3_tree.specs.Reports.Plans.{embedded_lines}
+use Rattle.p3_tree.specs.Validity.{Valid}
+use Rattle.p3_tree.specs.declared.task.Task.{Task}
+use Rattle.p3_cli.specs.Evaluation.{AreOfPlan}
+
+-- the one valid plan of the written task that lifts to the plan
+pub record IsSource (T U : Task) (plan source : Plan) : Type 0 where
+  pub valid : Valid U source
+  pub lifts : lift T source ≡ plan
+  pub only : (other : Plan) → Valid U other → lift T other ≡ plan → other ≡ source
+
+-- the texts od and op are a faithful translation of the task, and the third is one of the plan's source
+pub record IsEmbedded (T : Task) (plan : Plan) (od op text report : List ℕ) : Type 0 where
+  pub written : Task
+  pub reads : Reads od op written
+  pub faithful : Faithful T written
+  pub source : Plan
+  pub spelled : IsPlanText text source
+  pub embeds : IsSource T written plan source
+  pub told : report ≡ embedded_lines T (length source) (value written source)
+
+-- nothing is refused of d, p and q, the plan is valid, and the texts and the report are made of the task and of the plan
+pub record IsEmbedding (d p q od op text report : List ℕ) : Type 0 where
+  pub task : Task
+  pub plan : Plan
+  pub texts : AreOfPlan d p q task plan
+  pub valid : Valid task plan
+  pub embedded : IsEmbedded task plan od op text report

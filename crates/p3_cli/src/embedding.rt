@@ -1,0 +1,146 @@
+//! What `embed` makes of the texts of a task and of a plan for it.
+
+ghost use Rattle.std.specs.Prelude.{◌≡◌, ◌≤◌, ◌∷◌, [], IfErr, IfOk, IsTrue, OnOk, length, pos};
+ghost use Rattle.std.specs.List.{list_all};
+ghost use Rattle.p3_tree.specs.PlanTexts.{IsPlanText, step_limit};
+ghost use Rattle.p3_tree.specs.Reports.Plans.{embedded_lines};
+ghost use Rattle.p3_tree.specs.Validity.{Valid};
+ghost use Rattle.p3_formula.specs.Targets.{Compiled, target_cost};
+ghost use Rattle.p3_ground.specs.PlansByNumber.{names_of};
+ghost use Rattle.p3_plans.specs.Layout.{has_written_words};
+ghost use Rattle.p3_embed.specs.Plans.{IsEmbeddedPlan};
+ghost use Rattle.p3_cli.specs.Embedding.{IsEmbedding};
+ghost use Rattle.p3_cli.specs.Evaluation.{IsFaultOf, IsRejectedPlan};
+ghost use Rattle.p3_cli.specs.Refusing.{IsRejectedBy, all_texts};
+ghost use Rattle.p3_cli.specs.Translation.{AreTextsOf, CanBeCompiled, HasLayout};
+ghost use Rattle.p3_cli.specs.WrittenText.{HasPlanLayout};
+
+use crate::Ending;
+use crate::acceptance::plan_of;
+use crate::embedded_report::embedded_report;
+use crate::evaluation::{invalid, judged_task};
+use crate::product::Product;
+use crate::request::writing;
+use crate::texts::Texts;
+use p3_base::{NoMemory, Role, Word};
+use p3_compile::compile;
+use p3_embed::{EmbedFail, Embedded};
+use p3_eval::Whole;
+use p3_formula::Target;
+use p3_plans::write_plan;
+use p3_tree::Plan;
+use p3_writer::{write_domain, write_problem};
+use std::alloc::Global;
+
+/// The texts of a translation of a task and of the source of a plan, and the report.
+#[derive(Drop)]
+pub(crate) struct Embedding {
+    /// The domain.
+    pub(crate) domain: Vec<u8>,
+    /// The problem.
+    pub(crate) problem: Vec<u8>,
+    /// The plan.
+    pub(crate) plan: Vec<u8>,
+    /// The report.
+    pub(crate) report: Vec<u8>,
+}
+
+impl Embedding {
+    ghost use Rattle.p3_tree.specs.Commands.{output};
+    ghost use Rattle.p3_base.specs.declared.refusal.Role.TheVariants as role;
+    ghost use Rattle.p3_cli.specs.Asked.{asked_writings};
+
+    /// What is written to the files of these names, and the report.
+    pub(crate) fn product<'a>(
+        self,
+        alloc: Global,
+        domain: &'a Word,
+        problem: &'a Word,
+        plan: &'a Word,
+    ) -> Result<Product<'a>, NoMemory>
+        ensures writings { IfOk result (λ product. asked_writings product.writings.items
+            ≡ (output role.WrittenDomain domain.now, self.domain.items)
+            ∷ (output role.WrittenProblem problem.now, self.problem.items)
+            ∷ (output role.Plan plan.now, self.plan.items) ∷ []) }
+        ensures report { IfOk result (λ product. product.report.items ≡ self.report.items) }
+    {
+        Ok(Product {
+            writings: vec![in alloc;
+                writing(Role::WrittenDomain, domain, self.domain),
+                writing(Role::WrittenProblem, problem, self.problem),
+                writing(Role::Plan, plan, self.plan),
+            ]?,
+            report: self.report,
+        })
+    }
+}
+
+/// Translates the task that two texts spell, and with it the plan that the third one spells.
+pub(crate) fn embed(alloc: Global, texts: &Texts<'_>) -> Result<Embedding, Ending>
+    ensures means { IfOk result (λ made. IsEmbedding
+        texts.now.domain.now texts.now.problem.now texts.now.plan.now
+        made.domain.items made.problem.items made.plan.items made.report.items) }
+    ensures layout { IfOk result (λ made. HasLayout texts.now.domain.now texts.now.problem.now
+        made.domain.items made.problem.items) }
+    ensures lines { IfOk result (λ made. HasPlanLayout made.plan.items) }
+    ensures err { IfErr result (IsRejectedPlan (all_texts texts.now)) }
+{
+    let whole = judged_task(alloc, texts)?;
+    let plan = plan_of(alloc, texts.plan)?;
+    let target = compile(alloc, whole.ground_task(), whole.weights())?;
+    let embedded = match embedded(alloc, &whole, &target, &plan) {
+        Ok(embedded) => embedded,
+        Err(ending) => return Err(ending),
+    };
+    let made = embedding_of(alloc, &whole, &target, &embedded)?;
+    Ok(made)
+}
+
+/// The source of the plan in the target, where it is valid.
+pub(crate) fn embedded(
+    alloc: Global,
+    whole: &Whole,
+    target: &Target,
+    plan: &Plan,
+) -> Result<Embedded, Ending>
+    requires compiled { Compiled whole.now.ground_task whole.now.weights target.now }
+    requires few { length plan.now ≤ step_limit }
+    ensures valid { OnOk result (Valid whole.now.checked.task plan.now) }
+    ensures plan { IfOk result (λ embedded. IsEmbeddedPlan
+        whole.now.checked.task whole.now.ground_task target.now plan.now embedded.plan) }
+    ensures cost { IfOk result (λ embedded. embedded.cost
+        ≡ pos (target_cost target.now (names_of embedded.plan))) }
+    ensures err { IfErr result
+        (IsRejectedBy (λ how. IsFaultOf whole.now.checked.task how plan.now)) }
+{
+    match p3_embed::embed(alloc, whole, target, plan) {
+        Ok(embedded) => Ok(embedded),
+        Err(EmbedFail::Invalid(fault)) => Err(invalid(alloc, &fault)),
+        Err(EmbedFail::NoMemory) => Err(Ending::OutOfMemory),
+    }
+}
+
+/// What is written of a task, its target and a plan that is embedded in it, and the report.
+fn embedding_of(
+    alloc: Global,
+    whole: &Whole,
+    target: &Target,
+    embedded: &Embedded,
+) -> Result<Embedding, NoMemory>
+    requires can { CanBeCompiled
+        whole.now.checked.task whole.now.ground_task whole.now.weights }
+    requires compiled { Compiled whole.now.ground_task whole.now.weights target.now }
+    requires named { IsTrue (list_all has_written_words embedded.now.plan) }
+    ensures text { IfOk result (λ made. AreTextsOf target.now made.domain.items made.problem.items) }
+    ensures plan { IfOk result (λ made. IsPlanText made.plan.items embedded.now.plan) }
+    ensures lines { IfOk result (λ made. HasPlanLayout made.plan.items) }
+    ensures report { IfOk result (λ made. made.report.items ≡ embedded_lines
+        whole.now.checked.task (length embedded.now.plan) embedded.now.cost) }
+{
+    Ok(Embedding {
+        domain: write_domain(alloc, target)?,
+        problem: write_problem(alloc, target)?,
+        plan: write_plan(alloc, &embedded.plan)?,
+        report: embedded_report(alloc, whole, embedded)?,
+    })
+}

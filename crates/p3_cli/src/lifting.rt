@@ -1,0 +1,155 @@
+//! What `lift` makes of the texts of a task, of one that is written for it, and of a plan for that.
+
+ghost use Rattle.std.specs.Prelude.{◌≡◌, ◌≤◌, ◌∷◌, [], IfErr, IfOk, IsTrue, None, OnErr, OnOk, length};
+ghost use Rattle.std.specs.List.{list_all};
+ghost use Rattle.p3_base.specs.declared.refusal.Side.TheVariants.{Source};
+ghost use Rattle.p3_base.specs.declared.refusal.Side.TheVariants as side;
+ghost use Rattle.p3_tree.specs.Metrics.{value};
+ghost use Rattle.p3_tree.specs.PlanTexts.{IsPlanText, plan_offence};
+ghost use Rattle.p3_tree.specs.Reports.Plans.{lifted_lines};
+ghost use Rattle.p3_plans.specs.Layout.{has_written_words};
+ghost use Rattle.p3_cli.specs.Lifting.{IsLifting, RejectsLift, TellsFail, given_lift};
+ghost use Rattle.p3_cli.specs.Refusing.{
+  AreAcceptedFor,
+  IsRefusal,
+  IsRejectedBy,
+  IsSpelled,
+  all_texts,
+  task_texts,
+};
+ghost use Rattle.p3_cli.specs.WrittenText.{HasPlanLayout};
+ghost use Rattle.p3_cli.specs.declared.ending.Ending.TheVariants.{OutOfMemory, Refused};
+
+use crate::Ending;
+use crate::acceptance::{accepted, plan_of, readable_plan, spelled_task};
+use crate::evaluation::invalid;
+use crate::plan_report::{differ_line, lifted_report, not_plain_line};
+use crate::product::Product;
+use crate::request::writing;
+use crate::texts::Texts;
+use p3_base::{List, NoMemory, Role, Side, Word};
+use p3_eval::Whole;
+use p3_lift::{LiftFail, Lifted};
+use p3_plans::write_plan;
+use p3_tree::Task;
+use std::alloc::Global;
+
+/// The text of a lifted plan, and the report.
+#[derive(Drop)]
+pub(crate) struct Lifting {
+    /// The plan.
+    pub(crate) plan: Vec<u8>,
+    /// The report.
+    pub(crate) report: Vec<u8>,
+}
+
+impl Lifting {
+    ghost use Rattle.p3_tree.specs.Commands.{output};
+    ghost use Rattle.p3_base.specs.declared.refusal.Role.TheVariants as role;
+    ghost use Rattle.p3_cli.specs.Asked.{asked_writings};
+
+    /// What is written to the file of that name, and the report.
+    pub(crate) fn product<'a>(self, alloc: Global, plan: &'a Word) -> Result<Product<'a>, NoMemory>
+        ensures writings { IfOk result (λ product. asked_writings product.writings.items
+            ≡ (output role.Plan plan.now, self.plan.items) ∷ []) }
+        ensures report { IfOk result (λ product. product.report.items ≡ self.report.items) }
+    {
+        Ok(Product {
+            writings: vec![in alloc; writing(Role::Plan, plan, self.plan)]?,
+            report: self.report,
+        })
+    }
+}
+
+/// Brings the plan that the last text spells back to the task that the first two texts spell.
+pub(crate) fn lift(alloc: Global, texts: &Texts<'_>) -> Result<Lifting, Ending>
+    ensures means { IfOk result (λ made. IsLifting
+        texts.now.domain.now texts.now.problem.now
+        texts.now.written_domain.now texts.now.written_problem.now texts.now.plan.now
+        made.plan.items made.report.items) }
+    ensures lines { IfOk result (λ made. HasPlanLayout made.plan.items) }
+    ensures err { IfErr result (IsRejectedBy (RejectsLift (all_texts texts.now))) }
+{
+    let (source, written) = both_tasks(alloc, texts)?;
+    let plan = plan_of(alloc, texts.plan)?;
+    let lifted = match p3_lift::lift(alloc, &source, &written, &plan) {
+        Ok(lifted) => lifted,
+        Err(fail) => return Err(unlifted(alloc, &fail)),
+    };
+    let made = lifting_of(alloc, &source, &lifted)?;
+    Ok(made)
+}
+
+/// The two tasks that the texts spell, where nothing is refused of them and of the plan's text.
+fn both_tasks(alloc: Global, texts: &Texts<'_>) -> Result<(Whole, Whole), Ending>
+    ensures source { IfOk result (λ both.
+        AreAcceptedFor Source (all_texts texts.now) both.0.checked.task) }
+    ensures written { IfOk result (λ both.
+        AreAcceptedFor side.Written (all_texts texts.now) both.1.checked.task) }
+    ensures free { OnOk result (plan_offence texts.now.plan.now ≡ None) }
+    ensures err { IfErr result (IsRejectedBy
+        (IsRefusal (given_lift (all_texts texts.now)) (all_texts texts.now))) }
+{
+    let (source, written) = spelled_tasks(alloc, texts)?;
+    let source = match accepted(alloc, Side::Source, texts, source) {
+        Ok(source) => source,
+        Err(ending) => return Err(ending),
+    };
+    match accepted(alloc, Side::Written, texts, written) {
+        Ok(written) => Ok((source, written)),
+        Err(ending) => Err(ending),
+    }
+}
+
+/// The two tasks that the texts spell, where no text shows a refusal by itself.
+fn spelled_tasks(alloc: Global, texts: &Texts<'_>) -> Result<(Task, Task), Ending>
+    ensures source { IfOk result (λ both. IsSpelled (task_texts Source (all_texts texts.now)) both.0) }
+    ensures written { IfOk result (λ both.
+        IsSpelled (task_texts side.Written (all_texts texts.now)) both.1) }
+    ensures free { OnOk result (plan_offence texts.now.plan.now ≡ None) }
+    ensures err { IfErr result (IsRejectedBy
+        (IsRefusal (given_lift (all_texts texts.now)) (all_texts texts.now))) }
+{
+    let source = spelled_task(alloc, Side::Source, texts)?;
+    let written = spelled_task(alloc, Side::Written, texts)?;
+    readable_plan(alloc, texts)?;
+    Ok((source, written))
+}
+
+/// The ending that says why a plan is not lifted.
+fn unlifted(alloc: Global, fail: &LiftFail) -> Ending
+    ensures { IsRejectedBy (TellsFail fail.now) result }
+{
+    match fail {
+        LiftFail::NotPlain => refused_as(not_plain_line(alloc)),
+        LiftFail::Invalid(fault) => invalid(alloc, fault),
+        LiftFail::Mismatch(differ) => refused_as(differ_line(alloc, differ)),
+        LiftFail::NoMemory => Ending::OutOfMemory,
+    }
+}
+
+/// The ending that says a refusal by this line.
+fn refused_as(line: Result<Vec<u8>, NoMemory>) -> Ending
+    ensures ok { IfOk line (λ text. result ≡ Refused text.items) }
+    ensures err { OnErr line (result ≡ OutOfMemory) }
+{
+    match line {
+        Ok(line) => Ending::Refused(List::from(line)),
+        Err(NoMemory) => Ending::OutOfMemory,
+    }
+}
+
+/// What is written of a lifted plan of an accepted task, and the report.
+fn lifting_of(alloc: Global, source: &Whole, lifted: &Lifted) -> Result<Lifting, NoMemory>
+    requires words { IsTrue (list_all has_written_words lifted.now.plan) }
+    requires metric { lifted.now.metric ≡ value source.now.checked.task lifted.now.plan }
+    ensures plan { IfOk result (λ made. IsPlanText made.plan.items lifted.now.plan) }
+    ensures lines { IfOk result (λ made. HasPlanLayout made.plan.items) }
+    ensures report { IfOk result (λ made. made.report.items
+        ≡ lifted_lines source.now.checked.task lifted.now.plan lifted.now.cost) }
+{
+    Ok(Lifting {
+        plan: write_plan(alloc, &lifted.plan)?,
+        report: lifted_report(alloc, source.checked(), lifted)?,
+    })
+}

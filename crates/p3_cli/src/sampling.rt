@@ -1,0 +1,129 @@
+//! What `generate` makes.
+
+ghost use Rattle.std.specs.Prelude.{◌≡◌, ◌≤◌, ◌∷◌, [], IfErr, IfOk, length};
+ghost use Rattle.p3_tree.specs.Metrics.{value};
+ghost use Rattle.p3_tree.specs.PlanTexts.{step_limit};
+ghost use Rattle.p3_tree.specs.Samples.{sample_domain, sample_plan, sample_problem};
+ghost use Rattle.p3_tree.specs.Validity.{Valid};
+ghost use Rattle.p3_cli.specs.Evaluation.{IsRejectedPlan, RejectsPlan};
+ghost use Rattle.p3_cli.specs.Refusing.{IsRejectedBy, all_texts, with_plan};
+ghost use Rattle.p3_cli.specs.Sampling.{IsSampleReport, IsSampling};
+
+use crate::Ending;
+use crate::acceptance::plan_of;
+use crate::embedded_report::sampled_report;
+use crate::embedding::embedded;
+use crate::evaluation::judged_task;
+use crate::product::Product;
+use crate::request::writing;
+use crate::texts::Texts;
+use p3_base::{NoMemory, Role, Word};
+use p3_compile::compile;
+use p3_eval::Whole;
+use p3_gen::{Sample, generate};
+use p3_tree::Plan;
+use std::alloc::Global;
+
+/// The texts of a sample, and the report.
+#[derive(Drop)]
+pub(crate) struct Sampling {
+    /// The sample.
+    pub(crate) sample: Sample,
+    /// The report.
+    pub(crate) report: Vec<u8>,
+}
+
+impl Sampling {
+    ghost use Rattle.p3_tree.specs.Commands.{output};
+    ghost use Rattle.p3_base.specs.declared.refusal.Role.TheVariants as role;
+    ghost use Rattle.p3_cli.specs.Asked.{asked_writings};
+
+    /// What is written to the files of these names, and the report.
+    pub(crate) fn product<'a>(
+        self,
+        alloc: Global,
+        domain: &'a Word,
+        problem: &'a Word,
+        plan: &'a Word,
+    ) -> Result<Product<'a>, NoMemory>
+        ensures writings { IfOk result (λ product. asked_writings product.writings.items
+            ≡ (output role.Domain domain.now, self.sample.domain)
+            ∷ (output role.Problem problem.now, self.sample.problem)
+            ∷ (output role.Plan plan.now, self.sample.plan) ∷ []) }
+        ensures report { IfOk result (λ product. product.report.items ≡ self.report.items) }
+    {
+        Ok(Product {
+            writings: vec![in alloc;
+                writing(Role::Domain, domain, self.sample.domain.into_items()),
+                writing(Role::Problem, problem, self.sample.problem.into_items()),
+                writing(Role::Plan, plan, self.sample.plan.into_items()),
+            ]?,
+            report: self.report,
+        })
+    }
+}
+
+/// The sample of that number. Its task is compiled, and its plan embedded and judged.
+pub(crate) fn sample(alloc: Global, number: u32) -> Result<Sampling, Ending>
+    requires some { 1 ≤ number }
+    requires few { number ≤ 200 }
+    ensures means { IfOk result (λ made. IsSampling number
+        made.sample.domain made.sample.problem made.sample.plan made.report.items) }
+    ensures err { IfErr result (IsRejectedBy
+        (RejectsPlan (with_plan sample_domain (sample_problem number) (sample_plan number)))) }
+{
+    let sample = generate(alloc, number)?;
+    let report = match report_of(alloc, &texts_of(&sample)) {
+        Ok(report) => report,
+        Err(ending) => return Err(ending),
+    };
+    Ok(Sampling { sample, report })
+}
+
+/// The texts of a sample, as those of a task and of a plan for it.
+fn texts_of(sample: &Sample) -> Texts<'_>
+    requires domain { length sample.now.domain ≤ 16777216 }
+    requires problem { length sample.now.problem ≤ 16777216 }
+    requires plan { length sample.now.plan ≤ 16777216 }
+    ensures { all_texts result
+        ≡ with_plan sample.now.domain sample.now.problem sample.now.plan }
+{
+    Texts {
+        domain: sample.domain.items(),
+        problem: sample.problem.items(),
+        written_domain: b"".as_slice(),
+        written_problem: b"".as_slice(),
+        plan: sample.plan.items(),
+    }
+}
+
+/// The report of the task and of the plan that the texts spell.
+fn report_of(alloc: Global, texts: &Texts<'_>) -> Result<Vec<u8>, Ending>
+    ensures means { IfOk result (λ report. IsSampleReport (all_texts texts.now) report.items) }
+    ensures err { IfErr result (IsRejectedPlan (all_texts texts.now)) }
+{
+    let whole = judged_task(alloc, texts)?;
+    let plan = plan_of(alloc, texts.plan)?;
+    let target = compile(alloc, whole.ground_task(), whole.weights())?;
+    let embedded = match embedded(alloc, &whole, &target, &plan) {
+        Ok(embedded) => embedded,
+        Err(ending) => return Err(ending),
+    };
+    let metric = value_of(alloc, &whole, &plan)?;
+    let report = sampled_report(alloc, &whole, &plan, &embedded, metric)?;
+    Ok(report)
+}
+
+/// The value of a valid plan.
+fn value_of(alloc: Global, whole: &Whole, plan: &Plan) -> Result<i128, NoMemory>
+    requires few { length plan.now ≤ step_limit }
+    requires valid { Valid whole.now.checked.task plan.now }
+    ensures { IfOk result (λ metric. metric ≡ value whole.now.checked.task plan.now) }
+{
+    let mut run = whole.begin(alloc)?;
+    match run.judge_plan(whole.checked(), plan.items()) {
+        None => Ok(run.metric()),
+        // The plan is valid.
+        Some(_) => unreachable!(),
+    }
+}
