@@ -2,8 +2,6 @@
 
 use crate::trucks::{TRUCKS_DOMAIN, TRUCKS_PROBLEM};
 use crate::world::{DOMAIN, PROBLEM, WRITTEN_DOMAIN, WRITTEN_PROBLEM, World, replaced};
-use p3_base::{NoMemory, Word};
-use std::alloc::Global;
 use std::process::Abort;
 use std::test::Fail;
 
@@ -24,21 +22,13 @@ struct Way<'a> {
     lifted: &'a str,
 }
 
-/// Holds these bytes under a name.
-fn hold(alloc: Global, world: &mut World, name: &str, bytes: &[u8]) -> Result<(), NoMemory> {
-    world.files.hold(
-        Word::of(alloc, name.as_bytes())?,
-        Vec::from_slice(alloc, bytes)?,
-    )
-}
-
 impl Way<'_> {
     /// Embeds the plan and lifts what comes of it.
     fn goes(&self, rt: &(impl Abort + AllocGlobal)) -> Result<(), Fail> {
         let alloc = rt.alloc();
         let printed = self.embedded;
         let mut world = World::with(alloc, self.domain, self.problem)?;
-        hold(alloc, &mut world, "plan", self.plan.as_bytes())?;
+        world.hold(alloc, "plan", self.plan.as_bytes())?;
         assert_eq!(rt; world.run(alloc, &EMBED)?, 0, "status of {printed}");
         assert_eq!(rt; world.sink.bytes(), printed.as_bytes(), "printed {printed}");
         assert_eq!(rt;
@@ -56,7 +46,7 @@ impl Way<'_> {
         let mut world = World::with(alloc, self.domain, self.problem)?;
         for name in ["od", "op", "source"] {
             let bytes = before.held(alloc, name)?.unwrap_or_default();
-            hold(alloc, &mut world, name, bytes)?;
+            world.hold(alloc, name, bytes)?;
         }
         assert_eq!(rt; world.run(alloc, &LIFT)?, 0, "status of {printed}");
         assert_eq!(rt; world.sink.bytes(), printed.as_bytes(), "printed {printed}");
@@ -130,7 +120,7 @@ fn each_plan_is_embedded_and_comes_back(rt: HostRuntime) -> Result<(), Fail> {
 
 #[test]
 fn a_split_step_is_embedded_as_its_copy(rt: HostRuntime) -> Result<(), Fail> {
-    let way = Way {
+    let split = Way {
         domain: b"(define (domain d) (:types t) (:predicates (r ?x - t))\n(:action b :parameters (?x - t) :effect (r ?x))\n(:action a :precondition (forall (?x - t) (preference w (r ?x)))))",
         problem: b"(define (problem q) (:domain d) (:objects o1 o2 o3 o4 o5 o6 o7 o8 - t) (:init) (:goal (and)) (:metric minimize (is-violated w)))",
         plan: "(b o1)\n(a)\n",
@@ -138,7 +128,16 @@ fn a_split_step_is_embedded_as_its_copy(rt: HostRuntime) -> Result<(), Fail> {
         source: "(s0v)\n(s8v01111111)\n(finish)\n",
         lifted: "steps 2\ncost 7\nmetric 7\n",
     };
-    way.goes(&rt)
+    split.goes(&rt)?;
+    // One preference more makes it a chain.
+    let wide = Way {
+        problem: b"(define (problem q) (:domain d) (:objects o1 o2 o3 o4 o5 o6 o7 o8 o9 - t) (:init) (:goal (and)) (:metric minimize (is-violated w)))",
+        embedded: "steps 10\npreferences 0\nbase 0\ndirection minimize\nembedded 13\ncost 8\n",
+        source: "(s0v)\n(s9v)\n(q9y0)\n(q9n1)\n(q9n2)\n(q9n3)\n(q9n4)\n(q9n5)\n(q9n6)\n(q9n7)\n(q9n8)\n(q9end)\n(finish)\n",
+        lifted: "steps 2\ncost 8\nmetric 8\n",
+        ..split
+    };
+    wide.goes(&rt)
 }
 
 /// A delivery with a plan.
@@ -197,9 +196,9 @@ impl Stop<'_> {
         let alloc = rt.alloc();
         let printed = self.printed;
         let mut world = World::with(alloc, DOMAIN.as_bytes(), self.problem)?;
-        hold(alloc, &mut world, "od", self.written_domain.as_bytes())?;
-        hold(alloc, &mut world, "op", self.written_problem.as_bytes())?;
-        hold(alloc, &mut world, "source", self.source.as_bytes())?;
+        world.hold(alloc, "od", self.written_domain.as_bytes())?;
+        world.hold(alloc, "op", self.written_problem.as_bytes())?;
+        world.hold(alloc, "source", self.source.as_bytes())?;
         assert_eq!(rt;
             world.run(alloc, &LIFT)?,
             self.status,
@@ -280,32 +279,12 @@ fn an_invalid_plan_is_not_embedded(rt: HostRuntime) -> Result<(), Fail> {
     ];
     for (plan, printed) in cases {
         let mut world = World::with(alloc, DOMAIN.as_bytes(), PROBLEM.as_bytes())?;
-        hold(alloc, &mut world, "plan", plan.as_bytes())?;
+        world.hold(alloc, "plan", plan.as_bytes())?;
         assert_eq!(rt; world.run(alloc, &EMBED)?, 1, "status of {printed}");
         assert_eq!(rt; world.sink.bytes(), printed.as_bytes(), "printed {printed}");
         for name in ["od", "op", "source"] {
             assert_eq!(rt; world.held(alloc, name)?, None, "{name} of {printed}");
         }
-    }
-    Ok(())
-}
-
-#[test]
-fn each_output_of_an_embedding_fails_in_turn(rt: HostRuntime) -> Result<(), Fail> {
-    let alloc = rt.alloc();
-    let outputs = [
-        ("od", "write fault: written-domain\n"),
-        ("op", "write fault: written-problem\n"),
-        ("source", "write fault: plan\n"),
-    ];
-    for (place, (name, printed)) in outputs.into_iter().enumerate() {
-        let mut world = World::with(alloc, DOMAIN.as_bytes(), PROBLEM.as_bytes())?;
-        hold(alloc, &mut world, "plan", b"(a)")?;
-        world.files.fail(3 + place as u32, 3)?;
-        assert_eq!(rt; world.run(alloc, &EMBED)?, 4, "status of {printed}");
-        assert_eq!(rt; world.sink.bytes(), printed.as_bytes(), "printed {printed}");
-        let left = world.held(alloc, name)?.map(|bytes| bytes.len());
-        assert_eq!(rt; left, Some(3), "what is left of {name}");
     }
     Ok(())
 }

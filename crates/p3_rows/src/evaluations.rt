@@ -2,7 +2,6 @@
 
 use crate::trucks::{TRUCKS_DOMAIN, TRUCKS_PROBLEM};
 use crate::world::{DOMAIN, PROBLEM, World, replaced};
-use p3_base::Word;
 use std::process::Abort;
 use std::test::Fail;
 
@@ -19,9 +18,7 @@ fn judges(
 ) -> Result<(), Fail> {
     let alloc = rt.alloc();
     let mut world = World::with(alloc, task.0, task.1)?;
-    world
-        .files
-        .hold(Word::of(alloc, b"plan")?, Vec::from_slice(alloc, plan)?)?;
+    world.hold(alloc, "plan", plan)?;
     let answered = world.run(alloc, &EVALUATE)?;
     assert_eq!(rt; world.sink.bytes(), lines.as_bytes(), "printed {lines}");
     assert_eq!(rt; answered, status, "status of {lines}");

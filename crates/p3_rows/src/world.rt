@@ -59,6 +59,14 @@ impl World {
         Ok(World { files, sink })
     }
 
+    /// Holds these bytes under a name.
+    pub(crate) fn hold(&mut self, alloc: Global, name: &str, bytes: &[u8]) -> Result<(), NoMemory> {
+        self.files.hold(
+            Word::of(alloc, name.as_bytes())?,
+            Vec::from_slice(alloc, bytes)?,
+        )
+    }
+
     /// Runs the words, and answers the status.
     pub(crate) fn run(&mut self, alloc: Global, words: &[&str]) -> Result<u8, NoMemory> {
         let mut all = Vec::new(alloc);
