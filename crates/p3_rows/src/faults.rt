@@ -1,7 +1,7 @@
 //! Each call of the files fails in turn, in each command, on a delivery.
 
 use crate::trucks::{TRUCKS_DOMAIN, TRUCKS_PROBLEM};
-use crate::world::World;
+use crate::world::{COMPILE, World};
 use std::alloc::Global;
 use std::cmp::Ordering;
 use std::process::Abort;
@@ -36,6 +36,15 @@ impl Command<'_> {
             world.hold(alloc, name, bytes)?;
         }
         Ok(world)
+    }
+
+    /// Each read and each write fails in turn.
+    fn fails(&self, rt: &(impl Abort + AllocGlobal), before: &World) -> Result<(), Fail> {
+        self.reads_fail(rt, before)?;
+        for prefix in [0, 1, u32::MAX] {
+            self.writes_fail(rt, before, prefix)?;
+        }
+        Ok(())
     }
 
     /// Nothing is written where a read fails.
@@ -91,62 +100,87 @@ const TASK: [File<'static>; 2] = [("d", "domain"), ("p", "problem")];
 
 const TASK_AND_PLAN: [File<'static>; 3] = [("d", "domain"), ("p", "problem"), ("plan", "plan")];
 
-/// A task that is written, with a plan of it.
-const WRITTEN: [File<'static>; 3] = [
+/// A task that is written, and one with a plan of it.
+const WRITTEN_TASK: [File<'static>; 2] = [("od", "written-domain"), ("op", "written-problem")];
+
+const WRITTEN_TASK_AND_PLAN: [File<'static>; 3] = [
     ("od", "written-domain"),
     ("op", "written-problem"),
     ("source", "plan"),
 ];
 
-#[test]
-fn each_call_of_each_command_fails_in_turn(rt: HostRuntime) -> Result<(), Fail> {
+/// All that `lift` reads, and what it writes.
+const BOTH_TASKS_AND_PLAN: [File<'static>; 5] = [
+    ("d", "domain"),
+    ("p", "problem"),
+    ("od", "written-domain"),
+    ("op", "written-problem"),
+    ("source", "plan"),
+];
+
+const LIFTED: [File<'static>; 1] = [("lifted", "plan")];
+
+/// A sample that is written.
+const SAMPLE: [File<'static>; 3] = [
+    ("domain", "domain"),
+    ("problem", "problem"),
+    ("sample", "plan"),
+];
+
+/// The words of each command.
+const EMBED: [&str; 7] = ["embed", "d", "p", "plan", "od", "op", "source"];
+
+const EVALUATE: [&str; 4] = ["evaluate", "d", "p", "plan"];
+
+const LIFT: [&str; 7] = ["lift", "d", "p", "od", "op", "source", "lifted"];
+
+const GENERATE: [&str; 5] = ["generate", "2", "domain", "problem", "sample"];
+
+/// What is held of the delivery where its plan was embedded.
+fn embedded(rt: &(impl Abort + AllocGlobal)) -> Result<World, Fail> {
     let alloc = rt.alloc();
-    let embed = ["embed", "d", "p", "plan", "od", "op", "source"];
-    let commands = [
-        Command {
-            words: &["compile", "d", "p", "od", "op"],
-            reads: &TASK,
-            writes: &WRITTEN[..2],
-        },
-        Command {
-            words: &embed,
-            reads: &TASK_AND_PLAN,
-            writes: &WRITTEN,
-        },
-        Command {
-            words: &["evaluate", "d", "p", "plan"],
-            reads: &TASK_AND_PLAN,
-            writes: &[],
-        },
-        Command {
-            words: &["lift", "d", "p", "od", "op", "source", "lifted"],
-            reads: &[
-                ("d", "domain"),
-                ("p", "problem"),
-                ("od", "written-domain"),
-                ("op", "written-problem"),
-                ("source", "plan"),
-            ],
-            writes: &[("lifted", "plan")],
-        },
-        Command {
-            words: &["generate", "2", "domain", "problem", "sample"],
-            reads: &[],
-            writes: &[
-                ("domain", "domain"),
-                ("problem", "problem"),
-                ("sample", "plan"),
-            ],
-        },
-    ];
-    let mut before = World::with(alloc, TRUCKS_DOMAIN.as_bytes(), TRUCKS_PROBLEM.as_bytes())?;
-    before.hold(alloc, "plan", PLAN)?;
-    assert_eq!(&rt; before.run(alloc, &embed)?, 0);
-    for command in &commands {
-        command.reads_fail(&rt, &before)?;
-        for prefix in [0, 1, u32::MAX] {
-            command.writes_fail(&rt, &before, prefix)?;
-        }
-    }
-    Ok(())
+    let mut world = World::with(alloc, TRUCKS_DOMAIN.as_bytes(), TRUCKS_PROBLEM.as_bytes())?;
+    world.hold(alloc, "plan", PLAN)?;
+    assert_eq!(rt; world.run(alloc, &EMBED)?, 0);
+    Ok(world)
+}
+
+#[test]
+fn each_call_of_a_translation_fails_in_turn(rt: HostRuntime) -> Result<(), Fail> {
+    let before = embedded(&rt)?;
+    let compile = Command {
+        words: &COMPILE,
+        reads: &TASK,
+        writes: &WRITTEN_TASK,
+    };
+    compile.fails(&rt, &before)?;
+    let embed = Command {
+        words: &EMBED,
+        reads: &TASK_AND_PLAN,
+        writes: &WRITTEN_TASK_AND_PLAN,
+    };
+    embed.fails(&rt, &before)
+}
+
+#[test]
+fn each_call_of_the_other_commands_fails_in_turn(rt: HostRuntime) -> Result<(), Fail> {
+    let before = embedded(&rt)?;
+    let lift = Command {
+        words: &LIFT,
+        reads: &BOTH_TASKS_AND_PLAN,
+        writes: &LIFTED,
+    };
+    lift.fails(&rt, &before)?;
+    let evaluate = Command {
+        words: &EVALUATE,
+        reads: &TASK_AND_PLAN,
+        writes: &[],
+    };
+    evaluate.fails(&rt, &before)?;
+    let generate = Command {
+        words: &GENERATE,
+        reads: &[],
+        writes: &SAMPLE,
+    };
+    generate.fails(&rt, &before)
 }

@@ -39,19 +39,20 @@ fn each_sample_has_its_numbers(rt: HostRuntime) -> Result<(), Fail> {
     Ok(())
 }
 
+/// A sample with three packages, and what is compiled of it.
+fn compiled_sample(rt: &(impl Abort + AllocGlobal), lines: &str) -> Result<World, Fail> {
+    let mut world = samples(rt, "3", lines)?;
+    let words = ["compile", "d", "p", "od", "op"];
+    assert_eq!(rt; world.run(rt.alloc(), &words)?, 0, "compiled");
+    Ok(world)
+}
+
 #[test]
 fn two_runs_give_the_same_bytes(rt: HostRuntime) -> Result<(), Fail> {
     let alloc = rt.alloc();
     let lines = "steps 40\npreferences 5\nplan 8\nembedded 14\ncost 30\nmetric 30\n";
-    let mut first = samples(&rt, "3", lines)?;
-    let mut second = samples(&rt, "3", lines)?;
-    for world in [&mut first, &mut second] {
-        assert_eq!(rt;
-            world.run(alloc, &["compile", "d", "p", "od", "op"])?,
-            0,
-            "compiled"
-        );
-    }
+    let first = compiled_sample(&rt, lines)?;
+    let second = compiled_sample(&rt, lines)?;
     for name in ["d", "p", "plan", "od", "op"] {
         assert_eq!(rt;
             first.held(alloc, name)?,
