@@ -27,6 +27,11 @@ fn first(bytes: &[u8], count: u32) -> &[u8] {
     &bytes[..bytes.len().min(count as usize)]
 }
 
+/// The number of a call.
+fn numbered(call: usize) -> u32 {
+    u32::try_from(call).unwrap_or(u32::MAX)
+}
+
 impl Command<'_> {
     /// What the command reads, as it is held elsewhere.
     fn world(&self, alloc: Global, before: &World) -> Result<World, Fail> {
@@ -52,7 +57,7 @@ impl Command<'_> {
         let alloc = rt.alloc();
         for (call, (_, role)) in self.reads.iter().enumerate() {
             let mut world = self.world(alloc, before)?;
-            world.files.fail(call as u32, 0)?;
+            world.files.fail(numbered(call), 0)?;
             let line = format!(in alloc; "read fault: {role}\n")?;
             assert_eq!(rt; world.run(alloc, self.words)?, 3, "status of {line}");
             assert_eq!(rt; world.sink.bytes(), line.as_bytes(), "printed {line}");
@@ -77,7 +82,7 @@ impl Command<'_> {
         for (place, (_, role)) in self.writes.iter().enumerate() {
             let mut world = self.world(alloc, before)?;
             let call = self.reads.len().wrapping_add(place);
-            world.files.fail(call as u32, prefix)?;
+            world.files.fail(numbered(call), prefix)?;
             let line = format!(in alloc; "write fault: {role}\n")?;
             assert_eq!(rt; world.run(alloc, self.words)?, 4, "status of {line}");
             assert_eq!(rt; world.sink.bytes(), line.as_bytes(), "printed {line}");
