@@ -131,7 +131,8 @@ fn embedding_of(
         whole.now.checked.task whole.now.ground_task whole.now.weights }
     requires compiled { Compiled whole.now.ground_task whole.now.weights target.now }
     requires named { IsTrue (list_all has_written_words embedded.now.plan) }
-    ensures text { IfOk result (λ made. AreTextsOf target.now made.domain.items made.problem.items) }
+    ensures text { IfOk result (λ made.
+        AreTextsOf target.now made.domain.items made.problem.items) }
     ensures plan { IfOk result (λ made. IsPlanText made.plan.items embedded.now.plan) }
     ensures lines { IfOk result (λ made. HasPlanLayout made.plan.items) }
     ensures report { IfOk result (λ made. made.report.items ≡ embedded_lines

@@ -103,7 +103,8 @@ fn both_tasks(alloc: Global, texts: &Texts<'_>) -> Result<(Whole, Whole), Ending
 
 /// The two tasks that the texts spell, where no text shows a refusal by itself.
 fn spelled_tasks(alloc: Global, texts: &Texts<'_>) -> Result<(Task, Task), Ending>
-    ensures source { IfOk result (λ both. IsSpelled (task_texts Source (all_texts texts.now)) both.0) }
+    ensures source { IfOk result (λ both.
+        IsSpelled (task_texts Source (all_texts texts.now)) both.0) }
     ensures written { IfOk result (λ both.
         IsSpelled (task_texts side.Written (all_texts texts.now)) both.1) }
     ensures free { OnOk result (plan_offence texts.now.plan.now ≡ None) }

@@ -72,7 +72,8 @@ impl<'t> Texts<'t> {
     /// The ending that says a refusal of one of the texts.
     pub(crate) fn refused(&self, alloc: Global, refusal: &Refusal) -> Ending
         ensures { IsRejectedBy
-            (λ how. how ≡ refused_in (text_of refusal.now.pos.role (all_texts self.now)) refusal.now)
+            (λ how. how
+                ≡ refused_in (text_of refusal.now.pos.role (all_texts self.now)) refusal.now)
             result }
     {
         match line_of_refusal(alloc, self.of(refusal.pos.role), refusal) {

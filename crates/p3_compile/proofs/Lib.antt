@@ -14,4 +14,3 @@ pub mod EndLaws
 pub mod AssembledLaws
 pub mod LeanLists
 pub mod LeanLaws
-pub mod SmallReady

@@ -2,8 +2,6 @@
 #![tactic(auto)]
 
 mod bits;
-#[cfg(test)]
-mod cases;
 mod changes;
 mod compiling;
 mod ending;

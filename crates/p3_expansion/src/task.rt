@@ -19,25 +19,10 @@ pub fn hard_constraints(
     ensures { IfOk result (MakesHard task.now statics.now work.old work.new) }
 {
     let numbers = &task.numbers;
+    let (domain, problem) = (&task.domain_constraints, &task.problem_constraints);
     let mut made = List::new(work.alloc);
-    push_operators(
-        numbers,
-        statics,
-        work,
-        &[],
-        false,
-        &task.domain_constraints,
-        &mut made,
-    )?;
-    push_operators(
-        numbers,
-        statics,
-        work,
-        &[],
-        false,
-        &task.problem_constraints,
-        &mut made,
-    )?;
+    push_operators(numbers, statics, work, &[], false, domain, &mut made)?;
+    push_operators(numbers, statics, work, &[], false, problem, &mut made)?;
     Ok(made)
 }
 
@@ -51,23 +36,10 @@ pub fn soft_constraints(
     ensures { IfOk result (MakesSoft task.now statics.now work.old work.new) }
 {
     let numbers = &task.numbers;
+    let (domain, problem) = (&task.domain_constraints, &task.problem_constraints);
     let mut made = List::new(work.alloc);
-    push_instances(
-        numbers,
-        statics,
-        work,
-        &[],
-        &task.domain_constraints,
-        &mut made,
-    )?;
-    push_instances(
-        numbers,
-        statics,
-        work,
-        &[],
-        &task.problem_constraints,
-        &mut made,
-    )?;
+    push_instances(numbers, statics, work, &[], domain, &mut made)?;
+    push_instances(numbers, statics, work, &[], problem, &mut made)?;
     push_goal_instances(numbers, statics, work, &[], &task.goal, &mut made)?;
     Ok(made)
 }

@@ -82,7 +82,8 @@ pub(crate) fn clashes_noted(
     requires { slice_get (headers_of tables.now.task.now) declared.number
         ≡ Some declared.header.now }
     ensures { result ≡ fold step found
-        (clashes tables.now.task.now (scope_seen scope.now) (Some declared.entry.header.now) args.now) }
+        (clashes tables.now.task.now (scope_seen scope.now) (Some declared.entry.header.now)
+            args.now) }
 {
     let mut least = found;
     for place in 0..declared.header.params.len().min(args.len()) {

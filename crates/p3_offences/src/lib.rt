@@ -1,8 +1,6 @@
 //! The first offence of a task that is not well-formed.
 #![tactic(auto)]
 
-#[cfg(test)]
-mod cases;
 mod clashes;
 mod declared_names;
 mod first;

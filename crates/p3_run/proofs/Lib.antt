@@ -11,6 +11,5 @@ pub mod WalkLaws
 pub mod SumLaws
 pub mod RunLaws
 pub mod TellLaws
-pub mod SmallReady
 pub mod RanLaws
 pub mod UnmetLaws

@@ -2,8 +2,6 @@
 #![tactic(auto)]
 
 mod answers;
-#[cfg(test)]
-mod cases;
 mod changing;
 mod finding;
 mod groups;

@@ -3,8 +3,6 @@
 
 mod balance;
 mod build;
-#[cfg(test)]
-mod cases;
 mod constructs;
 mod error;
 mod first;

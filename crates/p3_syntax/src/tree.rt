@@ -2,8 +2,6 @@
 //! that the view is.
 
 mod actions;
-#[cfg(test)]
-mod cases;
 mod constraints;
 pub(crate) mod domains;
 mod effects;
