@@ -1,10 +1,13 @@
-//! Worked checks: tasks of two texts, their steps by number, and their first offences.
+//! Worked checks: tasks of two texts, their steps by number, which of them are kept when they are
+//! grounded, and their first offences.
 #![tactic(auto)]
 
 #[cfg(test)]
 mod checked;
 #[cfg(test)]
 mod counts;
+#[cfg(test)]
+mod grounds;
 #[cfg(test)]
 mod large;
 #[cfg(test)]
