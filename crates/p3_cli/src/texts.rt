@@ -73,7 +73,7 @@ impl<'t> Texts<'t> {
     pub(crate) fn refused(&self, alloc: Global, refusal: &Refusal) -> Ending
         ensures { IsRejectedBy
             (λ how. how
-                ≡ refused_in (text_of refusal.now.pos.role (all_texts self.now)) refusal.now)
+            ≡ refused_in (text_of refusal.now.pos.role (all_texts self.now)) refusal.now)
             result }
     {
         match line_of_refusal(alloc, self.of(refusal.pos.role), refusal) {

@@ -83,7 +83,7 @@ pub(crate) fn clashes_noted(
         ≡ Some declared.header.now }
     ensures { result ≡ fold step found
         (clashes tables.now.task.now (scope_seen scope.now) (Some declared.entry.header.now)
-            args.now) }
+        args.now) }
 {
     let mut least = found;
     for place in 0..declared.header.params.len().min(args.len()) {
