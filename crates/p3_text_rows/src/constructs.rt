@@ -1,42 +1,11 @@
 //! The first refusals of small texts.
 
-ghost use Rattle.std.specs.Prelude.{◌≢◌};
-ghost use Rattle.p3_base.specs.declared.refusal.Role.TheVariants.{Plan};
-
-use crate::error::ReadFail;
-use crate::first::readable;
-use p3_base::{Code, NoMemory, Refusal, Role};
+use crate::halves::{Pieces, joined, refused};
+use p3_base::{Code, NoMemory, Role};
 use std::alloc::Global;
 
-/// A text in three pieces, of which the second is the word at fault.
-type Pieces = (&'static [u8], &'static [u8], &'static [u8]);
-
-fn joined(alloc: Global, pieces: Pieces) -> Result<Vec<u8>, NoMemory> {
-    let (front, word, behind) = pieces;
-    let mut text = Vec::new(alloc);
-    text.extend_from_slice(front)?;
-    text.extend_from_slice(word)?;
-    text.extend_from_slice(behind)?;
-    Ok(text)
-}
-
-fn refused(alloc: Global, role: Role, text: &[u8]) -> Result<Option<Refusal>, NoMemory>
-    requires { role ≢ Plan }
-{
-    if text.len() > 16_777_216 {
-        return Ok(None);
-    }
-    match readable(alloc, role, text) {
-        Ok(_) => Ok(None),
-        Err(ReadFail::Refused(refusal)) => Ok(Some(refusal)),
-        Err(ReadFail::NoMemory) => Err(NoMemory),
-    }
-}
-
 /// Whether the text is refused with the code at its second piece.
-fn is_refused(alloc: Global, role: Role, code: Code, pieces: Pieces) -> Result<bool, NoMemory>
-    requires { role ≢ Plan }
-{
+fn is_refused(alloc: Global, role: Role, code: Code, pieces: Pieces) -> Result<bool, NoMemory> {
     let text = joined(alloc, pieces)?;
     let (front, word, _) = pieces;
     match refused(alloc, role, text.as_slice())? {

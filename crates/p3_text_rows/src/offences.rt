@@ -1,7 +1,7 @@
 //! An atom at objects that it may not stand at.
 
-use crate::first_offence;
 use p3_base::{Code, List, Name, NoMemory, Pos, Refusal, Role, Side};
+use p3_offences::first_offence;
 use p3_tree::{
     Constraint, Domain, Header, Init, Kind, Part, PreGoal, Problem, Ref, Task, Term, Typed,
 };

@@ -1,252 +1,237 @@
-//! What the readers take, and what they refuse.
+//! What the places of the grammar take, and what they refuse.
 
-ghost use Rattle.std.specs.Prelude.{◌≢◌};
-ghost use Rattle.p3_base.specs.declared.refusal.Role.TheVariants.{Plan};
-
-use crate::error::Fault;
-use crate::outlines::outline;
-use crate::tree::constraints::{constraint, constraint_or_empty};
-use crate::tree::formulas::formula;
-use crate::tree::goals::{goal, goal_or_empty};
-use crate::tree::lists::variables;
-use crate::tree::numerals::numeral;
-use crate::view::View;
-use p3_base::{NoMemory, Role};
-use p3_tree::{Numeral, Typed};
+use crate::halves::{joined, refused};
+use p3_base::{Code, NoMemory, Refusal, Role, Side};
+use p3_syntax::{read_domain, read_problem};
+use p3_tree::{Domain, Init, Numeral, Problem, Typed};
 use std::alloc::Global;
 
-/// Where a text stands.
-#[derive(Clone, Copy)]
-enum Place {
-    Formula,
-    Goal,
-    GoalOrEmpty,
-    Constraint,
-    ConstraintOrEmpty,
+/// A place of the grammar: the half that it stands in, and what stands before it and behind it. A
+/// line ends behind a text that may have a comment at its end.
+type Place = (Role, &'static [u8], &'static [u8]);
+
+const FORMULA: Place = (
+    Role::Domain,
+    b"(define (domain d) (:action a :effect (when ",
+    b"\n(p))))",
+);
+
+const GOAL: Place = (
+    Role::Problem,
+    b"(define (problem q) (:domain d) (:init) (:goal (forall () ",
+    b")))",
+);
+
+const GOAL_OR_EMPTY: Place = (
+    Role::Domain,
+    b"(define (domain d) (:action a :precondition ",
+    b"))",
+);
+
+const CONSTRAINT: Place = (
+    Role::Problem,
+    b"(define (problem q) (:domain d) (:init) (:goal ()) (:constraints (forall () ",
+    b")))",
+);
+
+const CONSTRAINT_OR_EMPTY: Place = (Role::Domain, b"(define (domain d) (:constraints ", b"))");
+
+/// The value of a function, at offset 57.
+const NUMBER: Place = (
+    Role::Problem,
+    b"(define (problem q) (:domain d) (:goal ()) (:init (= (f) ",
+    b")))",
+);
+
+/// The first refusal of a half with the text at the place.
+fn refused_at(
+    alloc: Global,
+    place: Place,
+    text: &'static [u8],
+) -> Result<Option<Refusal>, NoMemory> {
+    let (role, front, behind) = place;
+    let half = joined(alloc, (front, text, behind))?;
+    refused(alloc, role, half.as_slice())
 }
 
-fn is_ok<T: Drop>(found: Result<T, Fault>) -> bool {
-    match found {
-        Ok(_) => true,
-        Err(_) => false,
-    }
+/// Whether the half is read with the text at the place.
+fn is_read(alloc: Global, place: Place, text: &'static [u8]) -> Result<bool, NoMemory> {
+    Ok(refused_at(alloc, place, text)?.is_none())
 }
 
-fn takes(alloc: Global, place: Place, view: View<'_, '_>) -> bool {
-    match place {
-        Place::Formula => is_ok(formula(alloc, view)),
-        Place::Goal => is_ok(goal(alloc, view)),
-        Place::GoalOrEmpty => is_ok(goal_or_empty(alloc, view)),
-        Place::Constraint => is_ok(constraint(alloc, view)),
-        Place::ConstraintOrEmpty => is_ok(constraint_or_empty(alloc, view)),
+/// Whether the half leaves the grammar within the text at the place.
+fn is_malformed(alloc: Global, place: Place, text: &'static [u8]) -> Result<bool, NoMemory> {
+    let (_, front, _) = place;
+    match refused_at(alloc, place, text)? {
+        Some(refusal) => {
+            let offset = refusal.pos.offset as usize;
+            Ok(
+                refusal.code == Code::Malformed
+                    && offset >= front.len()
+                    && offset - front.len() < text.len(),
+            )
+        }
+        None => Ok(false),
     }
-}
-
-/// Whether the text is read at the place.
-fn is_read_of(alloc: Global, role: Role, place: Place, text: &[u8]) -> bool
-    requires { role ≢ Plan }
-{
-    if text.len() > 16_777_216 {
-        return false;
-    }
-    match outline(alloc, role, text) {
-        Ok(outline) => takes(alloc, place, outline.root()),
-        Err(_) => false,
-    }
-}
-
-fn is_read(alloc: Global, place: Place, text: &[u8]) -> bool {
-    is_read_of(alloc, Role::Problem, place, text)
 }
 
 #[test]
-fn readers(rt: HostRuntime) {
+fn texts_of_places(rt: HostRuntime) -> Result<(), NoMemory> {
     let alloc = rt.alloc();
     let read: [(Place, &[u8]); 27] = [
-        (Place::Formula, b"(and)"),
-        (Place::Formula, b"(P ?x a) ; in capitals"),
-        (Place::Formula, b"(OR (p) ; one\n (AND))"),
-        (Place::Formula, b"(not (p))"),
-        (Place::Formula, b"(imply (p) (q))"),
-        (Place::Formula, b"(exists () (p))"),
-        (Place::Formula, b"(forall (?x ?y - (either a b) ?z) (p ?x))"),
-        (Place::Formula, b"(= ?x a)"),
+        (FORMULA, b"(and)"),
+        (FORMULA, b"(P ?x a) ; in capitals"),
+        (FORMULA, b"(OR (p) ; one\n (AND))"),
+        (FORMULA, b"(not (p))"),
+        (FORMULA, b"(imply (p) (q))"),
+        (FORMULA, b"(exists () (p))"),
+        (FORMULA, b"(forall (?x ?y - (either a b) ?z) (p ?x))"),
+        (FORMULA, b"(= ?x a)"),
         // `at` is a predicate, and no operator
-        (Place::Formula, b"(at end a)"),
-        (Place::Goal, b"(and (preference G (p)) (q))"),
-        (Place::Goal, b"(preference (p))"),
-        (Place::Goal, b"(forall (?x - t) (preference g (p ?x)))"),
-        (Place::Goal, b"(or (p))"),
-        (Place::GoalOrEmpty, b"()"),
-        (Place::GoalOrEmpty, b"( ; nothing\n )"),
-        (Place::GoalOrEmpty, b"(p)"),
-        (Place::Constraint, b"(and)"),
-        (Place::Constraint, b"(AT END (p))"),
-        (Place::Constraint, b"(always (p))"),
-        (Place::Constraint, b"(at-most-once (p))"),
-        (Place::Constraint, b"(sometime-after (p) (q))"),
-        (Place::Constraint, b"(sometime-before (p) (q))"),
-        (Place::Constraint, b"(preference g (and (sometime (p))))"),
-        (
-            Place::Constraint,
-            b"(preference (forall (?x) (always (p ?x))))",
-        ),
-        (
-            Place::Constraint,
-            b"(forall (?x) (preference (always (p ?x))))",
-        ),
-        (Place::ConstraintOrEmpty, b"()"),
-        (Place::ConstraintOrEmpty, b"(always (p))"),
+        (FORMULA, b"(at end a)"),
+        (GOAL, b"(and (preference G (p)) (q))"),
+        (GOAL, b"(preference (p))"),
+        (GOAL, b"(forall (?x - t) (preference g (p ?x)))"),
+        (GOAL, b"(or (p))"),
+        (GOAL_OR_EMPTY, b"()"),
+        (GOAL_OR_EMPTY, b"( ; nothing\n )"),
+        (GOAL_OR_EMPTY, b"(p)"),
+        (CONSTRAINT, b"(and)"),
+        (CONSTRAINT, b"(AT END (p))"),
+        (CONSTRAINT, b"(always (p))"),
+        (CONSTRAINT, b"(at-most-once (p))"),
+        (CONSTRAINT, b"(sometime-after (p) (q))"),
+        (CONSTRAINT, b"(sometime-before (p) (q))"),
+        (CONSTRAINT, b"(preference g (and (sometime (p))))"),
+        (CONSTRAINT, b"(preference (forall (?x) (always (p ?x))))"),
+        (CONSTRAINT, b"(forall (?x) (preference (always (p ?x))))"),
+        (CONSTRAINT_OR_EMPTY, b"()"),
+        (CONSTRAINT_OR_EMPTY, b"(always (p))"),
     ];
     for (place, text) in read {
-        assert!(rt; is_read(alloc, place, text));
+        assert!(rt; is_read(alloc, place, text)?);
     }
+    Ok(())
 }
 
 #[test]
-fn refusals(rt: HostRuntime) {
+fn refusals(rt: HostRuntime) -> Result<(), NoMemory> {
     let alloc = rt.alloc();
-    let refused: [(Place, &[u8]); 33] = [
-        (Place::Formula, b"p"),
-        (Place::Formula, b"()"),
-        (Place::Formula, b"((p))"),
-        (Place::Formula, b"(not)"),
-        (Place::Formula, b"(not (p) (q))"),
-        (Place::Formula, b"(imply (p))"),
-        (Place::Formula, b"(= ?x)"),
-        (Place::Formula, b"(p (q))"),
-        (Place::Formula, b"(p 5a)"),
-        (Place::Formula, b"(p ?)"),
-        (Place::Formula, b"(preference g (p))"),
-        (Place::Formula, b"(Total-Cost)"),
-        (Place::Formula, b"(always (p))"),
-        (Place::Formula, b"(forall ?x (p))"),
-        (Place::Formula, b"(forall (a) (p))"),
+    let malformed: [(Place, &[u8]); 35] = [
+        (FORMULA, b"p"),
+        (FORMULA, b"()"),
+        (FORMULA, b"((p))"),
+        (FORMULA, b"(not)"),
+        (FORMULA, b"(not (p) (q))"),
+        (FORMULA, b"(imply (p))"),
+        (FORMULA, b"(= ?x)"),
+        (FORMULA, b"(p (q))"),
+        (FORMULA, b"(p 5a)"),
+        (FORMULA, b"(p ?)"),
+        (FORMULA, b"(preference g (p))"),
+        (FORMULA, b"(Total-Cost)"),
+        (FORMULA, b"(always (p))"),
+        (FORMULA, b"(forall ?x (p))"),
+        (FORMULA, b"(forall (a) (p))"),
         // a `-` with no item before it, with nothing behind it, and behind another one
-        (Place::Formula, b"(forall (- a) (p))"),
-        (Place::Formula, b"(forall (?x -) (p))"),
-        (Place::Formula, b"(forall (?x - - a) (p))"),
-        (Place::Formula, b"(forall (?x - a - b) (p))"),
-        (Place::Formula, b"(forall (?x - (either)) (p))"),
-        (Place::Goal, b"()"),
-        (Place::Goal, b"(preference g)"),
-        (Place::Goal, b"(preference g h (p))"),
-        (Place::Goal, b"(preference ?g (p))"),
-        (Place::Goal, b"(or (preference g (p)))"),
-        (Place::GoalOrEmpty, b"(and ())"),
-        (Place::Constraint, b"()"),
-        (Place::Constraint, b"(p)"),
-        (Place::Constraint, b"(at start (p))"),
-        (Place::Constraint, b"(within 5 (p))"),
-        (Place::Constraint, b"(always (sometime (p)))"),
-        (
-            Place::Constraint,
-            b"(preference g (preference h (always (p))))",
-        ),
-        (Place::ConstraintOrEmpty, b"nothing"),
+        (FORMULA, b"(forall (- a) (p))"),
+        (FORMULA, b"(forall (?x -) (p))"),
+        (FORMULA, b"(forall (?x - - a) (p))"),
+        (FORMULA, b"(forall (?x - a - b) (p))"),
+        (FORMULA, b"(forall (?x - (either)) (p))"),
+        (GOAL, b"()"),
+        (GOAL, b"(preference g)"),
+        (GOAL, b"(preference g h (p))"),
+        (GOAL, b"(preference ?g (p))"),
+        (GOAL, b"(or (preference g (p)))"),
+        (GOAL_OR_EMPTY, b"(and ())"),
+        (CONSTRAINT, b"()"),
+        (CONSTRAINT, b"(p)"),
+        (CONSTRAINT, b"(at start (p))"),
+        (CONSTRAINT, b"(preference g (preference h (always (p))))"),
+        (CONSTRAINT_OR_EMPTY, b"nothing"),
+        // digits stand on both sides of a point, of which a number has one at most
+        (NUMBER, b"5."),
+        (NUMBER, b".5"),
+        (NUMBER, b"1.2.3"),
+        (NUMBER, b"-5"),
     ];
-    for (place, text) in refused {
-        assert!(rt; !is_read(alloc, place, text));
+    for (place, text) in malformed {
+        assert!(rt; is_malformed(alloc, place, text)?);
+    }
+    Ok(())
+}
+
+/// The first initial value of a problem, where the first entry is one.
+fn first_value(problem: &Problem) -> Option<Numeral> {
+    match problem.init.get(0) {
+        Some(Init::Value { number, .. }) => Some(*number),
+        _ => None,
     }
 }
 
-/// The number that a text is; all zeros where it is none.
-fn number(alloc: Global, text: &[u8]) -> Numeral {
-    let none = Numeral {
-        at: 0,
-        len: 0,
-        digits: 0,
-        places: 0,
+/// The number that a text is as the value of a function.
+fn number(alloc: Global, side: Side, text: &'static [u8]) -> Result<Option<Numeral>, NoMemory> {
+    let (_, front, behind) = NUMBER;
+    let half = joined(alloc, (front, text, behind))?;
+    if half.len() > 16_777_216 {
+        return Err(NoMemory);
+    }
+    let Ok(problem) = read_problem(alloc, side, half.as_slice()) else {
+        return Ok(None);
     };
-    if text.len() > 16_777_216 {
-        return none;
-    }
-    match outline(alloc, Role::Problem, text) {
-        Ok(outline) => numeral(outline.root()).unwrap_or(none),
-        Err(_) => none,
-    }
+    Ok(first_value(&problem))
 }
 
 #[test]
-fn numbers(rt: HostRuntime) {
+fn numbers(rt: HostRuntime) -> Result<(), NoMemory> {
     let alloc = rt.alloc();
-    let cases: [(&[u8], Numeral); 8] = [
+    let cases: [(Side, &[u8], Numeral); 4] = [
         (
+            Side::Source,
             b"7",
             Numeral {
-                at: 0,
+                at: 57,
                 len: 1,
                 digits: 7,
                 places: 0,
             },
         ),
         (
+            Side::Source,
             b" 007.50",
             Numeral {
-                at: 1,
+                at: 58,
                 len: 6,
                 digits: 750,
                 places: 2,
             },
         ),
         (
+            Side::Source,
             b"0.000001",
             Numeral {
-                at: 0,
+                at: 57,
                 len: 8,
                 digits: 1,
                 places: 6,
             },
         ),
         (
+            Side::Written,
             b"9999999999999999999",
             Numeral {
-                at: 0,
+                at: 57,
                 len: 19,
                 digits: 9_999_999_999_999_999_999,
                 places: 0,
             },
         ),
-        (
-            b"5.",
-            Numeral {
-                at: 0,
-                len: 0,
-                digits: 0,
-                places: 0,
-            },
-        ),
-        (
-            b".5",
-            Numeral {
-                at: 0,
-                len: 0,
-                digits: 0,
-                places: 0,
-            },
-        ),
-        (
-            b"1.2.3",
-            Numeral {
-                at: 0,
-                len: 0,
-                digits: 0,
-                places: 0,
-            },
-        ),
-        (
-            b"-5",
-            Numeral {
-                at: 0,
-                len: 0,
-                digits: 0,
-                places: 0,
-            },
-        ),
     ];
-    for (text, wanted) in cases {
-        assert!(rt; number(alloc, text) == wanted);
+    for (side, text, wanted) in cases {
+        assert!(rt; number(alloc, side, text)? == Some(wanted));
     }
+    Ok(())
 }
 
 /// Whether a typed name has the given text and offset, and so many types.
@@ -259,28 +244,32 @@ fn is_typed(typed: Option<&Typed>, text: &[u8], at: u32, types: usize) -> bool {
     }
 }
 
+/// Whether the first action has those parameters at those places.
+fn has_parameters(domain: &Domain) -> bool {
+    let Some(action) = domain.actions.get(0) else {
+        return false;
+    };
+    let list = &action.params;
+    list.len() == 3
+        && is_typed(list.get(0), b"?x", 43, 2)
+        && is_typed(list.get(1), b"?y", 46, 2)
+        && is_typed(list.get(2), b"?z", 71, 0)
+}
+
 #[test]
-fn types_of_groups(rt: HostRuntime) -> Result<(), Fault> {
+fn types_of_groups(rt: HostRuntime) -> Result<(), NoMemory> {
     let alloc = rt.alloc();
-    let text = b"(?X ?y - (either A b) ; two\n ?z)";
-    match outline(alloc, Role::Problem, text) {
-        Ok(outline) => {
-            let list = variables(alloc, outline.root())?;
-            assert!(rt; list.len() == 3);
-            assert!(rt; is_typed(list.get(0), b"?x", 1, 2));
-            assert!(rt; is_typed(list.get(1), b"?y", 4, 2));
-            assert!(rt; is_typed(list.get(2), b"?z", 29, 0));
-        }
-        Err(_) => assert!(rt; false),
-    }
+    let text = b"(define (domain d)\n(:action a :parameters (?X ?y - (either A b) ; two\n ?z)))";
+    let Ok(domain) = read_domain(alloc, Side::Source, text) else {
+        return Err(NoMemory);
+    };
+    assert!(rt; has_parameters(&domain));
     Ok(())
 }
 
-/// Whether an atom under so many negations is read.
-fn is_read_under(alloc: Global, role: Role, levels: usize) -> Result<bool, NoMemory>
-    requires { role ≢ Plan }
-{
-    let mut text = Vec::new(alloc);
+/// The code of a domain with an atom under so many negations, as the condition of an effect.
+fn code_under(alloc: Global, role: Role, levels: usize) -> Result<Option<Code>, NoMemory> {
+    let mut text = Vec::from_slice(alloc, b"(define (domain d) (:action a :effect (when ")?;
     for _ in 0..levels {
         text.extend_from_slice(b"(not ")?;
     }
@@ -288,15 +277,25 @@ fn is_read_under(alloc: Global, role: Role, levels: usize) -> Result<bool, NoMem
     for _ in 0..levels {
         text.push(b')')?;
     }
-    Ok(is_read_of(alloc, role, Place::Formula, text.as_slice()))
+    text.extend_from_slice(b" (p))))")?;
+    match refused(alloc, role, text.as_slice())? {
+        Some(refusal) => Ok(Some(refusal.code)),
+        None => Ok(None),
+    }
 }
 
 #[test]
 fn deepest_lists(rt: HostRuntime) -> Result<(), NoMemory> {
     let alloc = rt.alloc();
-    assert!(rt; is_read_under(alloc, Role::Problem, 199)?);
-    assert!(rt; !is_read_under(alloc, Role::Problem, 200)?);
-    assert!(rt; is_read_under(alloc, Role::WrittenProblem, 999)?);
-    assert!(rt; !is_read_under(alloc, Role::WrittenProblem, 1000)?);
+    // Three lists stand around the negations, and the atom is one more below them.
+    let cases = [
+        (Role::Domain, 196, None),
+        (Role::Domain, 197, Some(Code::TooDeep)),
+        (Role::WrittenDomain, 996, None),
+        (Role::WrittenDomain, 997, Some(Code::TooDeep)),
+    ];
+    for (role, levels, code) in cases {
+        assert!(rt; code_under(alloc, role, levels)? == code);
+    }
     Ok(())
 }
