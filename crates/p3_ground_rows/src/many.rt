@@ -1,6 +1,6 @@
 //! Many steps and many constraints.
 
-use super::tasks::{compiled, step, task};
+use crate::tasks::{compiled, setting_step, task};
 use p3_base::{List, NoMemory};
 use p3_formula::{Bits, Form, GroundModal, GroundStep, GroundTask};
 use std::alloc::Global;
@@ -15,7 +15,7 @@ fn steps(alloc: Global) -> Result<List<GroundStep>, NoMemory> {
     let mut steps = List::new(alloc);
     for number in 0..STEPS {
         let atom = number as usize;
-        steps.push(step(alloc, number, Form::Atom(atom + 1), atom)?)?;
+        steps.push(setting_step(alloc, number, Form::Atom(atom + 1), atom)?)?;
     }
     Ok(steps)
 }

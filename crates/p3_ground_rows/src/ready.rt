@@ -1,4 +1,4 @@
-//! Whether a task can be run, tested as the program runs.
+//! Whether a task is ready to be compiled, and whether it can be run, tested as the program runs.
 
 ghost use Rattle.std.specs.Prelude.{◌≡◌, ◌<◌, ◌≤◌, ◌*◌, ◌^◌, length, sum_by, unwrap_or, true};
 ghost use Rattle.std.specs.List.{All, list_all};
@@ -20,7 +20,7 @@ use p3_formula::{
 
 #[cycle(below)]
 #[tactic(auto, using(p3_formula::proofs::FormLemmas::atom_laws))]
-fn is_below(form: &Form, count: usize) -> bool
+pub(crate) fn is_below(form: &Form, count: usize) -> bool
     ensures { result ≡ is_below count form.now }
 {
     match form {
@@ -254,7 +254,7 @@ fn are_within_limits(steps: &[GroundStep], weights: &Weights) -> bool
 }
 
 /// Whether the task is ready, and its weights are small.
-fn is_ready(task: &GroundTask, weights: &Weights) -> bool
+pub(crate) fn is_ready(task: &GroundTask, weights: &Weights) -> bool
     ensures { result ≡ true → asked.IsReady task.now weights.now }
 {
     has_atoms_below(task)
@@ -320,7 +320,7 @@ fn is_small_base(base: i128) -> bool
 }
 
 /// Whether the task can be run, and its weights and costs are small.
-pub(super) fn can_be_run(task: &GroundTask, weights: &Weights) -> bool
+pub(crate) fn can_be_run(task: &GroundTask, weights: &Weights) -> bool
     ensures { result ≡ true → CanBeRun task.now weights.now }
 {
     is_ready(task, weights)

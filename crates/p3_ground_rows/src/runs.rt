@@ -2,16 +2,14 @@
 
 ghost use Rattle.std.specs.Prelude.{◌≡◌};
 
-mod ready;
-mod tasks;
-
-use crate::{GroundRun, Stepped, Verdict};
+use crate::ready::can_be_run;
+use crate::run_tasks::{operator, task, weights};
+use crate::tasks::{instance, one_modal, two_modals};
 use p3_base::{Direction, List, NoMemory};
 use p3_formula::{Form, GroundModal, GroundTask, Weights};
-use ready::can_be_run;
+use p3_run::{GroundRun, Stepped, Verdict};
 use std::alloc::Global;
 use std::test::Fail;
-use tasks::{instance, operator, task, weights};
 
 /// What a run tells.
 #[derive(Clone, Copy, Debug, Drop, PartialEq, Eq)]
@@ -25,7 +23,7 @@ struct Told {
 }
 
 /// Does the steps of these digits that fit, and counts the others.
-#[tactic(auto, using(crate::proofs::RanLaws::weights_stay))]
+#[tactic(auto, using(p3_run::proofs::RanLaws::weights_stay))]
 fn do_all(run: &mut GroundRun<'_>, plan: &str) -> u32
     ensures { run.new.weights ≡ run.old.weights }
 {
@@ -65,15 +63,10 @@ fn run_of(
 
 /// Whether the operator is satisfied by the plan, as a hard constraint and in an instance.
 fn met(alloc: Global, which: usize, plan: &str) -> Result<Option<(bool, bool)>, NoMemory> {
-    let mut hard = List::new(alloc);
-    hard.push(operator(alloc, which)?)?;
-    let mut soft = List::new(alloc);
-    soft.push(instance(
-        alloc,
-        GroundModal::Sometime(Form::True),
-        operator(alloc, which)?,
-    )?)?;
-    let task = task(alloc, Form::True, hard, soft)?;
+    let hard = one_modal(alloc, operator(alloc, which)?)?;
+    let held = GroundModal::Sometime(Form::True);
+    let parts = two_modals(alloc, held, operator(alloc, which)?)?;
+    let task = task(alloc, Form::True, hard, instance(alloc, parts)?)?;
     let weights = weights(alloc, Direction::Minimize)?;
     Ok(match run_of(alloc, &task, &weights, plan)? {
         Some(told) => Some((told.verdict == Verdict::Valid, told.violations == 0)),
@@ -112,16 +105,17 @@ fn unmet(
     direction: Direction,
     plan: &str,
 ) -> Result<Option<Told>, NoMemory> {
-    let mut hard = List::new(alloc);
-    hard.push(GroundModal::Sometime(Form::True))?;
-    hard.push(GroundModal::Sometime(Form::False))?;
-    let mut soft = List::new(alloc);
-    soft.push(instance(
+    let hard = two_modals(
+        alloc,
+        GroundModal::Sometime(Form::True),
+        GroundModal::Sometime(Form::False),
+    )?;
+    let parts = two_modals(
         alloc,
         GroundModal::Sometime(Form::False),
         GroundModal::AtEnd(Form::False),
-    )?)?;
-    let task = task(alloc, goal, hard, soft)?;
+    )?;
+    let task = task(alloc, goal, hard, instance(alloc, parts)?)?;
     run_of(alloc, &task, &weights(alloc, direction)?, plan)
 }
 
@@ -156,8 +150,8 @@ fn counts_costs_and_verdicts(rt: HostRuntime) -> Result<(), Fail> {
 #[test]
 fn a_million_steps(rt: HostRuntime) -> Result<(), Fail> {
     let alloc = rt.alloc();
-    let mut soft = List::new(alloc);
-    soft.push(instance(alloc, operator(alloc, 0)?, operator(alloc, 4)?)?)?;
+    let parts = two_modals(alloc, operator(alloc, 0)?, operator(alloc, 4)?)?;
+    let soft = instance(alloc, parts)?;
     let task = task(alloc, Form::True, List::new(alloc), soft)?;
     let weights = weights(alloc, Direction::Minimize)?;
     assert!(rt; can_be_run(&task, &weights));

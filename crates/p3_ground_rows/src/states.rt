@@ -3,13 +3,13 @@
 ghost use Rattle.std.specs.Prelude.{◌≡◌, true};
 ghost use Rattle.p3_formula.specs.Alike.{AreConditionsBelow};
 
-use super::ready::is_below;
+use crate::ready::is_below;
 use p3_base::NoMemory;
 use p3_formula::{Bits, Change, Effects, Form, after, eval};
 use std::alloc::Global;
 
 /// Whether the atom is set.
-pub(super) fn is_set(state: &Bits, atom: usize) -> bool {
+pub(crate) fn is_set(state: &Bits, atom: usize) -> bool {
     atom < state.count() && state.get(atom)
 }
 
@@ -20,7 +20,7 @@ fn put(state: &mut Bits, atom: usize, value: bool) {
 }
 
 /// The state whose atoms are the binary digits of the number, the lowest first.
-pub(super) fn state_of(alloc: Global, count: usize, number: usize) -> Result<Bits, NoMemory> {
+pub(crate) fn state_of(alloc: Global, count: usize, number: usize) -> Result<Bits, NoMemory> {
     let mut state = Bits::new(alloc, count)?;
     let mut left = number;
     for atom in 0..count {
@@ -31,7 +31,7 @@ pub(super) fn state_of(alloc: Global, count: usize, number: usize) -> Result<Bit
 }
 
 /// Whether the form holds in the state.
-pub(super) fn holds(form: &Form, state: &Bits) -> bool {
+pub(crate) fn holds(form: &Form, state: &Bits) -> bool {
     is_below(form, state.count()) && eval(form, state)
 }
 
@@ -47,7 +47,7 @@ fn are_conditions_below(changes: &[Change], count: usize) -> bool
 }
 
 /// The state after the changes.
-pub(super) fn behind(alloc: Global, state: &Bits, effects: &Effects) -> Result<Bits, NoMemory> {
+pub(crate) fn behind(alloc: Global, state: &Bits, effects: &Effects) -> Result<Bits, NoMemory> {
     if are_conditions_below(effects.items(), state.count()) {
         return after(alloc, state, effects);
     }
@@ -60,7 +60,7 @@ fn mark(marks: &[u8], atom: usize) -> u8 {
 }
 
 /// Whether the atoms with the mark `1` are set, and those with the mark `0` are not.
-pub(super) fn is_marked(marks: &[u8], state: &Bits) -> bool {
+pub(crate) fn is_marked(marks: &[u8], state: &Bits) -> bool {
     for atom in 0..state.count() {
         let mark = mark(marks, atom);
         if (mark == b'1' && !is_set(state, atom)) || (mark == b'0' && is_set(state, atom)) {
@@ -71,7 +71,7 @@ pub(super) fn is_marked(marks: &[u8], state: &Bits) -> bool {
 }
 
 /// Whether the later state has these marks, and is else the same.
-pub(super) fn is_left(marks: &[u8], before: &Bits, later: &Bits) -> bool {
+pub(crate) fn is_left(marks: &[u8], before: &Bits, later: &Bits) -> bool {
     for atom in 0..before.count() {
         let kept = is_set(before, atom) == is_set(later, atom);
         if mark(marks, atom) == b'-' && !kept {

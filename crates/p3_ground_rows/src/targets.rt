@@ -1,17 +1,14 @@
 //! Small tasks are compiled.
 
-mod many;
-mod ready;
-mod states;
-mod tasks;
-mod walks;
-
+use crate::states::{behind, holds, is_left, is_marked, state_of};
+use crate::tasks::{
+    compiled, instance, one_modal, preferring_step, setting_step, setting_steps, step, task,
+    two_modals,
+};
 use p3_base::{List, NoMemory};
 use p3_formula::{Bits, Change, Form, GroundModal, GroundStep, GroundTask, Target, TargetAction};
-use states::{behind, holds, is_left, is_marked, state_of};
 use std::alloc::Global;
 use std::test::Fail;
-use tasks::{compiled, instance, instance_of, preferring_step, setting_steps, task};
 
 /// The names, with spaces between them.
 fn predicate_names(alloc: Global, target: &Target) -> Result<Vec<u8>, NoMemory> {
@@ -56,7 +53,8 @@ fn acts(
 /// One step that sets the one atom, which is preferred to be set at the end.
 fn smallest(alloc: Global) -> Result<GroundTask, NoMemory> {
     let initial = Bits::new(alloc, 1)?;
-    let soft = instance(alloc, GroundModal::AtEnd(Form::Atom(0)))?;
+    let parts = one_modal(alloc, GroundModal::AtEnd(Form::Atom(0)))?;
+    let soft = instance(alloc, parts)?;
     Ok(task(initial, setting_steps(alloc, 1)?, List::new(alloc), soft))
 }
 
@@ -150,10 +148,12 @@ fn nine_preferences_make_a_chain_of_questions(rt: HostRuntime) -> Result<(), Fai
 
 /// No step, and an instance of two parts: the first atom is always set, and the second is once set.
 fn two_parts(alloc: Global, initial: Bits) -> Result<GroundTask, NoMemory> {
-    let mut parts = List::new(alloc);
-    parts.push(GroundModal::Always(Form::Atom(0)))?;
-    parts.push(GroundModal::Sometime(Form::Atom(1)))?;
-    let soft = instance_of(alloc, parts)?;
+    let parts = two_modals(
+        alloc,
+        GroundModal::Always(Form::Atom(0)),
+        GroundModal::Sometime(Form::Atom(1)),
+    )?;
+    let soft = instance(alloc, parts)?;
     Ok(task(initial, List::new(alloc), List::new(alloc), soft))
 }
 
@@ -200,21 +200,8 @@ fn an_instance_of_two_parts_is_collected_where_both_are_satisfied(
 /// A step that has no cost, and one that has one.
 fn without_a_cost(alloc: Global) -> Result<List<GroundStep>, NoMemory> {
     let mut steps = List::new(alloc);
-    let GroundStep {
-        number,
-        pre,
-        prefs,
-        effects,
-        ..
-    } = tasks::step(alloc, 0, Form::True, 0)?;
-    steps.push(GroundStep {
-        number,
-        pre,
-        prefs,
-        effects,
-        cost: None,
-    })?;
-    steps.push(tasks::step(alloc, 1, Form::True, 0)?)?;
+    steps.push(step(alloc, 0, Form::True, Some(Change::sets(0)), None)?)?;
+    steps.push(setting_step(alloc, 1, Form::True, 0)?)?;
     Ok(steps)
 }
 
@@ -240,33 +227,26 @@ fn steps_with_a_cost_and_no_others_have_actions(rt: HostRuntime) -> Result<(), F
 /// The step that may touch the constraint: it clears the first atom where the second is set, and
 /// sets it where the third is.
 fn touching_step(alloc: Global) -> Result<GroundStep, NoMemory> {
-    let mut effects = List::new(alloc);
-    effects.push(Change {
+    let clears = Change {
         cond: Form::Atom(1),
         atom: 0,
         add: false,
-    })?;
-    effects.push(Change {
+    };
+    let mut made = step(alloc, 0, Form::True, Some(clears), Some(0))?;
+    made.effects.push(Change {
         cond: Form::Atom(2),
         atom: 0,
         add: true,
     })?;
-    Ok(GroundStep {
-        number: 0,
-        pre: Form::True,
-        prefs: List::new(alloc),
-        effects,
-        cost: Some(0),
-    })
+    Ok(made)
 }
 
 /// That step and one that does not touch the constraint, which wants the first atom always set.
 fn touched(alloc: Global) -> Result<GroundTask, NoMemory> {
     let mut steps = List::new(alloc);
     steps.push(touching_step(alloc)?)?;
-    steps.push(tasks::step(alloc, 1, Form::True, 3)?)?;
-    let mut hard = List::new(alloc);
-    hard.push(GroundModal::Always(Form::Atom(0)))?;
+    steps.push(setting_step(alloc, 1, Form::True, 3)?)?;
+    let hard = one_modal(alloc, GroundModal::Always(Form::Atom(0)))?;
     let initial = state_of(alloc, 4, 7)?;
     Ok(task(initial, steps, hard, List::new(alloc)))
 }

@@ -1,15 +1,15 @@
 //! Each operator once, hard and soft: every short plan, judged by the source and by the target.
 
-use super::states::{behind, holds, state_of};
-use super::tasks::{compiled, instance, step, task};
+use crate::states::{behind, holds, state_of};
+use crate::tasks::{compiled, instance, one_modal, operator, setting_step, task};
 use p3_base::{List, NoMemory};
-use p3_formula::{Bits, Change, Form, GroundModal, GroundStep, GroundTask, Target};
+use p3_formula::{Bits, Change, Form, GroundStep, GroundTask, Target};
 use std::alloc::Global;
 use std::test::Fail;
 
 /// The first step sets the first atom, and clears the second where the first was set.
 fn first_step(alloc: Global) -> Result<GroundStep, NoMemory> {
-    let mut made = step(alloc, 0, Form::True, 0)?;
+    let mut made = setting_step(alloc, 0, Form::True, 0)?;
     made.effects.push(Change {
         cond: Form::Atom(0),
         atom: 1,
@@ -20,21 +20,9 @@ fn first_step(alloc: Global) -> Result<GroundStep, NoMemory> {
 
 /// The second step wants the first atom, clears it and sets the second.
 fn second_step(alloc: Global) -> Result<GroundStep, NoMemory> {
-    let mut made = step(alloc, 1, Form::Atom(0), 1)?;
+    let mut made = setting_step(alloc, 1, Form::Atom(0), 1)?;
     made.effects.push(Change::clears(0))?;
     Ok(made)
-}
-
-/// The operators over the first atom, or over both.
-fn operator(which: usize) -> GroundModal {
-    match which {
-        0 => GroundModal::AtEnd(Form::Atom(0)),
-        1 => GroundModal::Always(Form::Atom(0)),
-        2 => GroundModal::Sometime(Form::Atom(0)),
-        3 => GroundModal::AtMostOnce(Form::Atom(0)),
-        4 => GroundModal::SometimeAfter(Form::Atom(0), Form::Atom(1)),
-        _ => GroundModal::SometimeBefore(Form::Atom(0), Form::Atom(1)),
-    }
 }
 
 fn task_with(
@@ -46,13 +34,12 @@ fn task_with(
     let mut steps = List::new(alloc);
     steps.push(first_step(alloc)?)?;
     steps.push(second_step(alloc)?)?;
+    let constraint = one_modal(alloc, operator(which))?;
     if soft {
-        let instances = instance(alloc, operator(which))?;
+        let instances = instance(alloc, constraint)?;
         return Ok(task(initial, steps, List::new(alloc), instances));
     }
-    let mut hard = List::new(alloc);
-    hard.push(operator(which))?;
-    Ok(task(initial, steps, hard, List::new(alloc)))
+    Ok(task(initial, steps, constraint, List::new(alloc)))
 }
 
 /// The visited states, each by its two atoms, where each step fits. The steps are the binary

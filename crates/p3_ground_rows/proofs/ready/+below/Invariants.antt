@@ -1,7 +1,7 @@
 use Rattle.std.proofs.Common.{◌≡◌, drop}
 use Rattle.std.specs.List.{list_all}
 use Rattle.p3_formula.specs.Forms.{is_below}
-use Rattle.p3_run.proofs.cases.ready.+below.Given as goal
+use Rattle.p3_ground_rows.proofs.ready.+below.Given as goal
 
 -- the forms that are left decide
 abbrev pub invariant-are_below-loop-form : goal.invariant-are_below-loop-form

@@ -1,7 +1,7 @@
 use Rattle.std.proofs.Common.{◌≡◌, drop}
 use Rattle.std.specs.List.{list_all}
 use Rattle.p3_formula.specs.Targets.{is_sized_change}
-use Rattle.p3_run.proofs.cases.ready.are_changes_below.Given as goal
+use Rattle.p3_ground_rows.proofs.ready.are_changes_below.Given as goal
 
 -- the changes that are left decide
 abbrev pub invariant-loop-change : goal.invariant-loop-change

@@ -2,7 +2,7 @@ use Rattle.std.proofs.Common.{◌≡◌, drop}
 use Rattle.std.specs.List.{list_all}
 use Rattle.p3_formula.specs.Modals.{is_modal_below}
 use Rattle.p3_formula.specs.declared.modal.GroundSoft.{GroundSoft}
-use Rattle.p3_run.proofs.cases.ready.are_soft_below.Given as goal
+use Rattle.p3_ground_rows.proofs.ready.are_soft_below.Given as goal
 
 -- the instances that are left decide
 abbrev pub invariant-loop-instance : goal.invariant-loop-instance

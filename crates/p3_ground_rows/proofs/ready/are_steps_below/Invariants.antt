@@ -1,7 +1,7 @@
 use Rattle.std.proofs.Common.{◌≡◌, drop}
 use Rattle.std.specs.List.{list_all}
 use Rattle.p3_formula.specs.Conditions.{is_step_below}
-use Rattle.p3_run.proofs.cases.ready.are_steps_below.Given as goal
+use Rattle.p3_ground_rows.proofs.ready.are_steps_below.Given as goal
 
 -- the steps that are left decide
 abbrev pub invariant-loop-step : goal.invariant-loop-step

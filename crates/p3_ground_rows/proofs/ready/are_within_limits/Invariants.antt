@@ -1,7 +1,7 @@
 use Rattle.std.proofs.Common.{drop}
 use Rattle.std.specs.List.{All}
 use Rattle.p3_formula.specs.Conditions.{IsWithinLimits}
-use Rattle.p3_run.proofs.cases.ready.are_within_limits.Given as goal
+use Rattle.p3_ground_rows.proofs.ready.are_within_limits.Given as goal
 
 -- the steps that are left decide
 abbrev pub invariant-loop-step : goal.invariant-loop-step

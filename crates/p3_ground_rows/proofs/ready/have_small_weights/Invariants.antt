@@ -1,6 +1,6 @@
 use Rattle.std.proofs.Common.{◌≤◌, ◌*◌, sum_by, take}
 use Rattle.p3_formula.specs.Weighted.{weight_of}
-use Rattle.p3_run.proofs.cases.ready.have_small_weights.Given as goal
+use Rattle.p3_ground_rows.proofs.ready.have_small_weights.Given as goal
 
 -- the preferences passed have small weights
 abbrev pub invariant-loop-pref : goal.invariant-loop-pref

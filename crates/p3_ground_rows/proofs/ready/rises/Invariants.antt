@@ -1,6 +1,6 @@
 use Rattle.std.proofs.Common.{◌≡◌, drop}
 use Rattle.p3_formula.specs.Conditions.{rises}
-use Rattle.p3_run.proofs.cases.ready.rises.Given as goal
+use Rattle.p3_ground_rows.proofs.ready.rises.Given as goal
 
 -- the steps that are left decide
 abbrev pub invariant-loop-step : goal.invariant-loop-step
