@@ -51,7 +51,7 @@ conditions changes = count_by is_conditional changes
 
 tidied_length : (olds news : List Change) → AreTidied olds news → length news ≤ length olds
 tidied_length _ _ NoChange = omega arith
-tidied_length _ _ (IsKept old new olds news is are) = let rest = tidied_length olds news are in omega (arith, rest)
+tidied_length _ _ (IsKept old new olds news is may are) = let rest = tidied_length olds news are in omega (arith, rest)
 tidied_length _ _ (IsLeftOut old olds news never are) = let rest = tidied_length olds news are in omega (arith, rest)
 
 tidied_conditions : (olds news : List Change) → AreTidied olds news → conditions news ≤ conditions olds
@@ -60,7 +60,7 @@ tidied_conditions _ _ (IsLeftOut old olds news never are) =
     let rest = tidied_conditions olds news are in
     let a = sum_by-cons (λ (change : Change). one (is_conditional change)) old olds in
     omega (arith, rest, a)
-tidied_conditions _ _ (IsKept old new olds news is are) =
+tidied_conditions _ _ (IsKept old new olds news is may are) =
     let first = stays_certain old.cond new.cond is.always in
     let rest = tidied_conditions olds news are in
     let a = sum_by-cons (λ (change : Change). one (is_conditional change)) old olds in

@@ -41,7 +41,7 @@ module _ (state : State) where
   any_tidied : (pick : Bool → Bool) (atom : ℕ) (olds news : List Change) → AreTidied olds news
       → list_any (λ (change : Change). (change.atom == atom) && pick change.add && truth state change.cond) news ≡ list_any (λ (change : Change). (change.atom == atom) && pick change.add && truth state change.cond) olds
   any_tidied pick atom _ _ NoChange = refl
-  any_tidied pick atom _ _ (IsKept old new olds news is are) =
+  any_tidied pick atom _ _ (IsKept old new olds news is may are) =
       λ i. ((is.atom i == atom) && pick (is.add i) && is.cond state i) || any_tidied pick atom olds news are i
   any_tidied pick atom _ _ (IsLeftOut old olds news none are) =
       any_tidied pick atom olds news are ∙ sym (ap (λ b. b || list_any (λ (change : Change). (change.atom == atom) && pick change.add && truth state change.cond) olds) (never (old.atom == atom) (pick old.add) old none))
@@ -55,14 +55,14 @@ module _ (state : State) where
 sized : (bound : ℕ) (olds news : List Change) → AreTidied olds news → list_all (is_sized_change bound) olds ≡ true → list_all (is_sized_change bound) news ≡ true
 sized bound _ _ NoChange below = refl
 sized bound _ _ (IsLeftOut old olds news none are) below = sized bound olds news are (and_parts (is_sized_change bound old) _ below).1
-sized bound _ _ (IsKept old new olds news is are) below =
+sized bound _ _ (IsKept old new olds news is may are) below =
     let parts = and_parts (is_sized_change bound old) _ below in
     let one = and_parts (nat_lt old.atom bound) _ parts.0 in
     and_from (is_sized_change bound new) _ (and_from (nat_lt new.atom bound) _ (ap (λ atom. nat_lt atom bound) is.atom ∙ one.0) (is.reads (λ atom. nat_lt atom bound) one.1)) (sized bound olds news are parts.1)
 
 pub tidied_tidy : (olds news : List Change) → AreTidied olds news → HasTidyConditions news
 tidied_tidy _ _ NoChange = refl
-tidied_tidy _ _ (IsKept old new olds news is are) = and_from (is_tidy new.cond) _ is.tidy (tidied_tidy olds news are)
+tidied_tidy _ _ (IsKept old new olds news is may are) = and_from (is_tidy new.cond) _ is.tidy (tidied_tidy olds news are)
 tidied_tidy _ _ (IsLeftOut old olds news none are) = tidied_tidy olds news are
 
 module _ (go : ℕ) (monitors : List Monitor) (step : GroundStep) (before : AreBefore go go monitors) (below : list_all (is_sized_change go) step.effects ≡ true) (effects : List Change) (has : HasChanges step.effects monitors effects) where

@@ -5,19 +5,19 @@ use Rattle.p3_formula.specs.Forms.{truth}
 use Rattle.p3_formula.specs.declared.form.Change.{Change}
 use Rattle.p3_formula.specs.declared.form.Form.TheVariants.{False}
 use Rattle.p3_formula.proofs.FormLemmas.{truth-False}
-use Rattle.p3_compile.specs.Tidied.{IsTidied, AreTidied, NoChange, IsKept, IsLeftOut, HasTidied}
+use Rattle.p3_compile.specs.Tidied.{IsTidied, AreTidied, NoChange, IsKept, IsLeftOut, MayHappen, HasTidied}
 
 pub tidied-append : (olds others news more : List Change) → AreTidied olds news → AreTidied others more → AreTidied (olds ++ others) (news ++ more)
 tidied-append _ others _ more NoChange later = later
-tidied-append _ others _ more (IsKept old new olds news is are) later = IsKept old new (olds ++ others) (news ++ more) is (tidied-append olds others news more are later)
+tidied-append _ others _ more (IsKept old new olds news is may are) later = IsKept old new (olds ++ others) (news ++ more) is may (tidied-append olds others news more are later)
 tidied-append _ others _ more (IsLeftOut old olds news never are) later = IsLeftOut old (olds ++ others) (news ++ more) never (tidied-append olds others news more are later)
 
 pub none_tidied : (all : List Change) → HasTidied [] all all
 none_tidied all = record { tidied = []; are = sym (append-nil all); same = NoChange }
 
--- a change with a tidy condition stands behind the others
-pub one_kept : (change new : Change) (old all : List Change) → all ≡ old ++ new ∷ [] → IsTidied change new → HasTidied (change ∷ []) old all
-one_kept change new old all are is = record { tidied = new ∷ []; are = are; same = IsKept change new [] [] is NoChange }
+-- a change with a tidy condition that is not the constant that never holds stands behind the others
+pub one_kept : (change new : Change) (old all : List Change) → all ≡ old ++ new ∷ [] → IsTidied change new → MayHappen new → HasTidied (change ∷ []) old all
+one_kept change new old all are is may = record { tidied = new ∷ []; are = are; same = IsKept change new [] [] is may NoChange }
 
 -- one whose condition is tidied to what never holds is left out
 pub one_left_out : (change new : Change) (all : List Change) → IsTidied change new → new.cond ≡ False → HasTidied (change ∷ []) all all

@@ -2,6 +2,7 @@
 use Rattle.std.specs.Prelude.{◌≡◌, IsTrue, false, List, [], ◌∷◌, ◌++◌}
 use Rattle.std.specs.List.{list_all}
 use Rattle.p3_formula.specs.Forms.{State, HasAtomsOf, HasSameTruth, truth}
+use Rattle.p3_formula.specs.Simplified.{is_value}
 use Rattle.p3_formula.specs.Tidy.{is_tidy}
 use Rattle.p3_formula.specs.declared.form.Change.{Change}
 use Rattle.p3_formula.specs.declared.form.Form.TheVariants.{True}
@@ -23,10 +24,14 @@ pub record IsTidied (old new : Change) : Type 0 where
 abbrev pub NeverHappens : Change → Type 0
 NeverHappens change = (state : State) → truth state change.cond ≡ false
 
--- the same changes in order, with tidy conditions, without some that never happen
+-- the condition of the change is not the constant that never holds
+abbrev pub MayHappen : Change → Type 0
+MayHappen change = is_value false change.cond ≡ false
+
+-- the same changes in order, with tidy conditions, without some that never happen, and without each whose tidy condition is the constant that never holds
 pub data AreTidied : List Change → List Change → Type 0 where
   NoChange : AreTidied [] []
-  IsKept : (old new : Change) (olds news : List Change) → IsTidied old new → AreTidied olds news → AreTidied (old ∷ olds) (new ∷ news)
+  IsKept : (old new : Change) (olds news : List Change) → IsTidied old new → MayHappen new → AreTidied olds news → AreTidied (old ∷ olds) (new ∷ news)
   IsLeftOut : (old : Change) (olds news : List Change) → NeverHappens old → AreTidied olds news → AreTidied (old ∷ olds) news
 
 -- they stand behind the others

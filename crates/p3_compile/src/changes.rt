@@ -1,9 +1,10 @@
 //! The changes of a step in a target: its own, and those of the monitors that it touches.
 
-ghost use Rattle.std.specs.Prelude.{◌≡◌, ◌++◌, ◌∷◌, [], IfOk, OnOk, IsTrue, true};
+ghost use Rattle.std.specs.Prelude.{◌≡◌, ◌++◌, ◌∷◌, [], IfOk, OnOk, IsTrue, false, true};
 ghost use Rattle.std.specs.List.{All, list_all};
 ghost use Rattle.std.specs.List.Sorted.{IsPermutation};
 ghost use Rattle.p3_formula.specs.Kept.{is_own};
+ghost use Rattle.p3_formula.specs.Simplified.{is_value};
 ghost use Rattle.p3_monitors.specs.KeepsOn.{HasNone};
 ghost use Rattle.p3_regress.specs.Memory.{Extends};
 ghost use Rattle.p3_compile.specs.Readers.{readers_from, IsRising};
@@ -32,7 +33,8 @@ fn change_tidied(alloc: Global, change: &Change) -> Result<Change, NoMemory>
 
 /// Whether the form is the constant that never holds.
 fn is_false(form: &Form) -> bool
-    ensures { IsTrue result → form.now ≡ Form.False }
+    ensures never { IsTrue result → form.now ≡ Form.False }
+    ensures value { result ≡ is_value false form.now }
 {
     matches!(form, Form::False)
 }
