@@ -1,4 +1,4 @@
-use Rattle.std.proofs.Common.{◌<◌, ◌+◌, ◌∙◌, length, take, get_or, sym, ap, subst}
+use Rattle.std.proofs.Common.{◌<◌, ◌∙◌, length, get_or, ap, subst}
 use Rattle.p3_compile.proofs.TidiedLists.{none_tidied, tidied_next}
 use Rattle.p3_compile.proofs.changes.push_tidied.Goals as goal
 
