@@ -7,6 +7,10 @@ mod checked;
 #[cfg(test)]
 mod counts;
 #[cfg(test)]
+mod expansions;
+#[cfg(test)]
+mod fitting;
+#[cfg(test)]
 mod grounds;
 #[cfg(test)]
 mod large;
@@ -16,5 +20,7 @@ mod offences;
 mod steps;
 #[cfg(test)]
 mod trucks;
+#[cfg(test)]
+mod type_chains;
 #[cfg(test)]
 mod types;

@@ -4,4 +4,3 @@ pub mod FitLaws
 pub mod PlanLaws
 pub mod TakenLaws
 pub mod WalkLaws
-pub mod WideTask

@@ -2,8 +2,6 @@
 #![tactic(auto)]
 
 mod actions;
-#[cfg(test)]
-mod cases;
 mod counting;
 mod embedding;
 mod error;

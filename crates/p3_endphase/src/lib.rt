@@ -1,8 +1,6 @@
 //! The end phase: behind the steps of a plan, one action after another settles the preferences.
 #![tactic(auto)]
 
-#[cfg(test)]
-mod cases;
 mod phase;
 
 pub use phase::{EndPhase, SoftEnd, end_phase};

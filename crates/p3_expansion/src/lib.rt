@@ -2,8 +2,6 @@
 #![tactic(auto)]
 
 mod atoms;
-#[cfg(test)]
-mod cases;
 mod changed;
 mod choices;
 mod condition;

@@ -2,8 +2,6 @@
 #![tactic(auto)]
 
 mod by_name;
-#[cfg(test)]
-mod cases;
 mod fit;
 mod fits;
 mod numbers;

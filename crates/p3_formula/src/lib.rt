@@ -4,8 +4,6 @@
 
 mod atoms;
 mod bits;
-#[cfg(test)]
-mod cases;
 mod constructors;
 mod copy;
 mod evaluation;

@@ -1,8 +1,6 @@
 //! Samples to begin with: a delivery of so many packages as the two texts of a task, with a plan.
 #![tactic(auto)]
 
-#[cfg(test)]
-mod cases;
 mod domain;
 mod piece;
 mod plan;

@@ -17,3 +17,5 @@ mod targets;
 mod tasks;
 #[cfg(test)]
 mod walks;
+#[cfg(test)]
+mod written;

@@ -1,8 +1,6 @@
 //! The tokens of a text, as slices of it. Nothing here takes memory.
 #![tactic(auto)]
 
-#[cfg(test)]
-mod cases;
 mod lexer;
 mod place;
 

@@ -1,8 +1,6 @@
 //! The sizes of a checked task, and the first of its limits that it passes.
 #![tactic(auto)]
 
-#[cfg(test)]
-mod cases;
 mod choices;
 mod large;
 mod many;

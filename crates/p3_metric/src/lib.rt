@@ -2,10 +2,6 @@
 #![tactic(auto)]
 
 mod actions;
-#[cfg(test)]
-mod cases;
-#[cfg(test)]
-mod counts;
 mod dear;
 mod entries;
 mod error;

@@ -4,8 +4,6 @@
 
 mod accepting;
 mod beginning;
-#[cfg(test)]
-mod cases;
 mod copying;
 mod laws;
 mod making;

@@ -1,8 +1,6 @@
 //! Names and variables, looked up by hashing.
 #![tactic(auto)]
 
-#[cfg(test)]
-mod cases;
 mod kinds;
 mod names;
 mod objects;

@@ -2,8 +2,6 @@
 //! problem, goes on.
 #![tactic(auto)]
 
-#[cfg(test)]
-mod cases;
 mod domain_sections;
 mod heads;
 mod rests;

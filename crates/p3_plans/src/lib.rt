@@ -3,8 +3,6 @@
 #![tactic(auto)]
 
 mod before;
-#[cfg(test)]
-mod cases;
 mod draft;
 mod error;
 mod laws;

@@ -1,8 +1,6 @@
 //! Steps that can never fit: which atoms may ever be set, and which steps may ever fit.
 #![tactic(auto)]
 
-#[cfg(test)]
-mod cases;
 mod leading;
 mod may;
 mod model;

@@ -8,4 +8,12 @@ mod halves;
 #[cfg(test)]
 mod offences;
 #[cfg(test)]
+mod places;
+#[cfg(test)]
+mod plans;
+#[cfg(test)]
 mod readers;
+#[cfg(test)]
+mod samples;
+#[cfg(test)]
+mod tokens;

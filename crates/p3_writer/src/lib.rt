@@ -1,8 +1,6 @@
 //! Targets written as PDDL: the texts of the plain task that a target is.
 #![tactic(auto)]
 
-#[cfg(test)]
-mod cases;
 mod laws;
 mod layout;
 
