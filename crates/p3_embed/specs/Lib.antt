@@ -3,4 +3,3 @@ pub mod Embeds
 pub mod Plans
 pub mod Sought
 pub mod Walking
-pub mod Wide
