@@ -1,5 +1,5 @@
-//! Worked checks: tasks of two texts, their steps by number, which of them are kept when they are
-//! grounded, and their first offences.
+//! Worked checks: tasks of two texts, their steps by number, and which of them are kept when they
+//! are grounded.
 #![tactic(auto)]
 
 #[cfg(test)]
@@ -14,8 +14,6 @@ mod fitting;
 mod grounds;
 #[cfg(test)]
 mod large;
-#[cfg(test)]
-mod offences;
 #[cfg(test)]
 mod steps;
 #[cfg(test)]

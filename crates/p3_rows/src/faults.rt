@@ -1,25 +1,44 @@
-//! Each call of the files fails in turn, in each command, on a delivery.
+//! Runs with each call of the files failing in turn.
 
-use crate::trucks::{TRUCKS_DOMAIN, TRUCKS_PROBLEM};
-use crate::world::{COMPILE, World};
+use crate::complaint::Stop;
+use crate::row::{Access, FaultWord};
+use crate::world::World;
+use p3_base::Word;
 use std::alloc::Global;
 use std::cmp::Ordering;
-use std::process::Abort;
-use std::test::Fail;
 
-/// A plan of the delivery.
-const PLAN: &[u8] =
-    b"(load c1 t1 a) (load c2 t1 a) (drive t1 a b) (unload c1 t1 b) (drive t1 b c) (unload c2 t1 c)";
+/// How many bytes a write that fails leaves: none, one, or all.
+const LEFT: [u32; 3] = [0, 1, u32::MAX];
 
-/// A file by its name, and the word that stands for it in a line.
-type File<'a> = (&'a str, &'a str);
+/// A command line whose calls of the files fail in turn.
+#[derive(Drop)]
+struct Faults<'r> {
+    line: u32,
+    before: &'r World,
+    words: &'r [FaultWord],
+    command: Vec<Word>,
+}
 
-/// A command, with the files that it reads and those that it writes, in order.
-#[derive(Clone, Copy)]
-struct Command<'a> {
-    words: &'a [&'a str],
-    reads: &'a [File<'a>],
-    writes: &'a [File<'a>],
+/// Runs the words with each read and each write failing in turn, behind a run without a fault. The
+/// reads come first, in the order of the words, and then the writes.
+pub(crate) fn run_faults(
+    alloc: Global,
+    before: &World,
+    line: u32,
+    words: &[FaultWord],
+) -> Result<(), Stop> {
+    let mut command = Vec::new(alloc);
+    for word in words {
+        command.push(Word::of(alloc, word.word.bytes())?)?;
+    }
+    let faults = Faults {
+        line,
+        before,
+        words,
+        command,
+    };
+    let calls = faults.reads_fail(alloc)?;
+    faults.writes_fail(alloc, calls)
 }
 
 /// At most so many of the first bytes.
@@ -27,165 +46,92 @@ fn first(bytes: &[u8], count: u32) -> &[u8] {
     &bytes[..bytes.len().min(count as usize)]
 }
 
-/// The number of a call.
-fn numbered(call: usize) -> u32 {
-    u32::try_from(call).unwrap_or(u32::MAX)
-}
-
-impl Command<'_> {
-    /// What the command reads, as it is held elsewhere.
-    fn world(&self, alloc: Global, before: &World) -> Result<World, Fail> {
-        let mut world = World::with(alloc, TRUCKS_DOMAIN.as_bytes(), TRUCKS_PROBLEM.as_bytes())?;
-        for (name, _) in self.reads {
-            let bytes = before.held(alloc, name)?.unwrap_or_default();
-            world.hold(alloc, name, bytes)?;
+impl Faults<'_> {
+    /// The files that are read.
+    fn world(&self, alloc: Global) -> Result<World, Stop> {
+        let mut world = World::new(alloc)?;
+        for word in self.words {
+            if let Access::Read { .. } = word.access {
+                let Some(bytes) = self.before.held(&word.word) else {
+                    return Err(Stop::saying(alloc, self.line, "a file that is read is not held"));
+                };
+                world.hold(&word.word, bytes)?;
+            }
         }
         Ok(world)
     }
 
-    /// Each read and each write fails in turn.
-    fn fails(&self, rt: &(impl Abort + AllocGlobal), before: &World) -> Result<(), Fail> {
-        self.reads_fail(rt, before)?;
-        for prefix in [0, 1, u32::MAX] {
-            self.writes_fail(rt, before, prefix)?;
+    /// Each read fails in turn. It answers how many there are.
+    fn reads_fail(&self, alloc: Global) -> Result<u32, Stop> {
+        let mut call = 0u32;
+        for word in self.words {
+            if let Access::Read { role } = &word.access {
+                self.read_fails(alloc, call, role.as_str())?;
+                call = call.saturating_add(1);
+            }
         }
-        Ok(())
+        Ok(call)
     }
 
-    /// Nothing is written where a read fails.
-    fn reads_fail(&self, rt: &(impl Abort + AllocGlobal), before: &World) -> Result<(), Fail> {
-        let alloc = rt.alloc();
-        for (call, (_, role)) in self.reads.iter().enumerate() {
-            let mut world = self.world(alloc, before)?;
-            world.files.fail(numbered(call), 0)?;
-            let line = format!(in alloc; "read fault: {role}\n")?;
-            assert_eq!(rt; world.run(alloc, self.words)?, 3, "status of {line}");
-            assert_eq!(rt; world.sink.bytes(), line.as_bytes(), "printed {line}");
-            for (name, _) in self.writes {
-                assert_eq!(rt; world.held(alloc, name)?, None, "{name} of {line}");
+    /// Where a read fails, nothing is written.
+    fn read_fails(&self, alloc: Global, call: u32, role: &str) -> Result<(), Stop> {
+        let mut world = self.world(alloc)?;
+        world.fail(call, 0)?;
+        world.run(self.command.as_slice());
+        world.ends(self.line, 3)?;
+        let printed = format!(in alloc; "read fault: {role}\n")?;
+        world.prints(self.line, printed.as_bytes())?;
+        for word in self.words {
+            if let Access::Written { .. } = word.access {
+                world.holds(self.line, &word.word, None)?;
             }
         }
         Ok(())
     }
 
-    /// Where a write fails, the earlier outputs are whole, it has a first part, and the later ones
-    /// are not there.
-    fn writes_fail(
-        &self,
-        rt: &(impl Abort + AllocGlobal),
-        before: &World,
-        prefix: u32,
-    ) -> Result<(), Fail> {
-        let alloc = rt.alloc();
-        let mut whole = self.world(alloc, before)?;
-        assert_eq!(rt; whole.run(alloc, self.words)?, 0, "status without a fault");
-        for (place, (_, role)) in self.writes.iter().enumerate() {
-            let mut world = self.world(alloc, before)?;
-            let call = self.reads.len().wrapping_add(place);
-            world.files.fail(numbered(call), prefix)?;
-            let line = format!(in alloc; "write fault: {role}\n")?;
-            assert_eq!(rt; world.run(alloc, self.words)?, 4, "status of {line}");
-            assert_eq!(rt; world.sink.bytes(), line.as_bytes(), "printed {line}");
-            for (other, (name, _)) in self.writes.iter().enumerate() {
-                let bytes = whole.held(alloc, name)?;
-                let left = match other.cmp(&place) {
-                    Ordering::Less => bytes,
-                    Ordering::Equal => bytes.map(|bytes| first(bytes, prefix)),
+    /// Each write fails in turn, behind so many reads.
+    fn writes_fail(&self, alloc: Global, reads: u32) -> Result<(), Stop> {
+        let mut whole = self.world(alloc)?;
+        whole.run(self.command.as_slice());
+        whole.ends(self.line, 0)?;
+        let mut call = reads;
+        for (place, word) in self.words.iter().enumerate() {
+            if let Access::Written { role } = &word.access {
+                for left in LEFT {
+                    let world = self.write_fails(alloc, call, left, role.as_str())?;
+                    self.leaves(&whole, &world, place, left)?;
+                }
+                call = call.saturating_add(1);
+            }
+        }
+        Ok(())
+    }
+
+    /// Runs the words where a write fails.
+    fn write_fails(&self, alloc: Global, call: u32, left: u32, role: &str) -> Result<World, Stop> {
+        let mut world = self.world(alloc)?;
+        world.fail(call, left)?;
+        world.run(self.command.as_slice());
+        world.ends(self.line, 4)?;
+        let printed = format!(in alloc; "write fault: {role}\n")?;
+        world.prints(self.line, printed.as_bytes())?;
+        Ok(world)
+    }
+
+    /// Whether the outputs before a place are whole, the one there has its first bytes, and the ones
+    /// behind it are not there.
+    fn leaves(&self, whole: &World, world: &World, place: usize, left: u32) -> Result<(), Stop> {
+        for (other, word) in self.words.iter().enumerate() {
+            if let Access::Written { .. } = word.access {
+                let name = &word.word;
+                let bytes = match other.cmp(&place) {
+                    Ordering::Less => whole.held(name),
+                    Ordering::Equal => whole.held(name).map(|bytes| first(bytes, left)),
                     Ordering::Greater => None,
                 };
-                assert_eq!(rt; world.held(alloc, name)?, left, "{name} of {line}");
+                world.holds(self.line, name, bytes)?;
             }
         }
         Ok(())
     }
-}
-
-/// A task and a plan that are read.
-const TASK: [File<'static>; 2] = [("d", "domain"), ("p", "problem")];
-
-const TASK_AND_PLAN: [File<'static>; 3] = [("d", "domain"), ("p", "problem"), ("plan", "plan")];
-
-/// A task that is written, and one with a plan of it.
-const WRITTEN_TASK: [File<'static>; 2] = [("od", "written-domain"), ("op", "written-problem")];
-
-const WRITTEN_TASK_AND_PLAN: [File<'static>; 3] = [
-    ("od", "written-domain"),
-    ("op", "written-problem"),
-    ("source", "plan"),
-];
-
-/// All that `lift` reads, and what it writes.
-const BOTH_TASKS_AND_PLAN: [File<'static>; 5] = [
-    ("d", "domain"),
-    ("p", "problem"),
-    ("od", "written-domain"),
-    ("op", "written-problem"),
-    ("source", "plan"),
-];
-
-const LIFTED: [File<'static>; 1] = [("lifted", "plan")];
-
-/// A sample that is written.
-const SAMPLE: [File<'static>; 3] = [
-    ("domain", "domain"),
-    ("problem", "problem"),
-    ("sample", "plan"),
-];
-
-/// The words of each command.
-const EMBED: [&str; 7] = ["embed", "d", "p", "plan", "od", "op", "source"];
-
-const EVALUATE: [&str; 4] = ["evaluate", "d", "p", "plan"];
-
-const LIFT: [&str; 7] = ["lift", "d", "p", "od", "op", "source", "lifted"];
-
-const GENERATE: [&str; 5] = ["generate", "2", "domain", "problem", "sample"];
-
-/// What is held of the delivery where its plan was embedded.
-fn embedded(rt: &(impl Abort + AllocGlobal)) -> Result<World, Fail> {
-    let alloc = rt.alloc();
-    let mut world = World::with(alloc, TRUCKS_DOMAIN.as_bytes(), TRUCKS_PROBLEM.as_bytes())?;
-    world.hold(alloc, "plan", PLAN)?;
-    assert_eq!(rt; world.run(alloc, &EMBED)?, 0);
-    Ok(world)
-}
-
-#[test]
-fn each_call_of_a_translation_fails_in_turn(rt: HostRuntime) -> Result<(), Fail> {
-    let before = embedded(&rt)?;
-    let compile = Command {
-        words: &COMPILE,
-        reads: &TASK,
-        writes: &WRITTEN_TASK,
-    };
-    compile.fails(&rt, &before)?;
-    let embed = Command {
-        words: &EMBED,
-        reads: &TASK_AND_PLAN,
-        writes: &WRITTEN_TASK_AND_PLAN,
-    };
-    embed.fails(&rt, &before)
-}
-
-#[test]
-fn each_call_of_the_other_commands_fails_in_turn(rt: HostRuntime) -> Result<(), Fail> {
-    let before = embedded(&rt)?;
-    let lift = Command {
-        words: &LIFT,
-        reads: &BOTH_TASKS_AND_PLAN,
-        writes: &LIFTED,
-    };
-    lift.fails(&rt, &before)?;
-    let evaluate = Command {
-        words: &EVALUATE,
-        reads: &TASK_AND_PLAN,
-        writes: &[],
-    };
-    evaluate.fails(&rt, &before)?;
-    let generate = Command {
-        words: &GENERATE,
-        reads: &[],
-        writes: &SAMPLE,
-    };
-    generate.fails(&rt, &before)
 }

@@ -1,84 +1,112 @@
-//! A run over files and a sink in memory, and what is left of it.
+//! Files and a sink in memory, and what a run over them leaves.
 
+use crate::complaint::Stop;
+use crate::shown::{difference, shown};
 use p3_base::{MemFiles, MemSink, NoMemory, Word};
 use p3_cli::run;
 use std::alloc::Global;
 
-/// The smallest useful domain: one action that adds `p`.
-pub(crate) const DOMAIN: &str =
-    "(define (domain d) (:predicates (p))\n(:action a :parameters () :precondition () :effect (p)))\n";
+/// How many bytes the runs of a row may print.
+const ROOM: u32 = 1 << 16;
 
-/// A problem that prefers `p` in the end, at a weight of 5.
-pub(crate) const PROBLEM: &str =
-    "(define (problem q) (:domain d) (:init)\n(:goal (preference g (p)))\n(:metric minimize (* 5 (is-violated g))))\n";
-
-/// What is written for the two.
-pub(crate) const WRITTEN_DOMAIN: &str =
-    "(define (domain compiled)\n(:requirements :adl :action-costs)\n(:predicates (f0) (go) (e0) (e1))\n(:functions (total-cost) - number)\n(:action s0v :parameters ()\n :precondition (go)\n :effect (and (f0)))\n(:action finish :parameters ()\n :precondition (go)\n :effect (and (not (go)) (e0)))\n(:action collect0 :parameters ()\n :precondition (and (e0) (f0))\n :effect (and (not (e0)) (e1)))\n(:action forgo0 :parameters ()\n :precondition (and (e0) (not (f0)))\n :effect (and (not (e0)) (e1) (increase (total-cost) 5)))\n)\n";
-
-/// The problem that is written.
-pub(crate) const WRITTEN_PROBLEM: &str =
-    "(define (problem compiled)\n(:domain compiled)\n(:init (= (total-cost) 0) (go))\n(:goal (e1))\n(:metric minimize (total-cost)))\n";
-
-/// The report of the translation.
-pub(crate) const REPORT: &str = "steps 1\npreferences 1\nbase 0\ndirection minimize\n";
-
-/// The words of the translation.
-pub(crate) const COMPILE: [&str; 5] = ["compile", "d", "p", "od", "op"];
-
-/// The text with one part of it replaced, where it has that part.
-pub(crate) fn replaced(
-    alloc: Global,
-    text: &str,
-    old: &str,
-    new: &str,
-) -> Result<Vec<u8>, NoMemory> {
-    let Some((before, behind)) = text.split_once(old) else {
-        return Vec::from_slice(alloc, text.as_bytes()).map_err(NoMemory::from);
-    };
-    let mut bytes = Vec::from_slice(alloc, before.as_bytes())?;
-    bytes.extend_from_slice(new.as_bytes())?;
-    bytes.extend_from_slice(behind.as_bytes())?;
-    Ok(bytes)
-}
-
-/// Files and a sink in memory.
+/// Files and a sink in memory, and the last run over them.
 #[derive(Drop)]
 pub(crate) struct World {
-    pub(crate) files: MemFiles,
-    pub(crate) sink: MemSink,
+    alloc: Global,
+    files: MemFiles,
+    sink: MemSink,
+    status: u8,
+    printed_before: usize,
 }
 
 impl World {
-    /// Holds a domain under `d` and a problem under `p`.
-    pub(crate) fn with(alloc: Global, domain: &[u8], problem: &[u8]) -> Result<World, NoMemory> {
-        let mut files = MemFiles::new(alloc);
-        files.hold(Word::of(alloc, b"d")?, Vec::from_slice(alloc, domain)?)?;
-        files.hold(Word::of(alloc, b"p")?, Vec::from_slice(alloc, problem)?)?;
-        let sink = MemSink::new(alloc, 4096)?;
-        Ok(World { files, sink })
+    /// No file is held.
+    pub(crate) fn new(alloc: Global) -> Result<World, NoMemory> {
+        let sink = MemSink::new(alloc, ROOM)?;
+        let files = MemFiles::new(alloc);
+        Ok(World {
+            alloc,
+            files,
+            sink,
+            status: 0,
+            printed_before: 0,
+        })
     }
 
     /// Holds these bytes under a name.
-    pub(crate) fn hold(&mut self, alloc: Global, name: &str, bytes: &[u8]) -> Result<(), NoMemory> {
-        self.files.hold(
-            Word::of(alloc, name.as_bytes())?,
-            Vec::from_slice(alloc, bytes)?,
-        )
-    }
-
-    /// Runs the words, and answers the status.
-    pub(crate) fn run(&mut self, alloc: Global, words: &[&str]) -> Result<u8, NoMemory> {
-        let mut all = Vec::new(alloc);
-        for word in words {
-            all.push(Word::of(alloc, word.as_bytes())?)?;
-        }
-        Ok(run(alloc, all.as_slice(), &mut self.files, &mut self.sink))
+    pub(crate) fn hold(&mut self, name: &Word, bytes: &[u8]) -> Result<(), NoMemory> {
+        let name = Word::of(self.alloc, name.bytes())?;
+        let bytes = Vec::from_slice(self.alloc, bytes)?;
+        self.files.hold(name, bytes)
     }
 
     /// What is held under a name.
-    pub(crate) fn held(&self, alloc: Global, name: &str) -> Result<Option<&[u8]>, NoMemory> {
-        let name = Word::of(alloc, name.as_bytes())?;
-        Ok(self.files.bytes(&name))
+    pub(crate) fn held(&self, name: &Word) -> Option<&[u8]> {
+        self.files.bytes(name)
+    }
+
+    /// Lets a call of the files fail. A write leaves so many bytes.
+    pub(crate) fn fail(&mut self, call: u32, left: u32) -> Result<(), NoMemory> {
+        self.files.fail(call, left)
+    }
+
+    /// Lets a put fail.
+    pub(crate) fn fail_put(&mut self, put: u32) -> Result<(), NoMemory> {
+        self.sink.fail(put)
+    }
+
+    /// Runs the words.
+    pub(crate) fn run(&mut self, words: &[Word]) {
+        self.printed_before = self.sink.bytes().len();
+        self.status = run(self.alloc, words, &mut self.files, &mut self.sink);
+    }
+
+    /// What the last run printed.
+    fn printed(&self) -> &[u8] {
+        match self.sink.bytes().get(self.printed_before..) {
+            Some(bytes) => bytes,
+            None => b"".as_slice(),
+        }
+    }
+
+    /// Whether the last run ended with that status.
+    pub(crate) fn ends(&self, line: u32, status: u8) -> Result<(), Stop> {
+        let came = self.status;
+        if came == status {
+            return Ok(());
+        }
+        let words = format!(in self.alloc; "status {status} is wanted, and {came} came")?;
+        Err(Stop::at(line, words))
+    }
+
+    /// Whether the last run printed that.
+    pub(crate) fn prints(&self, line: u32, bytes: &[u8]) -> Result<(), Stop> {
+        let came = self.printed();
+        if came == bytes {
+            return Ok(());
+        }
+        let words = difference(self.alloc, "printed", bytes, came)?;
+        Err(Stop::at(line, words))
+    }
+
+    /// Whether a file holds these bytes, or is not there.
+    pub(crate) fn holds(&self, line: u32, name: &Word, bytes: Option<&[u8]>) -> Result<(), Stop> {
+        let file = shown(self.alloc, name.bytes(), 0)?;
+        let words = match (bytes, self.held(name)) {
+            (Some(bytes), Some(came)) => {
+                if bytes == came {
+                    return Ok(());
+                }
+                difference(self.alloc, file.as_str(), bytes, came)?
+            }
+            (None, None) => return Ok(()),
+            (Some(_), None) => format!(in self.alloc;
+                "{file}: a file is wanted, and none is there"
+            )?,
+            (None, Some(_)) => format!(in self.alloc;
+                "{file}: no file is wanted, and one is there"
+            )?,
+        };
+        Err(Stop::at(line, words))
     }
 }

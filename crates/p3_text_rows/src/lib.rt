@@ -1,12 +1,10 @@
-//! Worked texts, which the readers of halves take or refuse, and tasks with their first offences.
+//! What no worked row can say: calls of the reader and of the outside by themselves.
 #![tactic(auto)]
 
 #[cfg(test)]
-mod constructs;
+mod outlines;
 #[cfg(test)]
-mod halves;
-#[cfg(test)]
-mod offences;
+mod outside;
 #[cfg(test)]
 mod places;
 #[cfg(test)]

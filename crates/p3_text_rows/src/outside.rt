@@ -1,65 +1,8 @@
-//! Failures of the outside, and the outside itself.
+//! The outside itself: files of the machine, files that never fail, and values that take memory.
 
-use crate::world::{COMPILE, DOMAIN, PROBLEM, WRITTEN_DOMAIN, WRITTEN_PROBLEM, World};
 use p3_base::{Boxed, Files, List, Name, ReadFault, RealFiles, Sink, SureFiles, SureSink, Word};
 use std::alloc::Global;
 use std::test::Fail;
-
-#[test]
-fn each_call_of_the_files_fails_in_turn(rt: HostRuntime) -> Result<(), Fail> {
-    let alloc = rt.alloc();
-    let cases = [
-        (0, 3, "read fault: domain\n", None, None),
-        (1, 3, "read fault: problem\n", None, None),
-        (2, 4, "write fault: written-domain\n", Some("(define"), None),
-        (
-            3,
-            4,
-            "write fault: written-problem\n",
-            Some(WRITTEN_DOMAIN),
-            Some("(define"),
-        ),
-    ];
-    for (call, status, printed, domain, problem) in cases {
-        let mut world = World::with(alloc, DOMAIN.as_bytes(), PROBLEM.as_bytes())?;
-        world.files.fail(call, 7)?;
-        assert_eq!(rt; world.run(alloc, &COMPILE)?, status, "call {call}");
-        assert_eq!(rt; world.sink.bytes(), printed.as_bytes(), "call {call}");
-        assert_eq!(rt;
-            world.held(alloc, "od")?,
-            domain.map(|text| text.as_bytes()),
-            "call {call}"
-        );
-        assert_eq!(rt;
-            world.held(alloc, "op")?,
-            problem.map(|text| text.as_bytes()),
-            "call {call}"
-        );
-    }
-    Ok(())
-}
-
-#[test]
-fn a_failed_put_comes_after_the_writes(rt: HostRuntime) -> Result<(), Fail> {
-    let alloc = rt.alloc();
-    let mut world = World::with(alloc, DOMAIN.as_bytes(), PROBLEM.as_bytes())?;
-    world.sink.fail(0)?;
-    assert_eq!(rt; world.run(alloc, &COMPILE)?, 6);
-    assert_eq!(rt; world.sink.bytes(), b"".as_slice());
-    assert_eq!(rt; world.held(alloc, "od")?, Some(WRITTEN_DOMAIN.as_bytes()));
-    assert_eq!(rt; world.held(alloc, "op")?, Some(WRITTEN_PROBLEM.as_bytes()));
-    Ok(())
-}
-
-#[test]
-fn an_absent_problem_is_a_read_fault(rt: HostRuntime) -> Result<(), Fail> {
-    let alloc = rt.alloc();
-    let mut world = World::with(alloc, DOMAIN.as_bytes(), PROBLEM.as_bytes())?;
-    assert_eq!(rt; world.run(alloc, &["compile", "d", "q", "od", "op"])?, 3);
-    assert_eq!(rt; world.sink.bytes(), b"read fault: problem\n".as_slice());
-    assert_eq!(rt; world.held(alloc, "od")?, None);
-    Ok(())
-}
 
 #[test]
 fn a_real_file_holds_what_was_written(rt: HostRuntime) -> Result<(), Fail> {

@@ -1,0 +1,8 @@
+(define (domain errands)
+  (:types place)
+  (:predicates (here ?p - place) (seen ?p - place))
+  (:functions (total-cost) - number (toll ?a ?b - place) - number)
+  (:action go :parameters (?a ?b - place)
+    :precondition (here ?a)
+    :effect (and (not (here ?a)) (here ?b) (seen ?b)
+      (increase (total-cost) (toll ?a ?b)))))

@@ -1,0 +1,5 @@
+(define (domain lamps)
+  (:types lamp)
+  (:predicates (on ?l - lamp))
+  (:action switch-on :parameters (?l - lamp) :precondition (not (on ?l)) :effect (on ?l))
+  (:action switch-off :parameters (?l - lamp) :precondition (on ?l) :effect (not (on ?l))))

@@ -1,0 +1,13 @@
+(define (problem three-lamps) (:domain lamps)
+  (:objects red green blue - lamp)
+  (:init (on red))
+  (:goal (and (on blue) (preference dark (not (on red)))))
+  (:constraints (and
+    (always (imply (on blue) (on green)))
+    (sometime (not (on red)))
+    (forall (?l - lamp) (preference quiet (at-most-once (on ?l))))
+    (preference order (sometime-before (on blue) (on green)))
+    (preference answer (sometime-after (on green) (on blue)))
+    (preference rest (at end (not (on green))))))
+  (:metric minimize (+ (* 4 (is-violated dark)) (* 2 (is-violated quiet))
+    (is-violated order) (is-violated answer) (* 3 (is-violated rest)))))

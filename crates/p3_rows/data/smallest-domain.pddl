@@ -1,0 +1,2 @@
+(define (domain d) (:predicates (p))
+(:action a :parameters () :precondition () :effect (p)))

@@ -1,0 +1,5 @@
+(define (problem compiled)
+(:domain compiled)
+(:init (= (total-cost) 0) (go))
+(:goal (e1))
+(:metric minimize (total-cost)))
