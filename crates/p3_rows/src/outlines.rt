@@ -4,7 +4,7 @@ ghost use Rattle.std.specs.Prelude.{◌≢◌};
 ghost use Rattle.p3_base.specs.declared.refusal.Role.TheVariants.{Plan};
 
 use p3_base::{Code, NoMemory, Role};
-use p3_syntax::{ReadFail, View, outline};
+use p3_outline::{ReadFail, View, outline};
 use std::alloc::Global;
 
 fn is_word(view: Option<View<'_, '_>>, text: &[u8], offset: u32) -> bool {

@@ -2,7 +2,8 @@
 
 use crate::trucks::{TRUCKS_DOMAIN, TRUCKS_PROBLEM};
 use p3_base::{Code, NoMemory, Refusal, Side};
-use p3_syntax::{ReadFail, read_domain, read_problem};
+use p3_outline::ReadFail;
+use p3_syntax::{read_domain, read_problem};
 use std::alloc::Global;
 use std::test::Fail;
 

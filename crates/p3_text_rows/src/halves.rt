@@ -1,7 +1,8 @@
 //! What comes of reading a half.
 
 use p3_base::{NoMemory, Refusal, Role, Side};
-use p3_syntax::{ReadFail, read_domain, read_problem};
+use p3_outline::ReadFail;
+use p3_syntax::{read_domain, read_problem};
 use std::alloc::Global;
 
 /// A text in three pieces, of which the second is the one that is looked at.
