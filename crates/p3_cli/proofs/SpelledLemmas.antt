@@ -14,9 +14,10 @@ use Rattle.p3_tree.specs.Sides.{InDomain, InProblem, byte_limit}
 use Rattle.p3_tree.specs.declared.task.Domain.{Domain}
 use Rattle.p3_tree.specs.declared.task.Problem.{Problem}
 use Rattle.p3_tree.specs.declared.task.Task.{Task}
-use Rattle.p3_syntax.specs.Texts.{IsHalfText, IfRefused}
-use Rattle.p3_syntax.specs.declared.error.ReadFail.{ReadFail}
-use Rattle.p3_syntax.specs.declared.error.ReadFail.TheVariants as fail
+use Rattle.p3_syntax.specs.Texts.{IsHalfText}
+use Rattle.p3_outline.specs.Texts.{IfRefused}
+use Rattle.p3_outline.specs.declared.error.ReadFail.{ReadFail}
+use Rattle.p3_outline.specs.declared.error.ReadFail.TheVariants as fail
 use Rattle.p3_types.specs.Texts.{HasTexts}
 use Rattle.p3_cli.specs.Evaluation.{given_plan}
 use Rattle.p3_cli.specs.Lifting.{given_lift}

@@ -11,8 +11,8 @@ use Rattle.p3_tree.specs.Refusals.First.{AreAccepted, AreReadable, Given, IsFirs
 use Rattle.p3_tree.specs.Refusals.First as first
 use Rattle.p3_tree.specs.Reports.Refusals.{refusal_line}
 use Rattle.p3_tree.specs.declared.task.Task.{Task}
-use Rattle.p3_syntax.specs.declared.error.ReadFail.{ReadFail}
-use Rattle.p3_syntax.specs.declared.error.ReadFail.TheVariants as fail
+use Rattle.p3_outline.specs.declared.error.ReadFail.{ReadFail}
+use Rattle.p3_outline.specs.declared.error.ReadFail.TheVariants as fail
 use Rattle.p3_cli.specs.declared.ending.Ending.{Ending}
 use Rattle.p3_cli.specs.declared.ending.Ending.TheVariants.{Done, Refused, Invalid, TooLong, ReadFailed, WriteFailed, OutOfMemory, Usage}
 use Rattle.p3_cli.specs.declared.texts.Texts.{Texts}

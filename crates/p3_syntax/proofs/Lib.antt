@@ -1,12 +1,5 @@
 pub mod Loops
-pub mod NodeLemmas
-pub mod BalanceLemmas
-pub mod SoundLemmas
-pub mod BuildLemmas
-pub mod NumberLemmas
-pub mod ConstructLemmas
 pub mod FirstLemmas
-pub mod PlaceLemmas
 pub mod TreeLemmas
 pub mod NumeralLemmas
 pub mod GroupLemmas

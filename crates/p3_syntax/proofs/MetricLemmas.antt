@@ -2,7 +2,7 @@
 use Rattle.std.proofs.Common.{◌≡◌, ℕ, List}
 use Rattle.p3_tree.specs.Grammar.Metrics.{num_place, num_word, num_in}
 use Rattle.p3_tree.specs.declared.expression.Expression.{Expression}
-use Rattle.p3_syntax.specs.Nodes.{IsWordOf, IsList, elements}
+use Rattle.p3_outline.specs.Nodes.{IsWordOf, IsList, elements}
 use Rattle.p3_syntax.specs.Trees.{listed}
 use Rattle.p3_syntax.proofs.LayerLemmas.{descend_word, descend_list}
 

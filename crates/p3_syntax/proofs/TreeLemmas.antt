@@ -5,7 +5,7 @@ use Rattle.p3_tree.specs.Grammar.Words.{◌>>=◌, ListPart, raws, descend, desc
 use Rattle.p3_tree.specs.declared.expression.Expression.{Expression, Group', Row_of-Expression, end_of-Expression, more_of-Expression}
 use Rattle.p3_tree.specs.declared.expression.Expression.TheVariants as expression
 use Rattle.p3_tree.specs.declared.term.Ref.{Ref}
-use Rattle.p3_syntax.specs.Nodes.{elements, IsWordOf, IsList}
+use Rattle.p3_outline.specs.Nodes.{elements, IsWordOf, IsList}
 use Rattle.p3_syntax.specs.Trees.{listed}
 
 pub no_parts : (e : Expression) (bytes : List _) → IsWordOf e bytes → parts_place e ≡ None

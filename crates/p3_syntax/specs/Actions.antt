@@ -12,9 +12,9 @@ use Rattle.p3_tree.specs.declared.goal.PreGoal.{PreGoal}
 use Rattle.p3_tree.specs.declared.goal.PreGoal.TheVariants as goal
 use Rattle.p3_tree.specs.declared.effect.Effect.{Effect}
 use Rattle.p3_tree.specs.declared.effect.Effect.TheVariants as effect
-use Rattle.p3_syntax.specs.declared.view.Parts.{Parts}
+use Rattle.p3_outline.specs.declared.view.Parts.{Parts}
 use Rattle.p3_syntax.specs.declared.tree.actions.ActionPart.{ActionPart}
-use Rattle.p3_syntax.specs.Nodes.{expression_of, expressions_of}
+use Rattle.p3_outline.specs.Nodes.{expression_of, expressions_of}
 use Rattle.p3_syntax.specs.Trees.{the_word}
 
 abbrev pub the_part : ActionPart → Section

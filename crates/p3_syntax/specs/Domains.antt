@@ -13,9 +13,9 @@ use Rattle.p3_tree.specs.declared.task.Domain.{Domain}
 use Rattle.p3_syntax.specs.declared.tree.domains.Declarations.{Declarations}
 use Rattle.p3_syntax.specs.declared.tree.domains.DomainContents.{DomainContents}
 use Rattle.p3_syntax.specs.Sections.{requirements_among, constraints_among}
-use Rattle.p3_syntax.specs.declared.view.View.{View}
-use Rattle.p3_syntax.specs.declared.view.Parts.{Parts}
-use Rattle.p3_syntax.specs.Nodes.{expression_of, expressions_of}
+use Rattle.p3_outline.specs.declared.view.View.{View}
+use Rattle.p3_outline.specs.declared.view.Parts.{Parts}
+use Rattle.p3_outline.specs.Nodes.{expression_of, expressions_of}
 use Rattle.p3_syntax.specs.Groups.{Item, item_at}
 
 abbrev pub kind_at : Item → Option Kind

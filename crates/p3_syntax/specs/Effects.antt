@@ -6,8 +6,8 @@ use Rattle.p3_tree.specs.Grammar.Words.{ListPart, descend, all_trees, choose}
 use Rattle.p3_tree.specs.Grammar.Effects.{Found, effect_in, effect_forms, add_form}
 use Rattle.p3_tree.specs.declared.expression.Expression.{Expression}
 use Rattle.p3_tree.specs.declared.effect.Effect.{Effect}
-use Rattle.p3_syntax.specs.declared.view.Parts.{Parts}
-use Rattle.p3_syntax.specs.Nodes.{expressions_of}
+use Rattle.p3_outline.specs.declared.view.Parts.{Parts}
+use Rattle.p3_outline.specs.Nodes.{expressions_of}
 use Rattle.p3_syntax.specs.Trees.{listed}
 
 -- what the place of effects finds

@@ -1,24 +1,13 @@
 -- What is refused of a text, and where.
-use Rattle.std.specs.Prelude.{◌≡◌, ℕ, ◌+◌, ◌≤◌, List, length, Option, Some, None}
-use Rattle.std.specs.Option.{option_or}
+use Rattle.std.specs.Prelude.{ℕ, List, length, Option, Some, None}
 use Rattle.p3_base.specs.declared.refusal.Refusal.{Refusal}
 use Rattle.p3_base.specs.declared.refusal.Role.{Role}
 use Rattle.p3_tree.specs.Refusals.First.{Text, HalfText, IsReadable, IsRefusedText}
 use Rattle.p3_tree.specs.declared.expression.Expression.{Expression}
-use Rattle.p3_tree.specs.Refusals.Texts.{construct_in}
 use Rattle.p3_places.specs.Found.{side_of, half_of, HasTree}
-use Rattle.p3_syntax.specs.Numbers.{number_refusal}
-use Rattle.p3_syntax.specs.Texts.{IfRefused}
-use Rattle.p3_syntax.specs.declared.error.ReadFail.{ReadFail}
-
--- the refusal names that file, and the word at fault is bytes of its text, which has so many
-pub record IsWithin (role : Role) (size : ℕ) (refusal : Refusal) : Type 0 where
-  pub file : refusal.pos.role ≡ role
-  pub within : refusal.pos.offset + refusal.len ≤ size
-
--- what a half's text shows by itself behind bytes, parentheses and levels
-abbrev pub left_out_refusal : Role → List ℕ → Expression → Option Refusal
-left_out_refusal role text e = option_or (construct_in role (Some e)) (number_refusal role text)
+use Rattle.p3_outline.specs.First.{IsWithin}
+use Rattle.p3_outline.specs.Texts.{IfRefused}
+use Rattle.p3_outline.specs.declared.error.ReadFail.{ReadFail}
 
 abbrev pub half_text : Role → List ℕ → Text
 half_text role text = HalfText (side_of role) (half_of role) text

@@ -5,12 +5,12 @@ use Rattle.p3_tree.specs.Grammar.Lists.{grouped, typed_item}
 use Rattle.p3_tree.specs.declared.expression.Expression.{Expression}
 use Rattle.p3_tree.specs.declared.term.Ref.{Ref}
 use Rattle.p3_tree.specs.declared.term.Typed.{Typed}
-use Rattle.p3_syntax.specs.declared.view.View.{View}
+use Rattle.p3_outline.specs.declared.view.View.{View}
 use Rattle.p3_syntax.specs.declared.tree.groups.Groups.{Groups}
 use Rattle.p3_syntax.specs.declared.tree.groups.TypedItem.{TypedItem}
 use Rattle.p3_syntax.specs.declared.error.Fault.{Fault}
 use Rattle.p3_syntax.specs.Reading.{Fails}
-use Rattle.p3_syntax.specs.Nodes.{expression_of, expressions_of}
+use Rattle.p3_outline.specs.Nodes.{expression_of, expressions_of}
 
 -- an item, and its type where it has one
 abbrev pub Item : Type 0

@@ -4,9 +4,9 @@ use Rattle.p3_tree.specs.Grammar.Metrics.{num_place, trees_of, violated_form}
 use Rattle.p3_tree.specs.Grammar.Metrics as metrics
 use Rattle.p3_tree.specs.declared.term.Ref.{Ref}
 use Rattle.p3_tree.specs.declared.metric.Num.{Num}
-use Rattle.p3_syntax.specs.declared.view.Parts.{Parts}
+use Rattle.p3_outline.specs.declared.view.Parts.{Parts}
 use Rattle.p3_syntax.specs.declared.tree.words.TextWord.{TextWord}
-use Rattle.p3_syntax.specs.Nodes.{expressions_of}
+use Rattle.p3_outline.specs.Nodes.{expressions_of}
 use Rattle.p3_syntax.specs.Trees.{any_word, the_word, listed}
 
 -- what a form makes of the parts behind its word

@@ -17,8 +17,8 @@ use Rattle.p3_syntax.specs.declared.tree.problems.Start.{Start}
 use Rattle.p3_syntax.specs.declared.tree.problems.Conditions.{Conditions}
 use Rattle.p3_syntax.specs.declared.tree.problems.Aims.{Aims}
 use Rattle.p3_syntax.specs.declared.tree.problems.ProblemContents.{ProblemContents}
-use Rattle.p3_syntax.specs.declared.view.Parts.{Parts}
-use Rattle.p3_syntax.specs.Nodes.{expressions_of}
+use Rattle.p3_outline.specs.declared.view.Parts.{Parts}
+use Rattle.p3_outline.specs.Nodes.{expressions_of}
 use Rattle.p3_syntax.specs.Sections.{requirements_among, constraints_among}
 
 -- an atom's entry, from its parts

@@ -15,8 +15,8 @@ use Rattle.p3_syntax.specs.declared.tree.parts.HeadedParts.{HeadedParts}
 use Rattle.p3_syntax.specs.declared.tree.sections.Half.{Half}
 use Rattle.p3_syntax.specs.declared.tree.sections.Half.TheVariants as half
 use Rattle.p3_syntax.specs.declared.tree.sections.NamedSections.{NamedSections}
-use Rattle.p3_syntax.specs.declared.view.Parts.{Parts}
-use Rattle.p3_syntax.specs.Nodes.{expressions_of}
+use Rattle.p3_outline.specs.declared.view.Parts.{Parts}
+use Rattle.p3_outline.specs.Nodes.{expressions_of}
 use Rattle.p3_syntax.specs.Trees.{the_head}
 
 abbrev pub the_section : HeadedParts → Section

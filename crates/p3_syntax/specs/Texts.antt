@@ -1,11 +1,8 @@
 -- What is said of the text of a half.
-use Rattle.std.specs.Prelude.{ℕ, List, ⊤}
-use Rattle.p3_base.specs.declared.refusal.Refusal.{Refusal}
+use Rattle.std.specs.Prelude.{ℕ, List}
 use Rattle.p3_tree.specs.declared.expression.Expression.{Expression}
 use Rattle.p3_tree.specs.Grammar.Words.{Place, IsText}
 use Rattle.p3_tree.specs.Grammar.Texts.{IsBalanced}
-use Rattle.p3_syntax.specs.declared.error.ReadFail.{ReadFail}
-use Rattle.p3_syntax.specs.declared.error.ReadFail.TheVariants.{Refused, NoMemory}
 
 -- The text spells an expression that has this tree at the place. A text spells one expression at most,
 -- and a place gives an expression one tree at most.
@@ -13,8 +10,3 @@ pub record IsHalfText {A : Type 0} (place : Place A) (text : List ℕ) (tree : A
   pub expression : Expression
   pub balanced : IsBalanced text expression
   pub reads : IsText place expression tree
-
--- of a refusal, and nothing where memory is wanting
-abbrev pub IfRefused : ReadFail → (Refusal → Type 0) → Type 0
-IfRefused (Refused refusal) P = P refusal
-IfRefused NoMemory P = ⊤

@@ -15,15 +15,15 @@ use Rattle.p3_syntax.specs.declared.tree.formulas.AtomParts.{AtomParts}
 use Rattle.p3_tree.specs.declared.expression.Expression.{Expression, Word, Group'}
 use Rattle.p3_tree.specs.declared.term.Ref.{Ref}
 use Rattle.p3_tree.specs.declared.effect.Numeral.{Numeral}
-use Rattle.p3_syntax.specs.declared.view.View.{View}
-use Rattle.p3_syntax.specs.declared.view.Parts.{Parts}
+use Rattle.p3_outline.specs.declared.view.View.{View}
+use Rattle.p3_outline.specs.declared.view.Parts.{Parts}
 use Rattle.p3_syntax.specs.declared.tree.numerals.Decimal.{Decimal}
 use Rattle.p3_tree.specs.Names.{Name, same_name, has_name, total_cost}
 use Rattle.p3_tree.specs.Grammar.Words.{reserved_words}
 use Rattle.p3_tree.specs.Decimals.{is_decimal, digits_of, digits_value, places_of}
 use Rattle.p3_syntax.specs.declared.tree.words.TextWord.{TextWord}
 use Rattle.p3_syntax.specs.declared.tree.parts.HeadedParts.{HeadedParts}
-use Rattle.p3_syntax.specs.Nodes.{expression_of, expressions_of}
+use Rattle.p3_outline.specs.Nodes.{expression_of, expressions_of}
 
 abbrev pub the_word : TextWord → Ref
 the_word word = record { name = str_to_ascii_lowercase word.text.now; at = word.at }

@@ -1,22 +1,10 @@
-//! Why a half was not read.
+//! Why a production was not read.
 
 ghost use Rattle.std.specs.Prelude.{◌≡◌};
 ghost use Rattle.p3_syntax.specs.declared.error.Fault.TheVariants as fault;
 
-use p3_base::{NoMemory, Refusal};
+use p3_base::NoMemory;
 use std::alloc::{AllocError, AllocFailed};
-use thiserror::Error;
-
-/// Why a half was not read.
-#[derive(Debug, Drop, Error)]
-pub enum ReadFail {
-    /// The text is no such half.
-    #[error("the text is refused")]
-    Refused(Refusal),
-    /// Memory is wanting.
-    #[error("want of memory")]
-    NoMemory,
-}
 
 /// Why a production was not read: the text is none of it, or memory is wanting.
 #[derive(Clone, Copy, Debug)]

@@ -3,45 +3,19 @@
 ghost use Rattle.std.specs.Prelude.{◌≡◌, ◌≢◌, ◌≤◌, length, IfOk, IfErr};
 ghost use Rattle.p3_base.specs.declared.refusal.Role.TheVariants.{Plan};
 ghost use Rattle.p3_tree.specs.Refusals.First.{IsReadable};
-ghost use Rattle.p3_tree.specs.Refusals.Texts.{text_refusal};
-ghost use Rattle.p3_places.specs.Found.{side_of, half_of, HasTree};
-ghost use Rattle.p3_syntax.specs.Nodes.{root_of};
-ghost use Rattle.p3_syntax.specs.Outlines.{IsOutline};
-ghost use Rattle.p3_syntax.specs.First.{IsFirstOf, StandsIn, left_out_refusal, half_text, Decides};
+ghost use Rattle.p3_places.specs.Found.{half_of, HasTree};
+ghost use Rattle.p3_outline.specs.Nodes.{root_of};
+ghost use Rattle.p3_outline.specs.Outlines.{IsOutline};
+ghost use Rattle.p3_syntax.specs.First.{IsFirstOf, StandsIn, half_text, Decides};
 
-use crate::constructs::first_construct;
-use crate::error::ReadFail;
-use crate::numbers::first_long_number;
-use crate::outlines::outline;
-use crate::view::Outline;
 use p3_base::{NoMemory, Refusal, Role};
+use p3_outline::{Outline, ReadFail, first_shown, outline};
 use p3_places::first_malformed;
 use std::alloc::Global;
 
-/// The first word of a construct that is left out by name, or else the first number too long.
-fn first_left_out(role: Role, outline: &Outline<'_>, text: &[u8]) -> Option<Refusal>
-    requires short { length text.now ≤ 268435456 }
-    ensures { result ≡ left_out_refusal role text.now (root_of outline.now) }
-{
-    match first_construct(role, outline.root()) {
-        Some(refusal) => Some(refusal),
-        None => first_long_number(role, text),
-    }
-}
-
-/// The first of these refusals that a text with an outline shows.
-fn first_shown(role: Role, outline: &Outline<'_>, text: &[u8]) -> Option<Refusal>
-    requires of_a_task { role ≢ Plan }
-    requires short { length text.now ≤ 268435456 }
-    requires outline { IsOutline role text.now outline.now }
-    ensures { result ≡ text_refusal (side_of role) (half_of role) text.now }
-{
-    first_left_out(role, outline, text)
-}
-
 /// The first refusal of a text with an outline: one that it shows by itself, or else the token where
 /// it leaves the grammar.
-#[tactic(auto, using(crate::proofs::PlaceLemmas::shown_within, crate::proofs::FirstLemmas::decided_last))]
+#[tactic(auto, using(p3_outline::proofs::PlaceLemmas::shown_within, crate::proofs::FirstLemmas::decided_last))]
 fn refusal_of(
     alloc: Global,
     role: Role,
@@ -62,7 +36,7 @@ fn refusal_of(
 /// The outline of a half's text, where the half has a tree. Else the first refusal of the text: a
 /// foreign byte, parentheses that do not fit, a list too deep, a construct that is left out by
 /// name, a number too long, or the token where the text leaves the grammar, in this order.
-#[tactic(auto, using(crate::proofs::PlaceLemmas::shown_within))]
+#[tactic(auto, using(p3_outline::proofs::PlaceLemmas::shown_within))]
 pub(crate) fn readable<'a>(
     alloc: Global,
     role: Role,

@@ -4,16 +4,17 @@ ghost use Rattle.std.specs.Prelude.{◌≡◌, ◌≤◌, length, IfOk, IfErr};
 ghost use Rattle.p3_tree.specs.Grammar.Halves.{domain_place, problem_place};
 ghost use Rattle.p3_tree.specs.Refusals.First.{HalfText, IsReadable};
 ghost use Rattle.p3_tree.specs.Sides.{InDomain, InProblem, role_of, byte_limit};
-ghost use Rattle.p3_syntax.specs.Nodes.{expression_of};
+ghost use Rattle.p3_outline.specs.Nodes.{expression_of};
 ghost use Rattle.p3_syntax.specs.First.{IsFirstOf, StandsIn};
 ghost use Rattle.p3_syntax.specs.Reading.{Gives};
 ghost use Rattle.p3_syntax.specs.Texts.{IsHalfText};
 
-use crate::error::{Fault, ReadFail};
+use crate::error::Fault;
 use crate::first::readable;
 use crate::tree::domains::domain;
 use crate::tree::problems::problem;
 use p3_base::{Role, Side};
+use p3_outline::ReadFail;
 use p3_tree::{Domain, Problem};
 use std::alloc::Global;
 

@@ -1,7 +1,7 @@
 //! An outline of a small text, walked.
 
 use p3_base::{NoMemory, Role};
-use p3_syntax::{View, outline};
+use p3_outline::{View, outline};
 
 fn is_word(view: Option<View<'_, '_>>, text: &[u8], offset: u32) -> bool {
     match view {

@@ -5,7 +5,7 @@ ghost use Rattle.std.specs.Option.{option_map};
 ghost use Rattle.std.specs.Str.{str_to_ascii_lowercase};
 ghost use Rattle.p3_tree.specs.Names.{has_name};
 ghost use Rattle.p3_tree.specs.Grammar.Halves.{action_keywords, action_in};
-ghost use Rattle.p3_syntax.specs.Nodes.{expressions_of};
+ghost use Rattle.p3_outline.specs.Nodes.{expressions_of};
 ghost use Rattle.p3_syntax.specs.Reading.{Gives};
 ghost use Rattle.p3_syntax.specs.Sections.{are_among, named_once};
 ghost use Rattle.p3_syntax.specs.Actions.{the_part, the_parts, each_part, parts_of_action, parameters_among, precondition_among, effect_among};
@@ -17,8 +17,8 @@ use crate::tree::lists::variables;
 use crate::tree::sections::is_named;
 use crate::tree::tests::is;
 use crate::tree::words::{TextWord, name, word};
-use crate::view::{Parts, View};
 use p3_base::List;
+use p3_outline::{Parts, View};
 use p3_tree::{Action, Effect, Part, PreGoal, Typed};
 use std::alloc::Global;
 

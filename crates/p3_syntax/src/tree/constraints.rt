@@ -2,7 +2,7 @@
 
 ghost use Rattle.p3_tree.specs.Grammar.Words.{each_at};
 ghost use Rattle.p3_tree.specs.Grammar.Constraints.{at_end_form, modal_place, constraint_place, constraint_or_empty_place};
-ghost use Rattle.p3_syntax.specs.Nodes.{expression_of, expressions_of};
+ghost use Rattle.p3_outline.specs.Nodes.{expression_of, expressions_of};
 ghost use Rattle.p3_syntax.specs.Reading.{Gives};
 ghost use Rattle.p3_syntax.specs.Trees.{constraint_at, constraint_by, each_constraint, modal_by, soft_constraint};
 
@@ -13,8 +13,8 @@ use crate::tree::lists::variables;
 use crate::tree::parts::{headed, only, pair, parts};
 use crate::tree::tests::is;
 use crate::tree::words::{TextWord, keyword};
-use crate::view::{Parts, View};
 use p3_base::{Boxed, List};
+use p3_outline::{Parts, View};
 use p3_tree::{Constraint, Modal};
 use std::alloc::Global;
 

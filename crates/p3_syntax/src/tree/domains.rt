@@ -2,7 +2,7 @@
 
 ghost use Rattle.std.specs.Prelude.{◌≡◌};
 ghost use Rattle.p3_tree.specs.Grammar.Halves.{domain_place};
-ghost use Rattle.p3_syntax.specs.Nodes.{expression_of, expressions_of};
+ghost use Rattle.p3_outline.specs.Nodes.{expression_of, expressions_of};
 ghost use Rattle.p3_syntax.specs.Reading.{Gives};
 ghost use Rattle.p3_syntax.specs.Groups.{the_item};
 ghost use Rattle.p3_syntax.specs.Sections.{the_sections};
@@ -17,8 +17,8 @@ use crate::tree::sections::{
     Half, at_most_one, constraints, is_named, named_sections, requirements,
 };
 use crate::tree::words::{function, keyword, name, predicate};
-use crate::view::{Parts, View};
 use p3_base::List;
+use p3_outline::{Parts, View};
 use p3_tree::{Action, Constraint, Domain, Header, Kind, Part, Ref, Typed};
 use std::alloc::Global;
 

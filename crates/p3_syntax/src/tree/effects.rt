@@ -1,7 +1,7 @@
 //! Effects.
 
 ghost use Rattle.p3_tree.specs.Grammar.Effects.{function_value_in, amount_place, total_cost_place, each_form, when_form, delete_form, increase_form, add_form, effect_place, effect_or_empty_place};
-ghost use Rattle.p3_syntax.specs.Nodes.{expression_of, expressions_of};
+ghost use Rattle.p3_outline.specs.Nodes.{expression_of, expressions_of};
 ghost use Rattle.p3_syntax.specs.Reading.{Gives};
 ghost use Rattle.p3_syntax.specs.Trees.{the_word};
 ghost use Rattle.p3_syntax.specs.Effects.{no_increase, effect_found, effect_form, effects_at, effect_by};
@@ -13,8 +13,8 @@ use crate::tree::numerals::numeral;
 use crate::tree::parts::{headed, only, pair, parts};
 use crate::tree::tests::is;
 use crate::tree::words::{TextWord, function, keyword};
-use crate::view::{Parts, View};
 use p3_base::{Boxed, List};
+use p3_outline::{Parts, View};
 use p3_tree::{Amount, Effect};
 use std::alloc::Global;
 

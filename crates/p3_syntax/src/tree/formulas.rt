@@ -3,7 +3,7 @@
 ghost use Rattle.std.specs.Prelude.{◌≡◌};
 ghost use Rattle.p3_tree.specs.Grammar.Words.{each_at};
 ghost use Rattle.p3_tree.specs.Grammar.Formulas.{atom_in, formula_place, not_form, imply_form, exists_form, forall_form, equal_form, atom_form};
-ghost use Rattle.p3_syntax.specs.Nodes.{expression_of, expressions_of};
+ghost use Rattle.p3_outline.specs.Nodes.{expression_of, expressions_of};
 ghost use Rattle.p3_syntax.specs.Reading.{Gives};
 ghost use Rattle.p3_syntax.specs.Trees.{form_at, formula_by, the_atom};
 
@@ -12,8 +12,8 @@ use crate::tree::lists::{fitted, room, term, terms, variables};
 use crate::tree::parts::{headed, only, pair, parts};
 use crate::tree::tests::is;
 use crate::tree::words::predicate;
-use crate::view::{Parts, View};
 use p3_base::{Boxed, List};
+use p3_outline::{Parts, View};
 use p3_tree::{Formula, Ref, Term};
 use std::alloc::Global;
 

@@ -3,7 +3,7 @@
 ghost use Rattle.std.specs.Prelude.{◌≡◌, ◌<◌, Some, length, IfOk};
 ghost use Rattle.p3_tree.specs.Grammar.Words.{each_at};
 ghost use Rattle.p3_tree.specs.Grammar.Goals.{goal_place, goal_or_empty_place, preferred};
-ghost use Rattle.p3_syntax.specs.Nodes.{expression_of, expressions_of};
+ghost use Rattle.p3_outline.specs.Nodes.{expression_of, expressions_of};
 ghost use Rattle.p3_syntax.specs.Reading.{Gives};
 ghost use Rattle.p3_syntax.specs.Trees.{each_goal, goal_by, the_named};
 
@@ -13,8 +13,8 @@ use crate::tree::lists::{fitted, room, variables};
 use crate::tree::parts::{headed, pair, parts};
 use crate::tree::tests::is;
 use crate::tree::words::{TextWord, name};
-use crate::view::{Parts, View};
 use p3_base::{Boxed, List};
+use p3_outline::{Parts, View};
 use p3_tree::{PreGoal, Pref, Ref};
 use std::alloc::Global;
 

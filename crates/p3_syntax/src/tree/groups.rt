@@ -2,12 +2,12 @@
 
 ghost use Rattle.std.specs.Prelude.{◌≡◌, ◌<◌, length, None, IfSome};
 ghost use Rattle.p3_tree.specs.Grammar.Lists.{is_dash};
-ghost use Rattle.p3_syntax.specs.Nodes.{expression_of, expressions_of};
+ghost use Rattle.p3_outline.specs.Nodes.{expression_of, expressions_of};
 ghost use Rattle.p3_syntax.specs.Groups.{GivesFirst, GivesNext, IfFound, all_grouped, groups_left, groups_size, item_before, the_item};
 
 use crate::error::Fault;
 use crate::tree::tests::is;
-use crate::view::{Parts, View};
+use p3_outline::{Parts, View};
 
 /// An item, and its type where it has one.
 #[derive(Clone, Copy)]

@@ -3,7 +3,7 @@
 ghost use Rattle.std.specs.Prelude.{◌≡◌, [], IfOk};
 ghost use Rattle.p3_tree.specs.Grammar.Words.{each_at, name_place, variable_place};
 ghost use Rattle.p3_tree.specs.Grammar.Lists.{term_place, object_place, type_place, one_type_place, variables_in, variables_place, objects_in, either_in};
-ghost use Rattle.p3_syntax.specs.Nodes.{expression_of, expressions_of};
+ghost use Rattle.p3_outline.specs.Nodes.{expression_of, expressions_of};
 ghost use Rattle.p3_syntax.specs.Reading.{Gives};
 ghost use Rattle.p3_syntax.specs.Groups.{the_item, typed_at};
 
@@ -12,8 +12,8 @@ use crate::tree::groups::{Groups, TypedItem};
 use crate::tree::parts::{headed, parts};
 use crate::tree::tests::{is, is_name, is_variable};
 use crate::tree::words::{copied, name, variable, word};
-use crate::view::{Parts, View};
 use p3_base::{List, NoMemory};
+use p3_outline::{Parts, View};
 use p3_tree::{Ref, Term, Typed};
 use std::alloc::Global;
 

@@ -2,7 +2,7 @@
 
 ghost use Rattle.p3_tree.specs.Grammar.Metrics.{num_place, num_word, num_in, total_cost_form, minus_form, sum_form, product_form, direction_place, metric_in};
 ghost use Rattle.p3_syntax.specs.Reading.{Gives};
-ghost use Rattle.p3_syntax.specs.Nodes.{expression_of, expressions_of};
+ghost use Rattle.p3_outline.specs.Nodes.{expression_of, expressions_of};
 ghost use Rattle.p3_syntax.specs.Trees.{listed};
 ghost use Rattle.p3_syntax.specs.Metrics.{num_at, violated_at, nums_at};
 
@@ -12,8 +12,8 @@ use crate::tree::numerals::numeral;
 use crate::tree::parts::{HeadedParts, headed, only, pair};
 use crate::tree::tests::is;
 use crate::tree::words::{TextWord, name, word};
-use crate::view::{Parts, View};
 use p3_base::{Boxed, Direction, List};
+use p3_outline::{Parts, View};
 use p3_tree::{Metric, Num};
 use std::alloc::Global;
 

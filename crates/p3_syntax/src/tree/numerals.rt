@@ -9,12 +9,12 @@ ghost use Rattle.p3_tree.specs.Decimals.{are_digits, at_point, is_decimal, digit
 ghost use Rattle.p3_tree.specs.Grammar.Words.{numeral_place};
 ghost use Rattle.p3_tree.specs.declared.expression.Expression.TheVariants.{Word};
 ghost use Rattle.p3_syntax.specs.declared.error.Fault.TheVariants.{Malformed};
-ghost use Rattle.p3_syntax.specs.Nodes.{expression_of};
+ghost use Rattle.p3_outline.specs.Nodes.{expression_of};
 ghost use Rattle.p3_syntax.specs.Reading.{Gives};
 ghost use Rattle.p3_syntax.specs.Trees.{HasRoom, HasRoomAt, HasRoomFor, IsDecimalOf, decimal_value, numeral_with, with_digit};
 
 use crate::error::Fault;
-use crate::view::View;
+use p3_outline::View;
 use p3_tree::Numeral;
 
 /// The bytes before the first point, and those behind it where there is one.

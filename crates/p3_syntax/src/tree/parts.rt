@@ -2,13 +2,13 @@
 
 ghost use Rattle.std.specs.Prelude.{◌≡◌, ◌<◌, ◌≤◌, length, IfOk};
 ghost use Rattle.p3_tree.specs.Grammar.Words.{parts_place, only, pair, headed};
-ghost use Rattle.p3_syntax.specs.Nodes.{expression_of, expressions_of};
+ghost use Rattle.p3_outline.specs.Nodes.{expression_of, expressions_of};
 ghost use Rattle.p3_syntax.specs.Reading.{Gives};
 ghost use Rattle.p3_syntax.specs.Trees.{the_pair, the_head};
 
 use crate::error::Fault;
 use crate::tree::words::{TextWord, word};
-use crate::view::{Parts, View};
+use p3_outline::{Parts, View};
 
 /// The parts of a list.
 #[tactic(auto, using(crate::proofs::TreeLemmas::no_parts, crate::proofs::TreeLemmas::list_parts))]

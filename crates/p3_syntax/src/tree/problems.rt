@@ -3,7 +3,7 @@
 ghost use Rattle.std.specs.Prelude.{◌≡◌};
 ghost use Rattle.p3_tree.specs.Grammar.Words.{each_at};
 ghost use Rattle.p3_tree.specs.Grammar.Halves.{true_entry, false_entry, not_form, value_form, init_place, problem_place};
-ghost use Rattle.p3_syntax.specs.Nodes.{expression_of, expressions_of};
+ghost use Rattle.p3_outline.specs.Nodes.{expression_of, expressions_of};
 ghost use Rattle.p3_syntax.specs.Reading.{Gives};
 ghost use Rattle.p3_syntax.specs.Sections.{the_sections};
 ghost use Rattle.p3_syntax.specs.Problems.{entry_in, domain_name_among, objects_among, init_among, goal_among, metric_among, start_among, conditions_among, aims_among, contents_among, problem_of};
@@ -19,8 +19,8 @@ use crate::tree::sections::{
 };
 use crate::tree::tests::is;
 use crate::tree::words::{function, name, predicate};
-use crate::view::{Parts, View};
 use p3_base::List;
+use p3_outline::{Parts, View};
 use p3_tree::{Constraint, Init, Metric, Part, PreGoal, Problem, Ref, Typed};
 use std::alloc::Global;
 

@@ -5,7 +5,7 @@ ghost use Rattle.std.specs.Str.{str_to_ascii_lowercase};
 ghost use Rattle.p3_tree.specs.Names.{same_name, has_name};
 ghost use Rattle.p3_tree.specs.Grammar.Words.{word_if};
 ghost use Rattle.p3_tree.specs.Grammar.Halves.{section_place, titled, domain_keywords, problem_keywords, begins_with_colon};
-ghost use Rattle.p3_syntax.specs.Nodes.{expression_of};
+ghost use Rattle.p3_outline.specs.Nodes.{expression_of};
 ghost use Rattle.p3_syntax.specs.Reading.{Gives};
 ghost use Rattle.p3_syntax.specs.Sections.{the_section, the_sections, the_half, kind_of, keywords_of, half_of, each_section, are_among, sections_of, the_found, named_once, only_named, passed, requirement_words, are_required, constraints_among};
 ghost use Rattle.p3_syntax.specs.Trees.{the_word};
@@ -15,8 +15,8 @@ use crate::tree::constraints::constraint_or_empty;
 use crate::tree::parts::{HeadedParts, headed, only, pair, parts};
 use crate::tree::tests::is;
 use crate::tree::words::{TextWord, keyword, name, word};
-use crate::view::{Parts, View};
 use p3_base::List;
+use p3_outline::{Parts, View};
 use p3_tree::{Constraint, Part, Ref};
 use std::alloc::Global;
 

@@ -3,14 +3,14 @@
 ghost use Rattle.std.specs.Prelude.{◌≡◌, IfOk};
 ghost use Rattle.std.specs.Str.{str_to_ascii_lowercase};
 ghost use Rattle.p3_tree.specs.Grammar.Words.{word_place, name_place, variable_place, function_place, predicate_place, is_word};
-ghost use Rattle.p3_syntax.specs.Nodes.{expression_of};
+ghost use Rattle.p3_outline.specs.Nodes.{expression_of};
 ghost use Rattle.p3_syntax.specs.Reading.{Gives};
 ghost use Rattle.p3_syntax.specs.Trees.{the_word};
 
 use crate::error::Fault;
 use crate::tree::tests::{is, is_function_name, is_name, is_predicate_name, is_variable};
-use crate::view::View;
 use p3_base::{Name, NoMemory};
+use p3_outline::View;
 use p3_tree::Ref;
 use std::alloc::Global;
 

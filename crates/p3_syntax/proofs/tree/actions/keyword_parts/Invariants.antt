@@ -1,6 +1,6 @@
 use Rattle.std.proofs.Common.{◌≡◌, map, length}
 use Rattle.p3_tree.specs.Grammar.Halves.{keyword_parts}
-use Rattle.p3_syntax.specs.Nodes.{expressions_of}
+use Rattle.p3_outline.specs.Nodes.{expressions_of}
 use Rattle.p3_syntax.specs.Actions.{the_part}
 use Rattle.p3_syntax.proofs.Loops.{behind}
 use Rattle.p3_syntax.proofs.tree.actions.keyword_parts.Given as goal

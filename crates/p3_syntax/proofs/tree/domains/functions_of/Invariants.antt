@@ -1,5 +1,5 @@
 use Rattle.std.proofs.Common.{◌≡◌}
-use Rattle.p3_syntax.specs.Nodes.{expressions_of}
+use Rattle.p3_outline.specs.Nodes.{expressions_of}
 use Rattle.p3_syntax.specs.Groups.{each_item, groups_left, groups_size}
 use Rattle.p3_syntax.specs.Domains.{function_at, functions_of}
 use Rattle.p3_syntax.proofs.GroupLemmas.{front}

@@ -1,6 +1,6 @@
 use Rattle.std.proofs.Common.{◌≡◌, length, ◌+◌, ◌*◌, ◌≤◌, ◌++◌, Some}
 use Rattle.p3_syntax.specs.Reading.{◌>>=◌}
-use Rattle.p3_syntax.specs.Nodes.{expressions_of}
+use Rattle.p3_outline.specs.Nodes.{expressions_of}
 use Rattle.p3_syntax.specs.Trees.{listed}
 use Rattle.p3_syntax.specs.Effects.{effect_found, trees_of}
 use Rattle.p3_syntax.proofs.tree.effects.+effect.Given as goal

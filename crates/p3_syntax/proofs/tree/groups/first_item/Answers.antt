@@ -1,5 +1,5 @@
 use Rattle.std.proofs.Common.{◌∙◌, sym, arith}
-use Rattle.p3_syntax.specs.Nodes.{expression_of, expressions_of}
+use Rattle.p3_outline.specs.Nodes.{expression_of, expressions_of}
 use Rattle.p3_syntax.proofs.GroupLemmas.{group_item, group_dropped, group_kind}
 use Rattle.p3_syntax.proofs.tree.groups.first_item.Goals as goal
 

@@ -1,5 +1,5 @@
 use Rattle.std.proofs.Common.{◌≡◌, ◌+◌, ◌≤◌, ◌<◌, ◌∷◌, length, take, drop}
-use Rattle.p3_syntax.specs.Nodes.{expression_of, expressions_of}
+use Rattle.p3_outline.specs.Nodes.{expression_of, expressions_of}
 use Rattle.p3_syntax.specs.Groups.{all_grouped}
 use Rattle.p3_syntax.proofs.GroupLemmas.{scan}
 use Rattle.p3_syntax.proofs.tree.groups.first_item.Given as goal

@@ -1,7 +1,7 @@
 use Rattle.std.proofs.Common.{◌≡◌}
 use Rattle.p3_tree.specs.Grammar.Words.{name_place}
 use Rattle.p3_tree.specs.Grammar.Lists.{one_type_place, objects_in}
-use Rattle.p3_syntax.specs.Nodes.{expressions_of}
+use Rattle.p3_outline.specs.Nodes.{expressions_of}
 use Rattle.p3_syntax.specs.Groups.{each_item, groups_left, groups_size, typed_at}
 use Rattle.p3_syntax.proofs.GroupLemmas.{front}
 use Rattle.p3_syntax.proofs.tree.lists.objects_of.Given as goal

@@ -1,7 +1,7 @@
 use Rattle.std.proofs.Common.{◌≡◌}
 use Rattle.p3_tree.specs.Grammar.Words.{variable_place}
 use Rattle.p3_tree.specs.Grammar.Lists.{type_place, variables_in}
-use Rattle.p3_syntax.specs.Nodes.{expressions_of}
+use Rattle.p3_outline.specs.Nodes.{expressions_of}
 use Rattle.p3_syntax.specs.Groups.{each_item, groups_left, groups_size, typed_at}
 use Rattle.p3_syntax.proofs.GroupLemmas.{front}
 use Rattle.p3_syntax.proofs.tree.lists.variables_of.Given as goal

@@ -1,7 +1,7 @@
 use Rattle.std.proofs.Common.{◌≡◌, length}
 use Rattle.p3_tree.specs.Grammar.Words.{each_at, word_if}
 use Rattle.p3_tree.specs.Grammar.Halves.{begins_with_colon}
-use Rattle.p3_syntax.specs.Nodes.{expressions_of}
+use Rattle.p3_outline.specs.Nodes.{expressions_of}
 use Rattle.p3_syntax.specs.Sections.{passed}
 use Rattle.p3_syntax.proofs.tree.sections.each_requirement.Given as goal
 

@@ -1,7 +1,7 @@
 use Rattle.std.proofs.Common.{◌≡◌, map, length}
 use Rattle.p3_tree.specs.Grammar.Words.{each_at}
 use Rattle.p3_tree.specs.Grammar.Halves.{section_place}
-use Rattle.p3_syntax.specs.Nodes.{expressions_of}
+use Rattle.p3_outline.specs.Nodes.{expressions_of}
 use Rattle.p3_syntax.specs.Sections.{the_section}
 use Rattle.p3_syntax.proofs.Loops.{behind}
 use Rattle.p3_syntax.proofs.tree.sections.each_section.Given as goal

@@ -1,0 +1,184 @@
+-- Constructs that are left out, and the first of them.
+use Rattle.std.proofs.Common.{◌≡◌, ◌∙◌, refl, sym, ap, ℕ, Bool, true, false, IsTrue, ◌↔◌, ◌||◌, ◌&&◌, not, List, [], ◌∷◌, ◌++◌, map, fold, Option, Some, None, append_assoc}
+use Rattle.std.specs.Prelude.{nat_lt, if◌then◌else◌, codes, option_map}
+use Rattle.std.specs.Bool.{one_answer}
+use Rattle.std.specs.Char.{to_ascii_lowercase}
+use Rattle.std.specs.Str.{bytes_eq}
+use Rattle.std.proofs.lemmas.Slice.Eq.{bytes_eq-Decides}
+use mathlib.Core.Former.{Count}
+use Rattle.p3_base.specs.declared.refusal.Code.TheVariants.{Construct}
+use Rattle.p3_base.specs.declared.refusal.Role.{Role}
+use Rattle.p3_tree.proofs.OnceLemmas.{Some-injective}
+use Rattle.p3_tree.specs.Names.{Name, same_name, has_name}
+use Rattle.p3_tree.specs.FirstOffence.{least_word}
+use Rattle.p3_tree.specs.Grammar.Words.{expressions, word_place}
+use Rattle.p3_tree.specs.Refusals.Constructs.{left_out, has_some, word_when, is_word_called, shown_by, not_a_number, constructs, constructs_of, constructs_all}
+use Rattle.p3_tree.specs.Refusals.Places.{refusal_at, refusal_at_word}
+use Rattle.p3_tree.specs.declared.expression.Expression.{Expression, Group', Row_of-Expression, end_of-Expression, more_of-Expression}
+use Rattle.p3_tree.specs.declared.expression.Expression.TheVariants as expression
+use Rattle.p3_tree.specs.declared.term.Ref.{Ref}
+use Rattle.p3_outline.specs.declared.constructs.Around.{Around}
+use Rattle.p3_outline.specs.declared.constructs.Found.{Found}
+use Rattle.p3_outline.specs.Nodes.{elements}
+use Rattle.p3_outline.specs.Constructs.{the_found, sooner, least_with, is_some_of, declaring, conditions, the_around, with_head, with_no_head, Finds, either_shown, increase_shown, other_shown, number_shown, timed_shown, compared_shown, metric_shown, head_shown, behind_shown, place_shown, constructs_in, total_time, behind_head, constructs_below}
+
+-- ---- words
+
+pub same_lowered : (b : Bool) (word text : List ℕ) → IsTrue b ↔ (map to_ascii_lowercase word ≡ map to_ascii_lowercase text) → map to_ascii_lowercase text ≡ text
+    → b ≡ bytes_eq (map to_ascii_lowercase word) text
+same_lowered b word text is lowered =
+    one_answer {P = map to_ascii_lowercase word ≡ text} b (bytes_eq (map to_ascii_lowercase word) text) ((λ yes. is.0 yes ∙ lowered), (λ same. is.1 (same ∙ sym lowered))) (bytes_eq-Decides (map to_ascii_lowercase word) text)
+
+same_name_sym : (a b : Name) → same_name a b ≡ same_name b a
+same_name_sym a b = one_answer {P = a ≡ b} (same_name a b) (same_name b a) (bytes_eq-Decides a b) ((λ yes. sym ((bytes_eq-Decides b a).0 yes)), (λ same. (bytes_eq-Decides b a).1 (sym same)))
+
+some_of : (names : List Name) (word : Name) → is_some_of names word ≡ has_name names word
+some_of [] word = refl
+some_of (name ∷ names) word = λ i. same_name_sym word name i || some_of names word i
+
+-- ---- the first word
+
+pub least_append : (least : Option Found) (words others : List Ref) → least_with least (words ++ others) ≡ least_with (least_with least words) others
+least_append least [] others = refl
+least_append least (word ∷ words) others = least_append (Some (sooner least (the_found word))) words others
+
+least_by : (b : Bool) (least word : Ref) → (if b then the_found word else the_found least) ≡ the_found (if b then word else least)
+least_by true least word = refl
+least_by false least word = refl
+
+least_found : (least : Ref) (words : List Ref) → least_with (Some (the_found least)) words ≡ Some (the_found (fold (λ least other. if nat_lt other.at least.at then other else least) least words))
+least_found least [] = refl
+least_found least (word ∷ words) =
+    ap (λ found. least_with (Some found) words) (least_by (nat_lt word.at least.at) least word)
+    ∙ least_found (if nat_lt word.at least.at then word else least) words
+
+pub least_is : (role : Role) (words : List Ref)
+    → option_map (λ (found : Found). refusal_at Construct role found.at found.len) (least_with None words) ≡ option_map (refusal_at_word Construct role) (least_word words)
+least_is role [] = refl
+least_is role (word ∷ words) = ap (option_map (λ (found : Found). refusal_at Construct role found.at found.len)) (least_found word words)
+
+-- ---- the lists around
+
+or_swap : (a b c d : Bool) → ((a || b) || (c || d)) ≡ ((a || c) || (b || d))
+or_swap true b c d = refl
+or_swap false true true d = refl
+or_swap false true false d = refl
+or_swap false false true d = refl
+or_swap false false false d = refl
+
+some_more : (names wanted : List Name) (word : Name) → has_some (word ∷ names) wanted ≡ (is_some_of wanted word || has_some names wanted)
+some_more names [] word = refl
+some_more names (first ∷ wanted) word =
+    ap (λ b. (same_name word first || has_name names first) || b) (some_more names wanted word)
+    ∙ or_swap (same_name word first) (has_name names first) (is_some_of wanted word) (has_some names wanted)
+
+pub head_around : (names : List Name) (innermost : Option Name) (word : Name) → with_head word (the_around names innermost) ≡ the_around (word ∷ names) (Some word)
+head_around names innermost word = λ i. record {
+  declares = sym (some_more names declaring word) i;
+  conditional = sym (some_more names conditions word) i;
+  initial = same_name word (codes ":init") || has_name names (codes ":init");
+  metric = same_name word (codes ":metric") || has_name names (codes ":metric");
+  is_right_in_init = same_name_sym word (codes ":init") i;
+}
+
+pub no_head_around : (names : List Name) (innermost : Option Name) → with_no_head (the_around names innermost) ≡ the_around names None
+no_head_around names innermost = refl
+
+-- ---- what a list shows
+
+regroup : (a b c d e f g h : List Ref) → a ++ b ++ c ++ d ++ e ++ f ++ g ++ h ≡ (a ++ b ++ c) ++ (d ++ e) ++ (f ++ g ++ h)
+regroup a b c d e f g h = simp append_assoc
+
+pub shown_as : (names : List Name) (innermost : Option Name) (head : Ref) (behind : List Expression)
+    → shown_by names innermost head behind
+    ≡ head_shown (the_around names innermost) head ++ behind_shown head behind ++ place_shown (the_around names innermost) head behind
+shown_as names innermost head behind =
+    regroup
+    (word_when (has_name left_out head.name) head) (either_shown (the_around names innermost) head) (increase_shown (the_around names innermost) head) (other_shown head behind) (number_shown head behind)
+    (timed_shown (the_around names innermost) head behind) (compared_shown (the_around names innermost) head behind) (metric_shown (the_around names innermost) head)
+    ∙ ap (λ b. (word_when b head ++ either_shown (the_around names innermost) head ++ increase_shown (the_around names innermost) head) ++ behind_shown head behind ++ place_shown (the_around names innermost) head behind)
+    (sym (some_of left_out head.name))
+
+pub shown_finds : (around : Around) (least first second last : Option Found) (head : Ref) (behind : List Expression)
+    → first ≡ least_with least (head_shown around head) → second ≡ least_with first (behind_shown head behind) → last ≡ least_with second (place_shown around head behind)
+    → Finds around least (λ names innermost. shown_by names innermost head behind) last
+shown_finds around least first second last head behind by_head behind_it by_place names innermost is =
+    let a = head_shown around head in
+    let b = behind_shown head behind in
+    let c = place_shown around head behind in
+    by_place ∙ ap (λ l. least_with l c) (behind_it ∙ ap (λ l. least_with l b) by_head ∙ sym (least_append least a b)) ∙ sym (least_append least (a ++ b) c)
+    ∙ ap (λ (x : Around). least_with least (head_shown x head ++ b ++ place_shown x head behind)) is ∙ ap (least_with least) (sym (shown_as names innermost head behind))
+
+pub number_word : (is_behind : Bool) (e : Expression) (rest : List Expression) (word : Ref) → word_place e ≡ Some word
+    → not_a_number is_behind (e ∷ rest) ≡ word_when (is_behind && not (same_name word.name (codes "number"))) word ++ not_a_number (same_name word.name (codes "-")) rest
+number_word is_behind (expression.Word at text) rest word is =
+    ap (λ (w : Ref). word_when (is_behind && not (same_name w.name (codes "number"))) w ++ not_a_number (same_name w.name (codes "-")) rest) (Some-injective _ word is)
+number_word is_behind (Group' at shape parts) rest word is = absurd cc
+
+pub number_list : (is_behind : Bool) (e : Expression) (rest : List Expression) → word_place e ≡ None → not_a_number is_behind (e ∷ rest) ≡ not_a_number false rest
+number_list is_behind (expression.Word at text) rest is = absurd cc
+number_list is_behind (Group' at shape parts) rest is = refl
+
+-- ---- lists
+
+pub word_shows : (names : List Name) (innermost : Option Name) (e : Expression) (word : Ref) → word_place e ≡ Some word → constructs names innermost e ≡ total_time word
+unfolding constructs
+word_shows names innermost (expression.Word at text) word is = ap total_time (Some-injective _ word is)
+word_shows names innermost (Group' at shape parts) word is = absurd cc
+
+all_are : (names : List Name) (innermost : Option Name) {n : Count} (row : Row_of-Expression n) → constructs_all names innermost row ≡ constructs_in names innermost (expressions row)
+unfolding constructs
+all_are names innermost end_of-Expression = refl
+all_are names innermost (more_of-Expression part rest) = ap (λ ws. constructs names innermost part ++ ws) (all_are names innermost rest)
+
+of_row : (names : List Name) (innermost : Option Name) {n : Count} (row : Row_of-Expression n) → constructs_of names innermost row ≡ constructs_below names innermost (expressions row)
+unfolding constructs
+of_row names innermost end_of-Expression = refl
+of_row names innermost (more_of-Expression (expression.Word at text) rest) =
+    ap (λ ws. shown_by names innermost (record { name = text; at = at }) (expressions rest) ++ total_time (record { name = text; at = at }) ++ ws) (all_are (text ∷ names) (Some text) rest)
+of_row names innermost (more_of-Expression (Group' at shape parts) rest) = ap (λ ws. constructs_of names None parts ++ ws) (all_are names None rest)
+
+pub list_shows : (names : List Name) (innermost : Option Name) (e : Expression) → word_place e ≡ None → constructs names innermost e ≡ constructs_below names innermost (elements e)
+unfolding constructs
+list_shows names innermost (expression.Word at text) is = absurd cc
+list_shows names innermost (Group' at shape parts) is = of_row names innermost parts
+
+-- ---- one part more
+
+-- what is found in a part, and then in the others
+module _ (names : List Name) (innermost : Option Name) (least next : Option Found) (e : Expression) (rest es : List Expression) (is : es ≡ e ∷ rest) where
+  part_next : next ≡ least_with least (constructs names innermost e) → least_with next (constructs_in names innermost rest) ≡ least_with least (constructs_in names innermost es)
+  part_next found =
+      ap (λ l. least_with l (constructs_in names innermost rest)) found ∙ sym (least_append least (constructs names innermost e) (constructs_in names innermost rest))
+      ∙ ap (λ parts. least_with least (constructs_in names innermost parts)) (sym is)
+
+  pub word_next : (test : Bool) (word : Ref) → Some word ≡ word_place e → test ≡ is_word_called word (codes "total-time") → next ≡ least_with least (word_when test word)
+      → least_with next (constructs_in names innermost rest) ≡ least_with least (constructs_in names innermost es)
+  word_next test word at tested found =
+      part_next (found ∙ ap (λ b. least_with least (word_when b word)) tested ∙ ap (least_with least) (sym (word_shows names innermost e word (sym at))))
+
+  pub list_next : (parts : List Expression) → None ≡ word_place e → parts ≡ elements e → next ≡ least_with least (constructs_below names innermost parts)
+      → least_with next (constructs_in names innermost rest) ≡ least_with least (constructs_in names innermost es)
+  list_next parts at within found =
+      part_next (found ∙ ap (λ ps. least_with least (constructs_below names innermost ps)) within ∙ ap (least_with least) (sym (list_shows names innermost e (sym at))))
+
+-- ---- in a list
+
+module _ (around inner : Around) (least last : Option Found) (first : Expression) (rest es : List Expression) (is : es ≡ first ∷ rest) where
+  pub below_head : (shown timed : Option Found) (test : Bool) (head : Ref) → Some head ≡ word_place first → inner ≡ with_head head.name around
+      → Finds around least (λ names innermost. shown_by names innermost head rest) shown → test ≡ is_word_called head (codes "total-time") → timed ≡ least_with shown (word_when test head)
+      → Finds inner timed (λ names innermost. constructs_in names innermost rest) last → Finds around least (λ names innermost. constructs_below names innermost es) last
+  below_head shown timed test head at within by_head tested by_time by_rest names innermost place =
+      let first_words = shown_by names innermost head rest in
+      let others = constructs_in (head.name ∷ names) (Some head.name) rest in
+      by_rest (head.name ∷ names) (Some head.name) (within ∙ ap (with_head head.name) place ∙ head_around names innermost head.name)
+      ∙ ap (λ l. least_with l others) (by_time ∙ ap (λ b. least_with shown (word_when b head)) tested ∙ ap (λ l. least_with l (total_time head)) (by_head names innermost place) ∙ sym (least_append least first_words (total_time head)))
+      ∙ sym (least_append least (first_words ++ total_time head) others)
+      ∙ ap (λ o. least_with least (behind_head names innermost first rest o)) at ∙ ap (λ parts. least_with least (constructs_below names innermost parts)) (sym is)
+
+  pub below_list : None ≡ word_place first → inner ≡ with_no_head around
+      → Finds inner least (λ names innermost. constructs_in names innermost es) last → Finds around least (λ names innermost. constructs_below names innermost es) last
+  below_list at within by_all names innermost place =
+      by_all names None (within ∙ ap with_no_head place ∙ no_head_around names innermost)
+      ∙ ap (λ parts. least_with least (constructs_in names None parts)) is
+      ∙ ap (λ o. least_with least (behind_head names innermost first rest o)) at ∙ ap (λ parts. least_with least (constructs_below names innermost parts)) (sym is)

@@ -1,0 +1,16 @@
+use Rattle.std.proofs.Common.{◌≡◌, ◌≤◌, ◌-◌, length}
+use Rattle.p3_lexer.specs.Lexing.{left}
+use Rattle.p3_outline.specs.Builds.{the_built}
+use Rattle.p3_outline.proofs.BuildLemmas.{Goes}
+use Rattle.p3_outline.proofs.build.build.Given as goal
+
+-- what was built follows what was read, and what is left leads to the text's expression
+abbrev pub invariant-loop-word : goal.invariant-loop-word
+invariant-loop-word l = record {
+  source : l.lexer.source ≡ l.text;
+  few : length l.building.nodes.items ≤ l.lexer.at;
+  goes : Goes l.limit l.text (left l.lexer) (the_built l.building);
+}
+
+abbrev pub decreases-loop-word : goal.decreases-loop-word
+decreases-loop-word l = length l.text - l.lexer.at

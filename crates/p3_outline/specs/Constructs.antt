@@ -1,0 +1,136 @@
+-- The first construct that is left out by name, looked for from the outside in.
+use Rattle.std.specs.Prelude.{◌≡◌, nat_lt, Bool, false, not, ◌&&◌, ◌||◌, List, [], ◌∷◌, ◌++◌, map, flat_map, length, codes, if◌then◌else◌, Option, Some, None}
+use Rattle.std.specs.List.{list_any}
+use Rattle.std.specs.Option.{option_map_or}
+use Rattle.std.specs.Str.{str_to_ascii_lowercase}
+use Rattle.p3_base.specs.Words.{is_name}
+use Rattle.p3_tree.specs.Names.{Name, same_name, has_name, total_cost}
+use Rattle.p3_tree.specs.Grammar.Words.{word_place}
+use Rattle.p3_tree.specs.Refusals.Constructs.{left_out, has_some, word_when, is_word_called, is_number_or_list, second_is_number, other_increase, not_a_number, shown_by, constructs}
+use Rattle.p3_tree.specs.declared.expression.Expression.{Expression}
+use Rattle.p3_tree.specs.declared.term.Ref.{Ref}
+use Rattle.p3_outline.specs.declared.constructs.Around.{Around}
+use Rattle.p3_outline.specs.declared.constructs.Found.{Found}
+use Rattle.p3_outline.specs.declared.constructs.TextWord.{TextWord}
+
+abbrev pub the_word : TextWord → Ref
+the_word word = record { name = str_to_ascii_lowercase word.text.now; at = word.at }
+
+-- ---- what is found first
+
+abbrev pub the_found : Ref → Found
+the_found word = record { at = word.at; len = length word.name }
+
+abbrev pub sooner : Option Found → Found → Found
+sooner None found = found
+sooner (Some least) found = if nat_lt found.at least.at then found else least
+
+-- the first of what was found and of these words
+abbrev pub least_with : Option Found → List Ref → Option Found
+least_with least [] = least
+least_with least (word ∷ words) = least_with (Some (sooner least (the_found word))) words
+
+-- ---- the lists around
+
+abbrev pub declaring : List Name
+declaring = map codes (":types" ∷ ":constants" ∷ ":objects" ∷ [])
+
+abbrev pub conditions : List Name
+conditions = map codes ("when" ∷ "forall" ∷ [])
+
+abbrev pub is_some_of : List Name → Name → Bool
+is_some_of names word = list_any (same_name word) names
+
+-- what the heads of the lists around are, and that of the innermost one
+abbrev pub the_around : List Name → Option Name → Around
+the_around around innermost = record {
+  declares = has_some around declaring;
+  conditional = has_some around conditions;
+  initial = has_name around (codes ":init");
+  metric = has_name around (codes ":metric");
+  is_right_in_init = option_map_or (same_name (codes ":init")) innermost false;
+}
+
+-- behind a head
+abbrev pub with_head : Name → Around → Around
+with_head word around = record {
+  declares = is_some_of declaring word || around.declares;
+  conditional = is_some_of conditions word || around.conditional;
+  initial = same_name word (codes ":init") || around.initial;
+  metric = same_name word (codes ":metric") || around.metric;
+  is_right_in_init = same_name word (codes ":init");
+}
+
+-- in a list that begins with a list
+abbrev pub with_no_head : Around → Around
+with_no_head around = record around { is_right_in_init = false }
+
+-- what is found of these words, wherever it is that the lists around are so
+abbrev pub Finds : Around → Option Found → (List Name → Option Name → List Ref) → Option Found → Type 0
+Finds around least words found = (names : List Name) (innermost : Option Name) → around ≡ the_around names innermost → found ≡ least_with least (words names innermost)
+
+-- ---- what a list shows
+
+abbrev pub either_shown : Around → Ref → List Ref
+either_shown around head = word_when (is_word_called head (codes "either") && around.declares) head
+
+abbrev pub increase_shown : Around → Ref → List Ref
+increase_shown around head = word_when (is_word_called head (codes "increase") && around.conditional) head
+
+-- by its head alone
+abbrev pub head_shown : Around → Ref → List Ref
+head_shown around head =
+    word_when (is_some_of left_out head.name) head
+    ++ either_shown around head ++ increase_shown around head
+
+abbrev pub other_shown : Ref → List Expression → List Ref
+other_shown head behind = if is_word_called head (codes "increase") then other_increase behind else []
+
+abbrev pub number_shown : Ref → List Expression → List Ref
+number_shown head behind = if is_word_called head (codes ":functions") then not_a_number false behind else []
+
+-- behind its head
+abbrev pub behind_shown : Ref → List Expression → List Ref
+behind_shown head behind = other_shown head behind ++ number_shown head behind
+
+abbrev pub timed_shown : Around → Ref → List Expression → List Ref
+timed_shown around head behind = word_when (is_word_called head (codes "at") && around.is_right_in_init && second_is_number behind) head
+
+abbrev pub compared_shown : Around → Ref → List Expression → List Ref
+compared_shown around head behind = word_when (is_word_called head (codes "=") && not around.initial && list_any is_number_or_list behind) head
+
+abbrev pub metric_shown : Around → Ref → List Ref
+metric_shown around head = word_when (around.metric && is_name head.name && not (is_word_called head (codes "is-violated")) && not (is_word_called head total_cost)) head
+
+-- by its head, for what stands behind it or around
+abbrev pub place_shown : Around → Ref → List Expression → List Ref
+place_shown around head behind = timed_shown around head behind ++ compared_shown around head behind ++ metric_shown around head
+
+-- ---- what is in expressions, one after another
+
+abbrev pub constructs_in : List Name → Option Name → List Expression → List Ref
+constructs_in names innermost parts = flat_map (constructs names innermost) parts
+
+abbrev pub total_time : Ref → List Ref
+total_time word = word_when (is_word_called word (codes "total-time")) word
+
+abbrev pub behind_head : List Name → Option Name → Expression → List Expression → Option Ref → List Ref
+behind_head names innermost first behind None = constructs_in names None (first ∷ behind)
+behind_head names innermost first behind (Some head) =
+    shown_by names innermost head behind ++ total_time head ++ constructs_in (head.name ∷ names) (Some head.name) behind
+
+-- in a list of these elements
+abbrev pub constructs_below : List Name → Option Name → List Expression → List Ref
+constructs_below names innermost [] = []
+constructs_below names innermost (first ∷ behind) = behind_head names innermost first behind (word_place first)
+
+-- ---- what is found in them, wherever it is that the lists around are so
+
+abbrev pub FindsShown : Around → Option Found → Ref → List Expression → Option Found → Type 0
+FindsShown around least head behind found = Finds around least (λ names innermost. shown_by names innermost head behind) found
+
+abbrev pub FindsBelow : Around → Option Found → List Expression → Option Found → Type 0
+FindsBelow around least parts found = Finds around least (λ names innermost. constructs_below names innermost parts) found
+
+abbrev pub FindsIn : Around → Option Found → List Expression → Option Found → Type 0
+FindsIn around least parts found = Finds around least (λ names innermost. constructs_in names innermost parts) found

@@ -1,0 +1,377 @@
+//! Constructs that are left out by name, wherever they stand.
+
+ghost use Rattle.std.specs.Prelude.{◌≡◌, ◌<◌, ◌&&◌, length, false, if◌then◌else◌, [], Some, None, IfSome};
+ghost use Rattle.std.specs.List.{list_any};
+ghost use Rattle.std.specs.Option.{option_map};
+ghost use Rattle.std.specs.Str.{str_to_ascii_lowercase};
+ghost use Rattle.p3_base.specs.Words.{is_name};
+ghost use Rattle.p3_tree.specs.Names.{same_name};
+ghost use Rattle.p3_tree.specs.Grammar.Words.{word_place};
+ghost use Rattle.p3_tree.specs.Refusals.Constructs.{left_out, word_when, head_of, is_number_or_list, second_is_number, other_increase, not_a_number, constructs};
+ghost use Rattle.p3_tree.specs.Refusals.Texts.{construct_in};
+ghost use Rattle.p3_outline.specs.Nodes.{expression_of, expressions_of};
+ghost use Rattle.p3_outline.specs.Constructs.{the_word, least_with, declaring, conditions, is_some_of, the_around, with_head, with_no_head, FindsShown, FindsBelow, FindsIn, head_shown, behind_shown, place_shown};
+
+use crate::numbers::is_decimal;
+use crate::view::{Parts, View};
+use p3_base::{Code, Pos, Refusal, Role};
+
+/// A word as it stands in the text.
+#[derive(Clone, Copy)]
+struct TextWord<'a> {
+    text: &'a [u8],
+    at: u32,
+}
+
+/// The construct of least offset so far: where its word stands, and how many bytes that has.
+#[derive(Clone, Copy)]
+struct Found {
+    at: u32,
+    len: u32,
+}
+
+/// What the lists around begin with.
+#[derive(Clone, Copy)]
+struct Around {
+    /// One of them with `:types`, `:constants` or `:objects`.
+    declares: bool,
+    /// One of them with `when` or `forall`.
+    conditional: bool,
+    /// One of them with `:init`.
+    initial: bool,
+    /// One of them with `:metric`.
+    metric: bool,
+    /// The innermost of them with `:init`.
+    is_right_in_init: bool,
+}
+
+// ---- words
+
+/// Whether a word is the text, which has no capital letter.
+#[tactic(auto, using(crate::proofs::ConstructLemmas::same_lowered))]
+fn is(word: &[u8], text: &[u8]) -> bool
+    requires { str_to_ascii_lowercase text.now ≡ text.now }
+    ensures { result ≡ same_name (str_to_ascii_lowercase word.now) text.now }
+{
+    word.eq_ignore_ascii_case(text)
+}
+
+fn is_name(word: &[u8]) -> bool
+    ensures { result ≡ is_name (str_to_ascii_lowercase word.now) }
+{
+    match word {
+        [] => false,
+        [first, ..] => first.to_ascii_lowercase() >= b'a' && first.to_ascii_lowercase() <= b'z',
+    }
+}
+
+fn is_left_out(word: &[u8]) -> bool
+    ensures { result ≡ is_some_of left_out (str_to_ascii_lowercase word.now) }
+{
+    is(word, b":durative-action")
+        || is(word, b":derived")
+        || is(word, b":axiom")
+        || is(word, b":length")
+        || is(word, b"within")
+        || is(word, b"always-within")
+        || is(word, b"hold-during")
+        || is(word, b"hold-after")
+        || is(word, b"assign")
+        || is(word, b"decrease")
+        || is(word, b"scale-up")
+        || is(word, b"scale-down")
+        || is(word, b"/")
+        || is(word, b"<")
+        || is(word, b">")
+        || is(word, b"<=")
+        || is(word, b">=")
+}
+
+fn is_declaring(word: &[u8]) -> bool
+    ensures { result ≡ is_some_of declaring (str_to_ascii_lowercase word.now) }
+{
+    is(word, b":types") || is(word, b":constants") || is(word, b":objects")
+}
+
+fn is_condition(word: &[u8]) -> bool
+    ensures { result ≡ is_some_of conditions (str_to_ascii_lowercase word.now) }
+{
+    is(word, b"when") || is(word, b"forall")
+}
+
+/// The word that a view is.
+fn word_of<'a>(view: View<'_, 'a>) -> Option<TextWord<'a>>
+    ensures word { option_map the_word result ≡ word_place (expression_of view.entry) }
+    ensures short { IfSome result (λ word. length word.text.now < 4294967296) }
+{
+    let text = view.word()?;
+    let at = view.offset();
+    Some(TextWord { text, at })
+}
+
+/// The word at the head of a list.
+fn head_of<'a>(view: View<'_, 'a>) -> Option<TextWord<'a>>
+    ensures head { option_map the_word result ≡ head_of (expression_of view.entry) }
+    ensures short { IfSome result (λ word. length word.text.now < 4294967296) }
+{
+    word_of(view.parts().next()?)
+}
+
+// ---- the lists around
+
+fn with_head(around: Around, word: &[u8]) -> Around
+    ensures { result ≡ with_head (str_to_ascii_lowercase word.now) around }
+{
+    let is_init = is(word, b":init");
+    Around {
+        declares: is_declaring(word) || around.declares,
+        conditional: is_condition(word) || around.conditional,
+        initial: is_init || around.initial,
+        metric: is(word, b":metric") || around.metric,
+        is_right_in_init: is_init,
+    }
+}
+
+fn with_no_head(around: Around) -> Around
+    ensures { result ≡ with_no_head around }
+{
+    Around {
+        is_right_in_init: false,
+        ..around
+    }
+}
+
+// ---- what a list shows
+
+/// The earlier one of what was found and a word, where the test passes.
+fn least_if(test: bool, least: Option<Found>, word: TextWord<'_>) -> Option<Found>
+    requires short { length word.text.now < 4294967296 }
+    ensures { result ≡ least_with least (word_when test (the_word word.entry)) }
+{
+    if !test {
+        return least;
+    }
+    let found = Found {
+        at: word.at,
+        len: word.text.len() as u32,
+    };
+    match least {
+        Some(least) if least.at <= found.at => Some(least),
+        _ => Some(found),
+    }
+}
+
+/// By its head alone.
+#[tactic(auto, using(crate::proofs::ConstructLemmas::least_append))]
+fn head_shown(around: Around, head: TextWord<'_>, least: Option<Found>) -> Option<Found>
+    requires short { length head.text.now < 4294967296 }
+    ensures { result ≡ least_with least (head_shown around (the_word head.entry)) }
+{
+    let text = head.text;
+    let least = least_if(is_left_out(text), least, head);
+    let least = least_if(is(text, b"either") && around.declares, least, head);
+    least_if(is(text, b"increase") && around.conditional, least, head)
+}
+
+/// An increase of something else than the total cost.
+fn other_increase(is_increase: bool, behind: Parts<'_, '_>, least: Option<Found>) -> Option<Found>
+    ensures { result
+        ≡ least_with least
+        (if is_increase then other_increase (expressions_of behind.entry) else []) }
+{
+    if !is_increase {
+        return least;
+    }
+    let mut behind = behind;
+    let Some(second) = behind.next() else {
+        return least;
+    };
+    match head_of(second) {
+        Some(word) => least_if(!is(word.text, b"total-cost"), least, word),
+        None => least,
+    }
+}
+
+/// A word other than `number` behind a `-`.
+fn not_a_number(behind: Parts<'_, '_>, least: Option<Found>) -> Option<Found>
+    ensures { result ≡ least_with least (not_a_number false (expressions_of behind.entry)) }
+{
+    let mut left = behind;
+    let mut least = least;
+    let mut is_behind = false;
+    while let Some(part) = left.next() {
+        match word_of(part) {
+            Some(word) => {
+                least = least_if(is_behind && !is(word.text, b"number"), least, word);
+                is_behind = is(word.text, b"-");
+            }
+            None => is_behind = false,
+        }
+    }
+    least
+}
+
+fn number_shown(is_functions: bool, behind: Parts<'_, '_>, least: Option<Found>) -> Option<Found>
+    ensures { result ≡ least_with least
+        (if is_functions then not_a_number false (expressions_of behind.entry) else []) }
+{
+    if is_functions {
+        not_a_number(behind, least)
+    } else {
+        least
+    }
+}
+
+/// Behind its head.
+#[tactic(auto, using(crate::proofs::ConstructLemmas::least_append))]
+fn behind_shown(head: TextWord<'_>, behind: Parts<'_, '_>, least: Option<Found>) -> Option<Found>
+    ensures { result
+        ≡ least_with least (behind_shown (the_word head.entry) (expressions_of behind.entry)) }
+{
+    let least = other_increase(is(head.text, b"increase"), behind, least);
+    number_shown(is(head.text, b":functions"), behind, least)
+}
+
+fn is_number_or_list(view: View<'_, '_>) -> bool
+    ensures { result ≡ is_number_or_list (expression_of view.entry) }
+{
+    match view.word() {
+        Some(word) => is_decimal(word),
+        None => true,
+    }
+}
+
+fn has_number_or_list(parts: Parts<'_, '_>) -> bool
+    ensures { result ≡ list_any is_number_or_list (expressions_of parts.entry) }
+{
+    let mut left = parts;
+    while let Some(part) = left.next() {
+        if is_number_or_list(part) {
+            return true;
+        }
+    }
+    false
+}
+
+fn second_is_number(behind: Parts<'_, '_>) -> bool
+    ensures { result ≡ second_is_number (expressions_of behind.entry) }
+{
+    let mut behind = behind;
+    let Some(second) = behind.next() else {
+        return false;
+    };
+    match second.word() {
+        Some(word) => is_decimal(word),
+        None => false,
+    }
+}
+
+/// By its head, for what stands behind it or around.
+#[tactic(auto, using(crate::proofs::ConstructLemmas::least_append))]
+fn place_shown(
+    around: Around,
+    head: TextWord<'_>,
+    behind: Parts<'_, '_>,
+    least: Option<Found>,
+) -> Option<Found>
+    requires short { length head.text.now < 4294967296 }
+    ensures { result
+        ≡ least_with least
+        (place_shown around (the_word head.entry) (expressions_of behind.entry)) }
+{
+    let text = head.text;
+    let is_timed = is(text, b"at") && around.is_right_in_init && second_is_number(behind);
+    let is_compared = is(text, b"=") && !around.initial && has_number_or_list(behind);
+    let is_other = around.metric
+        && is_name(text)
+        && !is(text, b"is-violated")
+        && !is(text, b"total-cost");
+    let least = least_if(is_timed, least, head);
+    let least = least_if(is_compared, least, head);
+    least_if(is_other, least, head)
+}
+
+fn shown(
+    around: Around,
+    head: TextWord<'_>,
+    behind: Parts<'_, '_>,
+    least: Option<Found>,
+) -> Option<Found>
+    requires short { length head.text.now < 4294967296 }
+    ensures { FindsShown around least (the_word head.entry) (expressions_of behind.entry) result }
+{
+    let least = head_shown(around, head, least);
+    let least = behind_shown(head, behind, least);
+    place_shown(around, head, behind, least)
+}
+
+// ---- the whole
+
+/// Whatever a list and the lists in it show.
+#[cycle(below)]
+fn below(around: Around, parts: Parts<'_, '_>, least: Option<Found>) -> Option<Found>
+    ensures { FindsBelow around least (expressions_of parts.entry) result }
+{
+    let mut behind = parts;
+    let Some(first) = behind.next() else {
+        return least;
+    };
+    match word_of(first) {
+        Some(head) => {
+            let least = shown(around, head, behind, least);
+            let least = least_if(is(head.text, b"total-time"), least, head);
+            all_in(with_head(around, head.text), behind, least)
+        }
+        None => all_in(with_no_head(around), parts, least),
+    }
+}
+
+/// Whatever is shown one after another.
+#[cycle(below)]
+fn all_in(around: Around, parts: Parts<'_, '_>, least: Option<Found>) -> Option<Found>
+    ensures { FindsIn around least (expressions_of parts.entry) result }
+{
+    let mut left = parts;
+    let mut least = least;
+    while let Some(part) = left.next() {
+        match word_of(part) {
+            Some(word) => least = least_if(is(word.text, b"total-time"), least, word),
+            None => least = below(around, part.parts(), least),
+        }
+    }
+    least
+}
+
+fn nothing_around() -> Around
+    ensures { result ≡ the_around [] None }
+{
+    Around {
+        declares: false,
+        conditional: false,
+        initial: false,
+        metric: false,
+        is_right_in_init: false,
+    }
+}
+
+fn whole(root: View<'_, '_>) -> Option<Found>
+    ensures { result ≡ least_with None (constructs [] None (expression_of root.entry)) }
+{
+    match word_of(root) {
+        Some(word) => least_if(is(word.text, b"total-time"), None, word),
+        None => below(nothing_around(), root.parts(), None),
+    }
+}
+
+/// The construct of least offset that is left out by name in a whole expression.
+#[tactic(auto, using(crate::proofs::ConstructLemmas::least_is))]
+pub(crate) fn first_construct(role: Role, root: View<'_, '_>) -> Option<Refusal>
+    ensures { result ≡ construct_in role (Some (expression_of root.entry)) }
+{
+    let Found { at, len } = whole(root)?;
+    Some(Refusal {
+        code: Code::Construct,
+        pos: Pos { role, offset: at },
+        len,
+    })
+}

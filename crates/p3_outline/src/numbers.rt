@@ -1,0 +1,188 @@
+//! Numbers with too many digits.
+
+ghost use Rattle.std.specs.Prelude.{◌≡◌, ◌≤◌, length};
+ghost use Rattle.std.specs.Char.{to_ascii_lowercase};
+ghost use Rattle.std.specs.List.{list_all, prefix_len};
+ghost use Rattle.std.specs.Str.{str_to_ascii_lowercase};
+ghost use Rattle.p3_base.specs.Words.{is_digit};
+ghost use Rattle.p3_tree.specs.Decimals.{are_digits, at_point, is_decimal};
+ghost use Rattle.p3_tree.specs.Refusals.Texts.{is_too_long, long_number};
+ghost use Rattle.p3_tree.specs.Sides.{digit_limit, place_limit};
+ghost use Rattle.p3_lexer.specs.Lexing.{token_of};
+ghost use Rattle.p3_places.specs.Found.{side_of};
+ghost use Rattle.p3_outline.specs.Numbers.{is_no_point, the_parts, are_decimal, digit_count, has_places_above, number_refusal};
+
+use p3_base::{Code, Pos, Refusal, Role};
+use p3_lexer::{Lexer, Next};
+
+/// How many digits a number may have; its point counts as none.
+fn digit_limit(role: Role) -> usize
+    ensures { result ≡ digit_limit (side_of role) }
+{
+    match role {
+        Role::Domain | Role::Problem | Role::Plan => 15,
+        Role::WrittenDomain | Role::WrittenProblem => 19,
+    }
+}
+
+/// How many digits may stand behind a number's point; None where no number may have a point.
+fn place_limit(role: Role) -> Option<usize>
+    ensures { result ≡ place_limit (side_of role) }
+{
+    match role {
+        Role::Domain | Role::Problem | Role::Plan => Some(6),
+        Role::WrittenDomain | Role::WrittenProblem => None,
+    }
+}
+
+fn is_digit_byte(byte: &u8) -> bool
+    ensures { result ≡ is_digit (to_ascii_lowercase byte.now) }
+{
+    let byte = byte.to_ascii_lowercase();
+    byte >= b'0' && byte <= b'9'
+}
+
+fn are_all_digits(bytes: &[u8]) -> bool
+    ensures { result ≡ list_all is_digit (str_to_ascii_lowercase bytes.now) }
+{
+    for byte in bytes {
+        if !is_digit_byte(byte) {
+            return false;
+        }
+    }
+    true
+}
+
+fn are_digits(bytes: &[u8]) -> bool
+    ensures { result ≡ are_digits (str_to_ascii_lowercase bytes.now) }
+{
+    match bytes {
+        [] => false,
+        [_, ..] => are_all_digits(bytes),
+    }
+}
+
+/// The bytes of a word before its first point, and those behind it where it has one.
+#[derive(Clone, Copy)]
+struct AtPoint<'a> {
+    front: &'a [u8],
+    behind: Option<&'a [u8]>,
+}
+
+fn is_no_point(byte: u8) -> bool
+    ensures { result ≡ is_no_point byte }
+{
+    byte != b'.'
+}
+
+/// How many bytes stand before a word's first point.
+fn point_place(word: &[u8]) -> usize
+    ensures place { result ≡ prefix_len is_no_point word.now }
+    ensures within { result ≤ length word.now }
+{
+    for place in 0..word.len() {
+        if !is_no_point(word[place]) {
+            return place;
+        }
+    }
+    word.len()
+}
+
+#[tactic(auto, using(crate::proofs::NumberLemmas::not_parted))]
+fn at_point(word: &[u8]) -> AtPoint<'_>
+    ensures parts { the_parts result ≡ at_point (str_to_ascii_lowercase word.now) }
+    ensures within { digit_count (the_parts result) ≤ length word.now }
+{
+    let place = point_place(word);
+    if place < word.len() {
+        AtPoint {
+            front: &word[..place],
+            behind: Some(&word[place + 1..]),
+        }
+    } else {
+        AtPoint {
+            front: word,
+            behind: None,
+        }
+    }
+}
+
+/// Whether digits stand before the point, and behind it where there is one.
+fn are_decimal(parts: AtPoint<'_>) -> bool
+    ensures { result ≡ are_decimal (the_parts parts.entry) }
+{
+    match parts.behind {
+        Some(behind) => are_digits(parts.front) && are_digits(behind),
+        None => are_digits(parts.front),
+    }
+}
+
+/// How many bytes stand before the point and behind it.
+fn digit_count(parts: AtPoint<'_>) -> usize
+    requires { digit_count (the_parts parts) ≤ usize.MAX }
+    ensures { result ≡ digit_count (the_parts parts.entry) }
+{
+    match parts.behind {
+        Some(behind) => parts.front.len() + behind.len(),
+        None => parts.front.len(),
+    }
+}
+
+/// Whether more bytes stand behind the point than may stand there, or a point where none may.
+fn has_places_above(limit: Option<usize>, parts: AtPoint<'_>) -> bool
+    ensures { result ≡ has_places_above limit (the_parts parts.entry).1 }
+{
+    match (limit, parts.behind) {
+        (Some(limit), Some(behind)) => behind.len() > limit,
+        (None, Some(_)) => true,
+        (_, None) => false,
+    }
+}
+
+/// Whether a word is digits, or digits with one point that is neither first nor last.
+pub(crate) fn is_decimal(word: &[u8]) -> bool
+    ensures { result ≡ is_decimal (str_to_ascii_lowercase word.now) }
+{
+    are_decimal(at_point(word))
+}
+
+/// Whether a word is a number with more digits than it may have, or a point where none may stand.
+fn is_too_long(role: Role, word: &[u8]) -> bool
+    ensures { result ≡ is_too_long (side_of role) (str_to_ascii_lowercase word.now) }
+{
+    let parts = at_point(word);
+    are_decimal(parts)
+        && (digit_count(parts) > digit_limit(role) || has_places_above(place_limit(role), parts))
+}
+
+/// The refusal of a token that is a number too long.
+fn long_number(role: Role, offset: u32, text: &[u8]) -> Option<Refusal>
+    requires short { length text.now ≤ 268435456 }
+    ensures { result ≡ long_number (side_of role) role (token_of offset text.now) }
+{
+    if text != b"(".as_slice() && text != b")".as_slice() && is_too_long(role, text) {
+        Some(Refusal {
+            code: Code::NumberTooLong,
+            pos: Pos { role, offset },
+            len: text.len() as u32,
+        })
+    } else {
+        None
+    }
+}
+
+/// The first number of a text that is too long.
+pub(crate) fn first_long_number(role: Role, text: &[u8]) -> Option<Refusal>
+    requires short { length text.now ≤ 268435456 }
+    ensures { result ≡ number_refusal role text.now }
+{
+    let mut lexer = Lexer::new(text);
+    loop {
+        let Next::Token { text: word, offset } = lexer.next() else {
+            return None;
+        };
+        if let Some(refusal) = long_number(role, offset, word) {
+            return Some(refusal);
+        }
+    }
+}

@@ -1,5 +1,0 @@
-use Rattle.p3_syntax.proofs.FirstLemmas.{shown_behind_outline}
-use Rattle.p3_syntax.proofs.first.first_shown.Goals as goal
-
-pub returns : goal.returns
-returns c = shown_behind_outline c.args.role c.args.text.now c.args.outline.now c.first_left_out.result c.requires.of_a_task c.requires.outline c.first_left_out.ensures

@@ -1,5 +1,0 @@
-use Rattle.p3_syntax.proofs.NodeLemmas.{view_elements}
-use Rattle.p3_syntax.proofs.view.View.parts.Goals as goal
-
-pub returns-in-List-clause-parts : goal.returns-in-List-clause-parts
-returns-in-List-clause-parts c = view_elements c.args.self.now.text.now c.args.self.now.node c.in-List.at c.in-List.below c.args.self.now.below.now c.in-List.is
