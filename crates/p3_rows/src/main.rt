@@ -25,7 +25,11 @@ use verdict::Verdict;
 fn main(rt: HostRuntime) -> ExitCode {
     match all_hold(&rt) {
         Ok(true) => ExitCode::SUCCESS,
-        _ => ExitCode::FAILURE,
+        Ok(false) => ExitCode::FAILURE,
+        Err(_) => {
+            let _ = println!(rt; "the files were not read, or memory is wanting");
+            ExitCode::FAILURE
+        }
     }
 }
 

@@ -1,5 +1,9 @@
 //! Files and a sink in memory, and what a run over them leaves.
 
+ghost use Rattle.std.specs.Prelude.{◌≡◌, OnOk, drop};
+ghost use Rattle.std.specs.Option.{option_copied};
+ghost use Rattle.p3_base.specs.Outside.{bytes_under};
+
 use crate::complaint::Stop;
 use crate::shown::{difference, shown};
 use p3_base::{MemFiles, MemSink, NoMemory, Word};
@@ -41,7 +45,9 @@ impl World {
     }
 
     /// What is held under a name.
-    pub(crate) fn held(&self, name: &Word) -> Option<&[u8]> {
+    pub(crate) fn held(&self, name: &Word) -> Option<&[u8]>
+        ensures { option_copied result ≡ bytes_under self.now.files.held name.now }
+    {
         self.files.bytes(name)
     }
 
@@ -62,7 +68,9 @@ impl World {
     }
 
     /// What the last run printed.
-    fn printed(&self) -> &[u8] {
+    fn printed(&self) -> &[u8]
+        ensures { result.now ≡ drop self.now.printed_before self.now.sink.written }
+    {
         match self.sink.bytes().get(self.printed_before..) {
             Some(bytes) => bytes,
             None => b"".as_slice(),
@@ -70,7 +78,9 @@ impl World {
     }
 
     /// Whether the last run ended with that status.
-    pub(crate) fn ends(&self, line: u32, status: u8) -> Result<(), Stop> {
+    pub(crate) fn ends(&self, line: u32, status: u8) -> Result<(), Stop>
+        ensures { OnOk result (self.now.status ≡ status) }
+    {
         let came = self.status;
         if came == status {
             return Ok(());
@@ -80,7 +90,10 @@ impl World {
     }
 
     /// Whether the last run printed that.
-    pub(crate) fn prints(&self, line: u32, bytes: &[u8]) -> Result<(), Stop> {
+    pub(crate) fn prints(&self, line: u32, bytes: &[u8]) -> Result<(), Stop>
+        ensures { OnOk result
+            (drop self.now.printed_before self.now.sink.written ≡ bytes.now) }
+    {
         let came = self.printed();
         if came == bytes {
             return Ok(());
@@ -90,7 +103,10 @@ impl World {
     }
 
     /// Whether a file holds these bytes, or is not there.
-    pub(crate) fn holds(&self, line: u32, name: &Word, bytes: Option<&[u8]>) -> Result<(), Stop> {
+    pub(crate) fn holds(&self, line: u32, name: &Word, bytes: Option<&[u8]>) -> Result<(), Stop>
+        ensures { OnOk result
+            (bytes_under self.now.files.held name.now ≡ option_copied bytes.entry) }
+    {
         let file = shown(self.alloc, name.bytes(), 0)?;
         let words = match (bytes, self.held(name)) {
             (Some(bytes), Some(came)) => {
