@@ -1,5 +1,5 @@
 -- An action by its parts.
-use Rattle.std.proofs.Common.{◌≡◌, ◌∙◌, refl, ap, List, ◌∷◌, Option, Some, None}
+use Rattle.std.proofs.Common.{◌≡◌, refl, List, ◌∷◌, Option, Some, None}
 use Rattle.p3_tree.specs.Grammar.Words.{◌>>=◌, name_place}
 use Rattle.p3_tree.specs.Grammar.Halves.{Section, sections_among, action_keywords, keyword_parts, action_in}
 use Rattle.p3_tree.specs.declared.expression.Expression.{Expression}
@@ -9,19 +9,47 @@ use Rattle.p3_tree.specs.declared.task.Part.{Part}
 use Rattle.p3_tree.specs.declared.task.Action.{Action}
 use Rattle.p3_tree.specs.declared.goal.PreGoal.{PreGoal}
 use Rattle.p3_tree.specs.declared.effect.Effect.{Effect}
-use Rattle.p3_syntax.specs.Actions.{action_parts_in, parameters_among, precondition_among, effect_among}
+use Rattle.p3_syntax.specs.declared.tree.actions.ActionBody.{ActionBody}
+use Rattle.p3_syntax.specs.Actions.{action_parts_in, parameters_among, precondition_among, effect_among, body_among, action_of}
 
-abbrev action_of : Ref → List Typed → Part PreGoal → Part Effect → Action
-action_of name params pre change = record { name = name; params = params; pre = pre; effect = change }
+abbrev body_of : List Typed → Part PreGoal → Part Effect → ActionBody
+body_of params pre change = record { params = params; pre = pre; effect = change }
 
-module _ (name : Ref) (sections : List Section) (params : List Typed) (pre : Part PreGoal) (change : Part Effect)
-    (has_params : parameters_among sections ≡ Some params) (has_pre : precondition_among name.at sections ≡ Some pre) (has_change : effect_among name.at sections ≡ Some change) where
-  with_parts : (read : Option (List Section)) → read >>= sections_among action_keywords ≡ Some sections
-      → (read >>= λ list. sections_among action_keywords list >>= λ parts. parameters_among parts >>= λ params. precondition_among name.at parts >>= λ pre. effect_among name.at parts >>= λ change.
-      Some (action_of name params pre change))
-      ≡ Some (action_of name params pre change)
-  with_parts None is = absurd cc
-  with_parts (Some list) is = rw (is, has_params, has_pre, has_change) refl
+-- parts that are read one after another, and put together in between
+body_first : (name : Ref) (params : Option (List Typed)) (pre : Option (Part PreGoal)) (change : Option (Part Effect))
+    → (params >>= λ params. pre >>= λ pre. change >>= λ change. Some (action_of name (body_of params pre change)))
+    ≡ (params >>= λ params. change >>= λ change. pre >>= λ pre. Some (body_of params pre change)) >>= λ body. Some (action_of name body)
+body_first name None pre change = refl
+body_first name (Some params) None None = refl
+body_first name (Some params) None (Some change) = refl
+body_first name (Some params) (Some pre) None = refl
+body_first name (Some params) (Some pre) (Some change) = refl
 
-  pub action_read : (es rest : List Expression) (e : Expression) → es ≡ e ∷ rest → name_place e ≡ Some name → action_parts_in rest ≡ Some sections → action_in es ≡ Some (action_of name params pre change)
-  action_read es rest e is named parts = ap action_in is ∙ rw named (with_parts (keyword_parts rest) parts)
+-- what is made of the parts of an action with a name
+abbrev from_parts : Ref → List Section → Option Action
+from_parts name parts = body_among name.at parts >>= λ body. Some (action_of name body)
+
+module _ (name : Ref) where
+  by_parts : (parts : Option (List Section))
+      → (parts >>= λ parts. parameters_among parts >>= λ params. precondition_among name.at parts >>= λ pre. effect_among name.at parts >>= λ change. Some (action_of name (body_of params pre change)))
+      ≡ parts >>= from_parts name
+  by_parts None = refl
+  by_parts (Some parts) = body_first name (parameters_among parts) (precondition_among name.at parts) (effect_among name.at parts)
+
+  by_list : (list : Option (List Section))
+      → (list >>= λ list. sections_among action_keywords list >>= λ parts. parameters_among parts >>= λ params. precondition_among name.at parts >>= λ pre. effect_among name.at parts >>= λ change.
+      Some (action_of name (body_of params pre change)))
+      ≡ (list >>= sections_among action_keywords) >>= from_parts name
+  by_list None = refl
+  by_list (Some list) = by_parts (sections_among action_keywords list)
+
+pub action_by_body : (first : Expression) (behind : List Expression)
+    → action_in (first ∷ behind) ≡ name_place first >>= λ name. action_parts_in behind >>= λ parts. body_among name.at parts >>= λ body. Some (action_of name body)
+action_by_body first behind = by (name_place first)
+  where
+    by : (name : Option Ref)
+        → (name >>= λ name. keyword_parts behind >>= λ list. sections_among action_keywords list >>= λ parts. parameters_among parts >>= λ params. precondition_among name.at parts >>= λ pre.
+        effect_among name.at parts >>= λ change. Some (action_of name (body_of params pre change)))
+        ≡ name >>= λ name. action_parts_in behind >>= from_parts name
+    by None = refl
+    by (Some name) = by_list name (keyword_parts behind)

@@ -39,10 +39,11 @@ module _ {K C P F : Type 0} {D R : Type 0} (declared : K → C → P → F → D
 
 module _ {W D C A R S : Type 0} (contents : D → C → A → R) (next : R → S) where
   pub contents_first : (w : Option W) (d : Option D) (c : Option C) (a : Option A)
-      → (w >>= λ w. d >>= λ d. c >>= λ c. a >>= λ a. Some (next (contents d c a))) ≡ (w >>= λ w. d >>= λ d. c >>= λ c. a >>= λ a. Some (contents d c a)) >>= λ contents. Some (next contents)
+      → (w >>= λ w. d >>= λ d. c >>= λ c. a >>= λ a. Some (next (contents d c a))) ≡ (w >>= λ w. d >>= λ d. a >>= λ a. c >>= λ c. Some (contents d c a)) >>= λ contents. Some (next contents)
   contents_first None d c a = refl
   contents_first (Some w) None c a = refl
-  contents_first (Some w) (Some d) None a = refl
+  contents_first (Some w) (Some d) None None = refl
+  contents_first (Some w) (Some d) None (Some a) = refl
   contents_first (Some w) (Some d) (Some c) None = refl
   contents_first (Some w) (Some d) (Some c) (Some a) = refl
 

@@ -1,7 +1,9 @@
 -- One layer of an effect.
-use Rattle.std.proofs.Common.{◌≡◌, ◌∙◌, refl, ap, Bool, true, List, [], ◌∷◌, None}
-use Rattle.p3_tree.specs.Grammar.Words.{◌>>=◌, parts_place, expressions, headed}
-use Rattle.p3_tree.specs.Grammar.Effects.{effect_place, effect_in}
+use Rattle.std.proofs.Common.{◌≡◌, ◌∙◌, refl, ap, Bool, true, false, List, [], ◌∷◌, Option, Some, None}
+use Rattle.p3_tree.specs.Grammar.Words.{◌>>=◌, pair, parts_place, expressions, headed}
+use Rattle.p3_tree.specs.Grammar.Formulas.{formula_place}
+use Rattle.p3_tree.specs.Grammar.Effects.{effect_place, effect_in, when_form}
+use Rattle.p3_tree.specs.declared.effect.Effect.TheVariants as effect
 use Rattle.p3_tree.specs.declared.expression.Expression.{Expression, Group'}
 use Rattle.p3_tree.specs.declared.expression.Expression.TheVariants as expression
 use Rattle.p3_syntax.specs.Trees.{listed}
@@ -22,3 +24,18 @@ found_in_parts (Group' at shape parts) free = ap (λ ps. effect_in ps free) (row
 pub found_free : (e : Expression) → effect_place e ≡ effect_found e true
 unfolding effect_found effect_place
 found_free e = refl
+
+-- two parts, whichever of them is read first
+swapped : {A B C : Type 0} (first : Option A) (second : Option B) (made : A → B → C)
+    → (first >>= λ a. second >>= λ b. Some (made a b)) ≡ second >>= λ b. first >>= λ a. Some (made a b)
+swapped None None made = refl
+swapped None (Some b) made = refl
+swapped (Some a) None made = refl
+swapped (Some a) (Some b) made = refl
+
+pub when_listed : (list : List Expression) (free : Bool)
+    → when_form (listed effect_found list) free ≡ pair list >>= λ both. effect_found both.1 false >>= λ body. formula_place both.0 >>= λ condition. Some (effect.If condition body)
+when_listed [] free = refl
+when_listed (e ∷ []) free = refl
+when_listed (e ∷ d ∷ []) free = swapped (formula_place e) (effect_found d false) effect.If
+when_listed (e ∷ d ∷ c ∷ list) free = refl

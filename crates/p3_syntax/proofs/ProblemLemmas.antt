@@ -45,9 +45,11 @@ start_first start next (Some d) (Some w) (Some o) (Some i) = refl
 
 aims_first : {R : Type 0} (next : Aims → R) (g : Option (Part PreGoal)) (c : Option (Part Constraint)) (m : Option (Option Metric))
     → (g >>= λ g. c >>= λ c. m >>= λ m. Some (next (aims_of g c m)))
-    ≡ ((g >>= λ g. c >>= λ c. Some (conditions_of g c)) >>= λ conditions. m >>= λ m. Some (aims_with conditions m)) >>= λ aims. Some (next aims)
-aims_first next None c m = refl
-aims_first next (Some g) None m = refl
+    ≡ (m >>= λ m. (g >>= λ g. c >>= λ c. Some (conditions_of g c)) >>= λ conditions. Some (aims_with conditions m)) >>= λ aims. Some (next aims)
+aims_first next None c None = refl
+aims_first next None c (Some m) = refl
+aims_first next (Some g) None None = refl
+aims_first next (Some g) None (Some m) = refl
 aims_first next (Some g) (Some c) None = refl
 aims_first next (Some g) (Some c) (Some m) = refl
 

@@ -1,18 +1,21 @@
 -- Parts of actions as they are read.
-use Rattle.std.specs.Prelude.{ℕ, List, [], ◌∷◌, map, codes, Option}
+use Rattle.std.specs.Prelude.{ℕ, List, [], ◌∷◌, map, codes, Option, Some}
 use Rattle.p3_tree.specs.Grammar.Words.{◌>>=◌}
 use Rattle.p3_tree.specs.Grammar.Lists.{variables_place}
 use Rattle.p3_tree.specs.Grammar.Goals.{goal_or_empty_place}
 use Rattle.p3_tree.specs.Grammar.Effects.{effect_or_empty_place}
 use Rattle.p3_tree.specs.Grammar.Halves.{Section, sections_among, optional, body_at, part_at, action_keywords, keyword_parts}
 use Rattle.p3_tree.specs.declared.expression.Expression.{Expression}
+use Rattle.p3_tree.specs.declared.term.Ref.{Ref}
 use Rattle.p3_tree.specs.declared.term.Typed.{Typed}
+use Rattle.p3_tree.specs.declared.task.Action.{Action}
 use Rattle.p3_tree.specs.declared.task.Part.{Part}
 use Rattle.p3_tree.specs.declared.goal.PreGoal.{PreGoal}
 use Rattle.p3_tree.specs.declared.goal.PreGoal.TheVariants as goal
 use Rattle.p3_tree.specs.declared.effect.Effect.{Effect}
 use Rattle.p3_tree.specs.declared.effect.Effect.TheVariants as effect
 use Rattle.p3_outline.specs.declared.view.Parts.{Parts}
+use Rattle.p3_syntax.specs.declared.tree.actions.ActionBody.{ActionBody}
 use Rattle.p3_syntax.specs.declared.tree.actions.ActionPart.{ActionPart}
 use Rattle.p3_outline.specs.Nodes.{expression_of, expressions_of}
 use Rattle.p3_syntax.specs.Trees.{the_word}
@@ -41,3 +44,15 @@ precondition_among at parts = optional (codes ":precondition") (record { at = at
 
 abbrev pub effect_among : ℕ → List Section → Option (Part Effect)
 effect_among at parts = optional (codes ":effect") (record { at = at; body = effect.All [] }) (part_at effect_or_empty_place) parts
+
+-- ---- the parts together
+
+abbrev pub body_among : ℕ → List Section → Option ActionBody
+body_among at parts = do
+  params ← parameters_among parts
+  change ← effect_among at parts
+  pre ← precondition_among at parts
+  Some (record { params = params; pre = pre; effect = change })
+
+abbrev pub action_of : Ref → ActionBody → Action
+action_of name body = record { name = name; params = body.params; pre = body.pre; effect = body.effect }

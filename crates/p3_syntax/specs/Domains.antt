@@ -71,8 +71,8 @@ abbrev pub contents_among : List Section → Option DomainContents
 contents_among sections = do
   words ← requirements_among sections
   declarations ← declarations_among sections
-  constraints ← constraints_among sections
   actions ← actions_among sections
+  constraints ← constraints_among sections
   Some (record { declarations = declarations; constraints = constraints; actions = actions })
 
 abbrev pub domain_of : Ref → DomainContents → Domain

@@ -2,6 +2,7 @@ pub mod Reading
 pub mod Texts
 pub mod First
 pub mod Trees
+pub mod Formulas
 pub mod Groups
 pub mod Metrics
 pub mod Effects

@@ -58,8 +58,8 @@ conditions_among sections = do
 
 abbrev pub aims_among : List Section → Option Aims
 aims_among sections = do
-  conditions ← conditions_among sections
   metric ← metric_among sections
+  conditions ← conditions_among sections
   Some (record { conditions = conditions; metric = metric })
 
 abbrev pub contents_among : List Section → Option ProblemContents

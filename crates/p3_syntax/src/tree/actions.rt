@@ -8,7 +8,7 @@ ghost use Rattle.p3_tree.specs.Grammar.Halves.{action_keywords, action_in};
 ghost use Rattle.p3_outline.specs.Nodes.{expressions_of};
 ghost use Rattle.p3_syntax.specs.Reading.{Gives};
 ghost use Rattle.p3_syntax.specs.Sections.{are_among, named_once};
-ghost use Rattle.p3_syntax.specs.Actions.{the_part, the_parts, each_part, parts_of_action, parameters_among, precondition_among, effect_among};
+ghost use Rattle.p3_syntax.specs.Actions.{the_part, the_parts, each_part, parts_of_action, parameters_among, precondition_among, effect_among, body_among, action_of};
 
 use crate::error::Fault;
 use crate::tree::effects::effect_or_empty;
@@ -19,7 +19,7 @@ use crate::tree::tests::is;
 use crate::tree::words::{TextWord, name, word};
 use p3_base::List;
 use p3_outline::{Parts, View};
-use p3_tree::{Action, Effect, Part, PreGoal, Typed};
+use p3_tree::{Action, Effect, Part, PreGoal, Ref, Typed};
 use std::alloc::Global;
 
 /// A keyword of an action, and the part behind it.
@@ -156,7 +156,50 @@ fn effect(alloc: Global, at: u32, parts: &[ActionPart<'_, '_>]) -> Result<Part<E
     }
 }
 
+/// What stands in the parts of an action.
+#[derive(Drop)]
+pub struct ActionBody {
+    /// The parameters.
+    pub params: List<Typed>,
+    /// The precondition.
+    pub pre: Part<PreGoal>,
+    /// The effect.
+    pub effect: Part<Effect>,
+}
+
+fn body_among(alloc: Global, at: u32, parts: &[ActionPart<'_, '_>]) -> Result<ActionBody, Fault>
+    ensures { Gives (λ body. body) result (body_among at (the_parts parts.now)) }
+{
+    let params = parameters(alloc, parts)?;
+    let effect = effect(alloc, at, parts)?;
+    // The precondition comes last, so that none has to be let go of: that is quicker to prove.
+    let pre = precondition(alloc, at, parts)?;
+    Ok(ActionBody {
+        params,
+        pre,
+        effect,
+    })
+}
+
+/// The action of a name and a body.
+fn action_of(name: Ref, body: ActionBody) -> Action
+    ensures { result ≡ action_of name body }
+{
+    let ActionBody {
+        params,
+        pre,
+        effect,
+    } = body;
+    Action {
+        name,
+        params,
+        pre,
+        effect,
+    }
+}
+
 /// What stands behind `:action`.
+#[tactic(auto, using(crate::proofs::ActionLemmas::action_by_body))]
 pub fn action(alloc: Global, parts: Parts<'_, '_>) -> Result<Action, Fault>
     ensures { Gives (λ action. action) result (action_in (expressions_of parts.entry)) }
 {
@@ -166,13 +209,6 @@ pub fn action(alloc: Global, parts: Parts<'_, '_>) -> Result<Action, Fault>
     };
     let name = name(alloc, first)?;
     let parts = action_parts(alloc, behind)?;
-    let params = parameters(alloc, parts.as_slice())?;
-    let pre = precondition(alloc, name.at, parts.as_slice())?;
-    let effect = effect(alloc, name.at, parts.as_slice())?;
-    Ok(Action {
-        name,
-        params,
-        pre,
-        effect,
-    })
+    let body = body_among(alloc, name.at, parts.as_slice())?;
+    Ok(action_of(name, body))
 }

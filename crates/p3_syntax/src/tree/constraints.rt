@@ -7,7 +7,7 @@ ghost use Rattle.p3_syntax.specs.Reading.{Gives};
 ghost use Rattle.p3_syntax.specs.Trees.{constraint_at, constraint_by, each_constraint, modal_by, soft_constraint};
 
 use crate::error::Fault;
-use crate::tree::formulas::formula;
+use crate::tree::formulas::{formula, two_formulas};
 use crate::tree::goals::{NamedBody, named};
 use crate::tree::lists::variables;
 use crate::tree::parts::{headed, only, pair, parts};
@@ -27,6 +27,7 @@ fn at_end_form(alloc: Global, behind: Parts<'_, '_>) -> Result<Modal, Fault>
 }
 
 /// The operator of a list by its first word.
+#[tactic(auto, using(crate::proofs::ConstraintLemmas::two_read))]
 fn modal_by(alloc: Global, word: &[u8], behind: Parts<'_, '_>) -> Result<Modal, Fault>
     ensures { Gives (λ tree. tree) result (modal_by word.now behind.entry) }
 {
@@ -39,13 +40,11 @@ fn modal_by(alloc: Global, word: &[u8], behind: Parts<'_, '_>) -> Result<Modal, 
     } else if is(word, b"at-most-once") {
         Ok(Modal::AtMostOnce(formula(alloc, only(behind)?)?))
     } else if is(word, b"sometime-after") {
-        let (first, second) = pair(behind)?;
-        let first = formula(alloc, first)?;
-        Ok(Modal::SometimeAfter(first, formula(alloc, second)?))
+        let (first, second) = two_formulas(alloc, behind)?;
+        Ok(Modal::SometimeAfter(first, second))
     } else if is(word, b"sometime-before") {
-        let (first, second) = pair(behind)?;
-        let first = formula(alloc, first)?;
-        Ok(Modal::SometimeBefore(first, formula(alloc, second)?))
+        let (first, second) = two_formulas(alloc, behind)?;
+        Ok(Modal::SometimeBefore(first, second))
     } else {
         Err(Fault::Malformed)
     }

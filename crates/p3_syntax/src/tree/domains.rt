@@ -204,8 +204,9 @@ fn contents(alloc: Global, sections: &[HeadedParts<'_, '_>]) -> Result<DomainCon
 {
     requirements(sections)?;
     let declarations = declared(alloc, sections)?;
-    let constraints = constraints(alloc, sections)?;
     let actions = actions(alloc, sections)?;
+    // The constraints come last, so that none has to be let go of: that is quicker to prove.
+    let constraints = constraints(alloc, sections)?;
     Ok(DomainContents {
         declarations,
         constraints,

@@ -112,14 +112,15 @@ fn each_form(alloc: Global, behind: Parts<'_, '_>) -> Result<Effect, Fault>
 
 /// `(when` formula effect `)`. No increase stands under it.
 #[cycle(effect)]
-#[tactic(auto, using(crate::proofs::LayerLemmas::pair_listed))]
+#[tactic(auto, using(crate::proofs::EffectLemmas::when_listed))]
 fn when_form(alloc: Global, behind: Parts<'_, '_>) -> Result<Effect, Fault>
     ensures { Gives (λ effect. effect) result (effect_form when_form behind.entry no_increase) }
 {
     let (first, second) = pair(behind)?;
+    let body = Boxed::new(alloc, effect_at(alloc, false, second)?)?;
+    // The formula comes last, so that none has to be let go of: that is quicker to prove.
     let condition = formula(alloc, first)?;
-    let body = effect_at(alloc, false, second)?;
-    Ok(Effect::If(condition, Boxed::new(alloc, body)?))
+    Ok(Effect::If(condition, body))
 }
 
 /// A list by its first word.

@@ -6,6 +6,7 @@ ghost use Rattle.p3_tree.specs.Grammar.Formulas.{atom_in, formula_place, not_for
 ghost use Rattle.p3_outline.specs.Nodes.{expression_of, expressions_of};
 ghost use Rattle.p3_syntax.specs.Reading.{Gives};
 ghost use Rattle.p3_syntax.specs.Trees.{form_at, formula_by, the_atom};
+ghost use Rattle.p3_syntax.specs.Formulas.{two_formulas};
 
 use crate::error::Fault;
 use crate::tree::lists::{fitted, room, term, terms, variables};
@@ -82,9 +83,9 @@ fn imply_form(alloc: Global, behind: Parts<'_, '_>) -> Result<Formula, Fault>
     ensures { Gives (λ tree. tree) result (form_at imply_form behind.entry) }
 {
     let (first, second) = pair(behind)?;
-    let first = formula(alloc, first)?;
-    let second = formula(alloc, second)?;
-    Ok(Formula::Imply(Boxed::new(alloc, first)?, Boxed::new(alloc, second)?))
+    let first = Boxed::new(alloc, formula(alloc, first)?)?;
+    let second = Boxed::new(alloc, formula(alloc, second)?)?;
+    Ok(Formula::Imply(first, second))
 }
 
 #[cycle(formula)]
@@ -148,4 +149,14 @@ pub fn formula(alloc: Global, view: View<'_, '_>) -> Result<Formula, Fault>
     let parts = parts(view)?;
     let list = headed(parts)?;
     formula_by(alloc, list.word.text, parts, list.behind)
+}
+
+/// The two formulas of parts.
+pub fn two_formulas(alloc: Global, parts: Parts<'_, '_>) -> Result<(Formula, Formula), Fault>
+    ensures { Gives (λ both. both) result (two_formulas (expressions_of parts.entry)) }
+{
+    let (first, second) = pair(parts)?;
+    let first = formula(alloc, first)?;
+    let second = formula(alloc, second)?;
+    Ok((first, second))
 }
