@@ -1,4 +1,4 @@
-//! Steps that wait for each other, and a long chain of steps.
+//! A long chain of steps.
 
 ghost use Rattle.std.specs.Prelude.{◌≡◌, ◌<◌, ◌+◌, [], ◌∷◌, Some, IfOk, length, true};
 ghost use Rattle.std.specs.List.{list_all};
@@ -47,19 +47,6 @@ fn step(alloc: Global, number: u32, pre: Form, atom: usize) -> Result<GroundStep
     })
 }
 
-/// The first sets atom 0; the second wants atom 1 and sets atom 2, and the third wants 2 and sets
-/// 1.
-#[tactic(auto, using(p3_formula::proofs::FormLemmas::atom_laws))]
-fn three_steps(alloc: Global) -> Result<List<GroundStep>, NoMemory>
-    ensures { IfOk result (λ steps. list_all (is_step_below 3) steps ≡ true) }
-{
-    let mut steps = List::new(alloc);
-    steps.push(step(alloc, 0, Form::True, 0)?)?;
-    steps.push(step(alloc, 1, Form::Atom(1), 2)?)?;
-    steps.push(step(alloc, 2, Form::Atom(2), 1)?)?;
-    Ok(steps)
-}
-
 /// A task of steps alone.
 #[tactic(auto, using(p3_formula::proofs::FormLemmas::atom_laws))]
 fn task_of(alloc: Global, initial: Bits, steps: List<GroundStep>) -> GroundTask
@@ -78,23 +65,6 @@ fn task_of(alloc: Global, initial: Bits, steps: List<GroundStep>) -> GroundTask
         soft: List::new(alloc),
         names: 0,
     }
-}
-
-fn three_marks(alloc: Global) -> Result<Marks, NoMemory> {
-    let steps = three_steps(alloc)?;
-    let initial = Bits::new(alloc, 3)?;
-    reachable(alloc, &task_of(alloc, initial, steps))
-}
-
-#[test]
-fn steps_that_wait_for_each_other_never_fit(rt: HostRuntime) -> Result<(), Fail> {
-    let marks = three_marks(rt.alloc())?;
-    let shown = format!(in rt.alloc(); "{:?} {:?}", marks.atoms, marks.steps)?;
-    assert_eq!(rt;
-        shown.as_str(),
-        "Bits { bits: [true, false, false] } List { items: [true, false, false] }"
-    );
-    Ok(())
 }
 
 /// How many steps there are, and how many atoms each of them wants.

@@ -4,7 +4,7 @@ use Rattle.std.specs.List.{list_all}
 use Rattle.p3_base.specs.Words.{is_name}
 use Rattle.p3_formula.specs.Targets.{is_sized_action}
 use Rattle.p3_writer.specs.Texts.{AreSpelled}
-use Rattle.p3_ground_rows.proofs.written.alike.Given as goal
+use Rattle.p3_form_rows.proofs.written.alike.Given as goal
 
 abbrev pub invariant-loop : goal.invariant-loop
 invariant-loop l =

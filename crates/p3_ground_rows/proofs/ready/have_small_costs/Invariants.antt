@@ -1,8 +1,0 @@
-use Rattle.std.proofs.Common.{drop}
-use Rattle.std.specs.List.{All}
-use Rattle.p3_run.specs.Runs.{HasSmallCost}
-use Rattle.p3_ground_rows.proofs.ready.have_small_costs.Given as goal
-
--- the steps that are left decide
-abbrev pub invariant-loop-step : goal.invariant-loop-step
-invariant-loop-step l = All HasSmallCost (drop l.step-index l.steps) → All HasSmallCost l.steps
