@@ -1,17 +1,7 @@
-//! What no worked row can say: calls of the reader and of the outside by themselves.
+//! What no worked row can say: an outline by itself, and calls of the outside.
 #![tactic(auto)]
 
 #[cfg(test)]
 mod outlines;
 #[cfg(test)]
 mod outside;
-#[cfg(test)]
-mod places;
-#[cfg(test)]
-mod plans;
-#[cfg(test)]
-mod readers;
-#[cfg(test)]
-mod samples;
-#[cfg(test)]
-mod tokens;

@@ -1,9 +1,0 @@
-//! A small delivery in the style of competition files.
-
-/// Trucks that carry crates between places.
-pub(crate) const TRUCKS_DOMAIN: &str =
-    "(define (domain Trucks-Pref)\n  (:requirements :adl :preferences :constraints :action-costs)\n  (:types truck crate - movable place)\n  (:predicates (at ?x - (either truck crate) ?p - place)\n    (in ?c - crate ?t - truck))\n  (:functions (total-cost) - number\n    (road-length ?a ?b - place) - number)\n  (:action drive :parameters (?t - truck ?a ?b - place)\n    :precondition (at ?t ?a)\n    :effect (and (not (at ?t ?a)) (at ?t ?b)\n      (increase (total-cost) (road-length ?a ?b))))\n  (:action load :parameters (?c - crate ?t - truck ?p - place)\n    :precondition (and (at ?t ?p) (at ?c ?p)\n      (preference light (forall (?d - crate) (not (in ?d ?t)))))\n    :effect (and (not (at ?c ?p)) (in ?c ?t)))\n  (:action unload :parameters (?c - crate ?t - truck ?p - place)\n    :precondition (and (at ?t ?p) (in ?c ?t))\n    :effect (and (not (in ?c ?t)) (at ?c ?p))))\n";
-
-/// Two crates to deliver, with preferences on the way and on the end.
-pub(crate) const TRUCKS_PROBLEM: &str =
-    "(define (problem deliver-2) (:domain trucks-pref)\n  (:objects t1 - truck c1 c2 - crate a b c - place)\n  (:init (at t1 a) (at c1 a) (at c2 a) (= (total-cost) 0)\n    (= (road-length a b) 4) (= (road-length b a) 4)\n    (= (road-length b c) 7) (= (road-length c b) 7))\n  (:goal (and (at c1 b) (preference home (at c2 c))\n    (preference back (at t1 a))))\n  (:constraints (and\n    (always (forall (?t - truck) (exists (?p - place) (at ?t ?p))))\n    (forall (?c - crate) (preference once (at-most-once (in ?c t1))))\n    (preference late (sometime-before (at t1 c) (at c1 b)))))\n  (:metric minimize (+ (total-cost) (* 6 (is-violated light))\n    (* 20 (is-violated back)) (* 15 (is-violated home))\n    (* 3 (is-violated once)) (* 1 (is-violated late)))))\n";
