@@ -1,6 +1,6 @@
-//! Tables of forms.
+//! Tables of forms, and bits.
 
-use p3_formula::{Form, Node, Table};
+use p3_formula::{Bits, Form, Node, Table};
 use std::test::Fail;
 
 #[test]
@@ -30,5 +30,15 @@ fn a_large_table(rt: HostRuntime) -> Result<(), Fail> {
         table.add(Node::Not(number))?;
     }
     assert_eq!(&rt; table.len(), 1_000_000);
+    Ok(())
+}
+
+#[test]
+fn bits_are_set_one_by_one(rt: HostRuntime) -> Result<(), Fail> {
+    let mut state = Bits::new(rt.alloc(), 2)?;
+    state.set(1, true);
+    assert_eq!(&rt; state.count(), 2);
+    assert_eq!(&rt; state.get(0), false);
+    assert_eq!(&rt; state.get(1), true);
     Ok(())
 }
