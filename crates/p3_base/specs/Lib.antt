@@ -3,6 +3,7 @@ pub mod Copies
 pub mod Memory
 pub mod Outside
 pub mod Place
+pub mod Showings
 pub mod Trajectories
 pub mod Words
 pub mod formers

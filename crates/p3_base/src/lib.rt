@@ -14,6 +14,7 @@ mod real_files;
 mod real_sink;
 mod refusal;
 mod shelf;
+mod showing;
 mod sink;
 mod sure;
 
@@ -28,5 +29,6 @@ pub use place::line_column;
 pub use real_files::RealFiles;
 pub use real_sink::RealSink;
 pub use refusal::{Code, Direction, Pos, Refusal, Role, Side};
+pub use showing::{Reason, Showing, Subject};
 pub use sink::Sink;
 pub use sure::{SureFiles, SureSink};

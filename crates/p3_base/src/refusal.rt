@@ -45,6 +45,9 @@ pub enum Code {
     Mismatch = 20,
     /// A file with more bytes than the limit.
     FileTooLong = 21,
+    /// A step with more conditions than an action may have in a translation without conditional
+    /// effects.
+    FlatTooWide = 22,
 }
 
 /// Whether a task was read from its author or was written by the compiler.

@@ -22,6 +22,11 @@ use Rattle.p3_tree.specs.PreferenceNames.{named_in_goal, named_in_constraint, pr
 use Rattle.p3_tree.specs.Offences.{domain_duplicates, problem_duplicates, domain_unknowns, problem_unknowns, domain_miscounts, problem_miscounts, domain_clashes, problem_clashes}
 use Rattle.p3_tree.specs.Lifting.{constrains, prefers, is_plain, is_formula_variable_free, is_effect_variable_free, is_goal_variable_free, is_constraint_variable_free, is_variable_free, steps, lifted_step, lift}
 use Rattle.p3_tree.specs.Faithful.{extra}
+use Rattle.p3_tree.specs.Explanations.{shown, reasons}
+use Rattle.p3_tree.specs.Literals.{literals}
+use Rattle.p3_tree.specs.Mentions.{formula_atoms}
+use Rattle.p3_tree.specs.Touching.{conds}
+use Rattle.p3_tree.specs.Unconditional.{is_effect_unconditional, is_unconditional}
 use Rattle.p3_tree.specs.Limits.{binding_count, formula_size, effect_size, goal_size, constraint_size, width, cost_bound}
 use Rattle.p3_tree.specs.declared.expression.Expression.TheBlock.{hidden-the_row-Expression-0, shape-the_row-Expression-0}
 use Rattle.p3_tree.specs.Tokens.{tokens_from}
@@ -40,7 +45,7 @@ trees_compute = tt
 
 -- the trees and what they mean
 unfoldable pub meaning_computes : Unit {0}
-unfolding trees_compute digits below objects start tuples bind are_arguments holds adds dels next hard_holds prefs cost_places given_value increases effect_cost action_named step_cost fits state_after visited steps_fit satisfies sat hard_modals hard_list operators instances_of instances goal_holds is_valid misfit step_fault goal_fault constraint_fault first_fault step_prefs violated cost quantity metric_places value loss base_loss weight cost_weight constrains prefers is_plain is_formula_variable_free is_effect_variable_free is_goal_variable_free is_constraint_variable_free is_variable_free steps lifted_step lift extra binding_count formula_size effect_size goal_size constraint_size width cost_bound formula_uses effect_uses goal_uses constraint_uses num_uses domain_uses problem_uses domain_duplicates problem_duplicates named_in_goal named_in_constraint preference_names ordered_names domain_unknowns problem_unknowns domain_miscounts problem_miscounts domain_clashes problem_clashes
+unfolding trees_compute digits below objects start tuples bind are_arguments holds adds dels next hard_holds prefs cost_places given_value increases effect_cost action_named step_cost fits state_after visited steps_fit satisfies sat hard_modals hard_list operators instances_of instances goal_holds is_valid misfit step_fault goal_fault constraint_fault first_fault step_prefs violated cost quantity metric_places value loss base_loss weight cost_weight constrains prefers is_plain is_formula_variable_free is_effect_variable_free is_goal_variable_free is_constraint_variable_free is_variable_free steps lifted_step lift extra binding_count formula_size effect_size goal_size constraint_size width cost_bound formula_uses effect_uses goal_uses constraint_uses num_uses domain_uses problem_uses domain_duplicates problem_duplicates named_in_goal named_in_constraint preference_names ordered_names domain_unknowns problem_unknowns domain_miscounts problem_miscounts domain_clashes problem_clashes shown reasons literals formula_atoms conds is_effect_unconditional is_unconditional
 meaning_computes = trees_compute
 
 -- texts, their expressions and their trees

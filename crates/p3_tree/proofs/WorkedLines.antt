@@ -5,9 +5,18 @@ use Rattle.p3_tree.specs.PreferenceNames.{named_in_goal, named_in_constraint, or
 use Rattle.p3_tree.specs.Refusals.Constructs.{constructs, constructs_of, constructs_all}
 use Rattle.p3_tree.specs.Refusals.Texts.{unbalanced_from, too_deep_from, text_refusal}
 use Rattle.p3_tree.specs.Refusals.Metric.{mentions, operations, nonlinear}
+use Rattle.p3_tree.specs.PlanTexts.{offence_from}
 use Rattle.p3_tree.specs.Refusals.First.{task_refusal}
+use Rattle.p3_tree.specs.Reports.Explanations.{explained_lines}
+use Rattle.p3_tree.specs.Reports.Watching.{judged_lines, blocks, watch_lines}
+use Rattle.p3_tree.specs.Watching.{lines_from, line_offence, line_text, answer_to}
+use Rattle.p3_tree.specs.Worked.Followed.{ExplainedPlans, FollowedPlans, LinesOfTexts}
+use Rattle.p3_tree.specs.Worked.Preferences.{three_places}
+use Rattle.p3_tree.specs.Worked.Steps.{both_changes, once_only}
+use Rattle.p3_tree.specs.Worked.Touching.{ConditionsOfSteps}
+use Rattle.p3_tree.specs.Worked.Trajectories.{answered, switched}
 use Rattle.p3_tree.specs.Worked.Refusals.{refused, RefusedTexts, RefusedNames, RefusedTasks, NotRefused}
-use Rattle.p3_tree.specs.Worked.Lines.{LinesOfTasks, LinesOfPlans, SamplesForOneAndThree, WordsOfCommands}
+use Rattle.p3_tree.specs.Worked.Lines.{LinesOfTasks, LinesOfPlans, SamplesForOneAndThree, WordsOfCommands, LinesOfUsage}
 use Rattle.p3_tree.proofs.Computes.{meaning_computes, texts_compute}
 
 -- refusals and printed lines
@@ -108,5 +117,31 @@ words_of_commands = record {
   too_many = refl;
   superfluous_zero = refl;
   other_case = refl;
+  a_file_more = refl;
+  a_file_less = refl;
   none = refl;
 }
+
+pub lines_of_usage : LinesOfUsage
+lines_of_usage = refl
+
+-- plans that are explained and followed
+unfoldable following_computes : Unit {0}
+unfolding refusals_compute offence_from explained_lines lines_from line_offence line_text answer_to judged_lines blocks watch_lines both_changes once_only three_places switched answered
+following_computes = tt
+
+pub explained_plans : ExplainedPlans
+unfolding following_computes
+explained_plans = record { came_back = refl; three_places = refl; hard = refl; once = refl; unanswered = refl; answered_late = refl }
+
+pub followed_plans : FollowedPlans
+unfolding following_computes
+followed_plans = record { second_step_fails = refl; refused_line = refl; two_steps = refl; earlier_offence = refl; unknown = refl; no_lines = refl }
+
+pub lines_of_texts : LinesOfTexts
+unfolding following_computes
+lines_of_texts = record { none = refl; empty = refl; open_end = refl; closed_end = refl }
+
+pub conditions_of_steps : ConditionsOfSteps
+unfolding following_computes
+conditions_of_steps = record { thirteen = refl; twelve = refl; line = refl; watched = refl; conditional = refl; unconditional = refl }

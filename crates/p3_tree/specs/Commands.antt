@@ -1,5 +1,5 @@
 -- What the words of a command line ask for: a command, the files that it reads, and those that it writes.
-use Rattle.std.specs.Prelude.{ℕ, Bool, true, false, ◌&&◌, find, List, [], ◌∷◌, ◌++◌, map, if◌then◌else◌, Option, Some, None, option_map, option_and_then, codes, bytes_eq}
+use Rattle.std.specs.Prelude.{ℕ, ◌+◌, ◌==◌, Bool, true, false, ◌&&◌, find, List, [], ◌∷◌, ◌++◌, map, zip, take, drop, length, if◌then◌else◌, Option, Some, None, option_map, option_and_then, codes, bytes_eq}
 use Rattle.std.specs.Fmt.{decimal}
 use Rattle.std.specs.List.{list_all, range_with_len}
 use Rattle.p3_base.specs.Words.{are_different}
@@ -7,21 +7,50 @@ use Rattle.p3_base.specs.declared.refusal.Role.{Role}
 use Rattle.p3_base.specs.declared.refusal.Role.TheVariants as role
 use Rattle.p3_base.specs.declared.refusal.Side.TheVariants.{Source, Written}
 use Rattle.p3_tree.specs.Sides.{byte_limit, plan_byte_limit}
-use Rattle.p3_tree.specs.Grammar.Words.{choose}
+use Rattle.p3_tree.specs.declared.command.CommandKind.{CommandKind}
+use Rattle.p3_tree.specs.declared.command.CommandKind.TheVariants.{Compile, Lift, Embed, Evaluate, Generate}
 
 -- a word as it was given
 abbrev pub Word : Type 0
 Word = List ℕ
 
--- a command with the names of its files; the last ones are written
-pub data Command : Type 0 where
-  Compile : (domain problem written_domain written_problem : Word) → Command
-  Lift : (domain problem written_domain written_problem plan lifted : Word) → Command
-  Embed : (domain problem plan written_domain written_problem embedded : Word) → Command
-  Evaluate : (domain problem plan : Word) → Command
-  Generate : (number : ℕ) → (domain problem plan : Word) → Command
+-- ---- the table of commands
 
--- ---- files
+-- the word of a command, whether a number stands behind it, and then what the files are that it reads and those that it writes
+pub record Row : Type 0 where
+  pub word : Word
+  pub is_numbered : Bool
+  pub reads : List Role
+  pub writes : List Role
+
+abbrev pub source_task : List Role
+source_task = role.Domain ∷ role.Problem ∷ []
+
+abbrev pub written_task : List Role
+written_task = role.WrittenDomain ∷ role.WrittenProblem ∷ []
+
+abbrev pub plan : List Role
+plan = role.Plan ∷ []
+
+abbrev pub row : CommandKind → Row
+row Compile = record { word = codes "compile"; is_numbered = false; reads = source_task; writes = written_task }
+row Lift = record { word = codes "lift"; is_numbered = false; reads = source_task ++ written_task ++ plan; writes = plan }
+row Embed = record { word = codes "embed"; is_numbered = false; reads = source_task ++ plan; writes = written_task ++ plan }
+row Evaluate = record { word = codes "evaluate"; is_numbered = false; reads = source_task ++ plan; writes = [] }
+row Generate = record { word = codes "generate"; is_numbered = true; reads = []; writes = source_task ++ plan }
+
+-- in the order of the lines of usage
+abbrev pub kinds : List CommandKind
+kinds = Compile ∷ Lift ∷ Embed ∷ Evaluate ∷ Generate ∷ []
+
+-- ---- commands
+
+-- a command with the names of its files; the number is 0 where none stands behind its word
+pub record Command : Type 0 where
+  pub kind : CommandKind
+  pub number : ℕ
+  pub reads : List Word
+  pub writes : List Word
 
 -- a file that is read: what it is, its name, and how many bytes it may have
 pub record Input : Type 0 where
@@ -34,35 +63,27 @@ pub record Output : Type 0 where
   pub role : Role
   pub name : Word
 
-abbrev pub source_inputs : Word → Word → List Input
-source_inputs domain problem = record { role = role.Domain; name = domain; limit = byte_limit Source } ∷ record { role = role.Problem; name = problem; limit = byte_limit Source } ∷ []
+-- how many bytes a file of the role may have
+abbrev pub limit_of : Role → ℕ
+limit_of role.Domain = byte_limit Source
+limit_of role.Problem = byte_limit Source
+limit_of role.WrittenDomain = byte_limit Written
+limit_of role.WrittenProblem = byte_limit Written
+limit_of role.Plan = plan_byte_limit
 
-abbrev pub written_inputs : Word → Word → List Input
-written_inputs domain problem =
-    record { role = role.WrittenDomain; name = domain; limit = byte_limit Written } ∷ record { role = role.WrittenProblem; name = problem; limit = byte_limit Written } ∷ []
+abbrev pub input : Role × Word → Input
+input named = record { role = named.0; name = named.1; limit = limit_of named.0 }
 
-abbrev pub plan_input : Word → Input
-plan_input plan = record { role = role.Plan; name = plan; limit = plan_byte_limit }
+abbrev pub output : Role × Word → Output
+output named = record { role = named.0; name = named.1 }
 
 -- in the order of the command line
 abbrev pub inputs : Command → List Input
-inputs (Compile domain problem written_domain written_problem) = source_inputs domain problem
-inputs (Lift domain problem written_domain written_problem plan lifted) = source_inputs domain problem ++ written_inputs written_domain written_problem ++ plan_input plan ∷ []
-inputs (Embed domain problem plan written_domain written_problem embedded) = source_inputs domain problem ++ plan_input plan ∷ []
-inputs (Evaluate domain problem plan) = source_inputs domain problem ++ plan_input plan ∷ []
-inputs (Generate number domain problem plan) = []
-
-abbrev pub output : Role → Word → Output
-output role name = record { role = role; name = name }
+inputs command = map input (zip (row command.kind).reads command.reads)
 
 -- in the order in which they are written
 abbrev pub outputs : Command → List Output
-outputs (Compile domain problem written_domain written_problem) = output role.WrittenDomain written_domain ∷ output role.WrittenProblem written_problem ∷ []
-outputs (Lift domain problem written_domain written_problem plan lifted) = output role.Plan lifted ∷ []
-outputs (Embed domain problem plan written_domain written_problem embedded) =
-    output role.WrittenDomain written_domain ∷ output role.WrittenProblem written_problem ∷ output role.Plan embedded ∷ []
-outputs (Evaluate domain problem plan) = []
-outputs (Generate number domain problem plan) = output role.Domain domain ∷ output role.Problem problem ∷ output role.Plan plan ∷ []
+outputs command = map output (zip (row command.kind).writes command.writes)
 
 -- ---- words
 
@@ -70,44 +91,40 @@ abbrev pub is_file_word : Word → Bool
 is_file_word [] = false
 is_file_word (byte ∷ bytes) = true
 
-abbrev pub names_of : Command → List Word
-names_of command = map (λ (input : Input). input.name) (inputs command) ++ map (λ (out : Output). out.name) (outputs command)
-
 -- all names are words that can name a file, and no two outputs have the same name
 abbrev pub has_file_words : Command → Bool
-has_file_words command = list_all is_file_word (names_of command) && are_different (map (λ (out : Output). out.name) (outputs command))
+has_file_words command = list_all is_file_word (command.reads ++ command.writes) && are_different command.writes
 
 -- a decimal number from 1 to 200 without superfluous zeros
 abbrev pub sample_number : Word → Option ℕ
 sample_number word = find (λ n. bytes_eq word (decimal n)) (range_with_len 1 200)
 
-abbrev pub compile_words : List Word → Option Command
-compile_words (domain ∷ problem ∷ written_domain ∷ written_problem ∷ []) = Some (Compile domain problem written_domain written_problem)
-compile_words _ = None
+-- the number behind the word of a command, and the names behind it
+abbrev pub numbered : Bool → List Word → Option (ℕ × List Word)
+numbered false names = Some (0, names)
+numbered true [] = None
+numbered true (number ∷ names) = option_map (λ n. (n, names)) (sample_number number)
 
-abbrev pub lift_words : List Word → Option Command
-lift_words (domain ∷ problem ∷ written_domain ∷ written_problem ∷ plan ∷ lifted ∷ []) = Some (Lift domain problem written_domain written_problem plan lifted)
-lift_words _ = None
+-- the names of the files that are read stand before those of the files that are written
+abbrev pub command_with : CommandKind → ℕ × List Word → Command
+command_with kind found =
+    record { kind = kind; number = found.0; reads = take (length (row kind).reads) found.1; writes = drop (length (row kind).reads) found.1 }
 
-abbrev pub embed_words : List Word → Option Command
-embed_words (domain ∷ problem ∷ plan ∷ written_domain ∷ written_problem ∷ embedded ∷ []) = Some (Embed domain problem plan written_domain written_problem embedded)
-embed_words _ = None
+-- there is a name for each file, and they can name files
+abbrev pub is_spelled : CommandKind → ℕ × List Word → Bool
+is_spelled kind found = length found.1 == length (row kind).reads + length (row kind).writes && has_file_words (command_with kind found)
 
-abbrev pub evaluate_words : List Word → Option Command
-evaluate_words (domain ∷ problem ∷ plan ∷ []) = Some (Evaluate domain problem plan)
-evaluate_words _ = None
+abbrev pub if_spelled : CommandKind → ℕ × List Word → Option Command
+if_spelled kind found = if is_spelled kind found then Some (command_with kind found) else None
 
-abbrev pub generate_words : List Word → Option Command
-generate_words (number ∷ domain ∷ problem ∷ plan ∷ []) = option_map (λ n. Generate n domain problem plan) (sample_number number)
-generate_words _ = None
+abbrev pub command_by : List Word → CommandKind → Option Command
+command_by words kind = option_and_then (if_spelled kind) (numbered (row kind).is_numbered words)
 
-abbrev pub commands : List (Word × (List Word → Option Command))
-commands = (codes "compile", compile_words) ∷ (codes "lift", lift_words) ∷ (codes "embed", embed_words) ∷ (codes "evaluate", evaluate_words) ∷ (codes "generate", generate_words) ∷ []
-
-abbrev pub if_files : Command → Option Command
-if_files command = if has_file_words command then Some command else None
+-- the command of the word
+abbrev pub kind_of : Word → Option CommandKind
+kind_of word = find (λ kind. bytes_eq (row kind).word word) kinds
 
 -- the command that the words spell, or none
 abbrev pub command_of : List Word → Option Command
 command_of [] = None
-command_of (name ∷ words) = option_and_then if_files (choose name commands (λ others. None) words)
+command_of (word ∷ words) = option_and_then (command_by words) (kind_of word)

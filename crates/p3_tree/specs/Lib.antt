@@ -6,6 +6,7 @@ pub mod Costs
 pub mod Decimals
 pub mod Effects
 pub mod Erased
+pub mod Explanations
 pub mod Expressions
 pub mod Faithful
 pub mod FirstOffence
@@ -18,6 +19,7 @@ pub mod Laws
 pub mod Lifting
 pub mod Limits
 pub mod Literals
+pub mod Mentions
 pub mod Metrics
 pub mod Names
 pub mod Offences
@@ -33,7 +35,10 @@ pub mod States
 pub mod Static
 pub mod StepNumbers
 pub mod Tokens
+pub mod Touching
 pub mod Types
+pub mod Unconditional
 pub mod Uses
 pub mod Validity
+pub mod Watching
 pub mod Worked

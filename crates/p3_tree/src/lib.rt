@@ -1,6 +1,7 @@
 //! The trees of a PDDL3 task, and what they mean.
 #![tactic(auto)]
 
+mod command;
 mod constraint;
 mod effect;
 mod expression;
@@ -14,6 +15,7 @@ mod state;
 mod task;
 mod term;
 
+pub use command::CommandKind;
 pub use constraint::{Constraint, Modal};
 pub use effect::{Amount, Effect, Numeral};
 pub use expression::Expression;
@@ -30,7 +32,7 @@ pub use laws::{
     places_of_a_metric_are_fixed, valid_where_no_fault, well_formed_where_no_offence, worked_cases,
 };
 pub use metric::{Metric, Num};
-pub use printed::{printed_cases, refused_cases};
+pub use printed::{followed_cases, printed_cases, refused_cases};
 pub use state::{Binding, Fact};
 pub use task::{Action, Domain, Header, Init, Kind, Part, Plan, Problem, Step, Task};
 pub use term::{Ref, Term, Typed};

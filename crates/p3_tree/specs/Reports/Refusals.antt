@@ -33,6 +33,7 @@ code_text code.TooManySteps = codes "18 too many steps"
 code_text code.NotPlain = codes "19 not plain"
 code_text code.Mismatch = codes "20 mismatch"
 code_text code.FileTooLong = codes "21 file too long"
+code_text code.FlatTooWide = codes "22 flat too wide"
 
 -- ---- a refusal with a place
 
@@ -55,7 +56,7 @@ abbrev pub refusal_head : List ℕ → List ℕ → ℕ → ℕ → List ℕ
 refusal_head why file row column =
     codes "refused " ++ (why ++ (codes ": " ++ (file ++ (codes " " ++ (decimal row ++ (codes ":" ++ (decimal column ++ codes " ")))))))
 
--- the line of a refusal with a code 1 to 18, of this text
+-- the line of a refusal with a code 1 to 18 or 22, of this text
 abbrev pub refusal_line : List ℕ → Refusal → List ℕ
 refusal_line text refusal =
     refusal_head (code_text refusal.code) (role_name refusal.pos.role) (line_of text refusal.pos.offset) (column_of text refusal.pos.offset)

@@ -4,7 +4,10 @@ use Prim.Native.String.{String}
 use Rattle.p3_tree.specs.Plans.{Plan}
 use Rattle.p3_tree.specs.Faithful.{extra}
 use Rattle.p3_tree.specs.PlanTexts.{IsPlanText}
-use Rattle.p3_tree.specs.Commands.{Command, Compile, Lift, Embed, Evaluate, Generate, command_of}
+use Rattle.p3_tree.specs.Commands.{Command, command_of}
+use Rattle.p3_tree.specs.declared.command.CommandKind.{CommandKind}
+use Rattle.p3_tree.specs.declared.command.CommandKind.TheVariants.{Compile, Lift, Embed, Evaluate, Generate}
+use Rattle.p3_tree.specs.Reports.Lines.{usage_lines}
 use Rattle.p3_tree.specs.Reports.Tasks.{compiled_lines}
 use Rattle.p3_tree.specs.Reports.Plans.{evaluated_lines, generated_lines}
 use Rattle.p3_tree.specs.Samples.{sample_domain, sample_problem, sample_plan}
@@ -109,17 +112,32 @@ pub record SamplesForOneAndThree : Type 0 where
 abbrev pub words : List String → Option Command
 words list = command_of (map codes list)
 
+-- the words ask for this command, with these files that it reads and these that it writes
+abbrev pub Asks : List String → CommandKind → ℕ → List String → List String → Type 0
+Asks list kind number reads writes = words list ≡ Some (record { kind = kind; number = number; reads = map codes reads; writes = map codes writes })
+
 pub record WordsOfCommands : Type 0 where
-  pub compile : words ("compile" ∷ "d" ∷ "p" ∷ "x" ∷ "y" ∷ []) ≡ Some (Compile (codes "d") (codes "p") (codes "x") (codes "y"))
-  pub over_inputs : words ("compile" ∷ "d" ∷ "p" ∷ "p" ∷ "d" ∷ []) ≡ Some (Compile (codes "d") (codes "p") (codes "p") (codes "d"))
+  pub compile : Asks ("compile" ∷ "d" ∷ "p" ∷ "x" ∷ "y" ∷ []) Compile 0 ("d" ∷ "p" ∷ []) ("x" ∷ "y" ∷ [])
+  pub over_inputs : Asks ("compile" ∷ "d" ∷ "p" ∷ "p" ∷ "d" ∷ []) Compile 0 ("d" ∷ "p" ∷ []) ("p" ∷ "d" ∷ [])
   pub one_output : words ("compile" ∷ "d" ∷ "p" ∷ "x" ∷ "x" ∷ []) ≡ None
   pub no_name : words ("compile" ∷ "d" ∷ "" ∷ "x" ∷ "y" ∷ []) ≡ None
-  pub lift : words ("lift" ∷ "d" ∷ "p" ∷ "x" ∷ "y" ∷ "q" ∷ "o" ∷ []) ≡ Some (Lift (codes "d") (codes "p") (codes "x") (codes "y") (codes "q") (codes "o"))
-  pub embed : words ("embed" ∷ "d" ∷ "p" ∷ "q" ∷ "x" ∷ "y" ∷ "o" ∷ []) ≡ Some (Embed (codes "d") (codes "p") (codes "q") (codes "x") (codes "y") (codes "o"))
-  pub evaluate : words ("evaluate" ∷ "d" ∷ "p" ∷ "q" ∷ []) ≡ Some (Evaluate (codes "d") (codes "p") (codes "q"))
-  pub generate : words ("generate" ∷ "200" ∷ "d" ∷ "p" ∷ "q" ∷ []) ≡ Some (Generate 200 (codes "d") (codes "p") (codes "q"))
+  pub lift : Asks ("lift" ∷ "d" ∷ "p" ∷ "x" ∷ "y" ∷ "q" ∷ "o" ∷ []) Lift 0 ("d" ∷ "p" ∷ "x" ∷ "y" ∷ "q" ∷ []) ("o" ∷ [])
+  pub embed : Asks ("embed" ∷ "d" ∷ "p" ∷ "q" ∷ "x" ∷ "y" ∷ "o" ∷ []) Embed 0 ("d" ∷ "p" ∷ "q" ∷ []) ("x" ∷ "y" ∷ "o" ∷ [])
+  pub evaluate : Asks ("evaluate" ∷ "d" ∷ "p" ∷ "q" ∷ []) Evaluate 0 ("d" ∷ "p" ∷ "q" ∷ []) []
+  pub generate : Asks ("generate" ∷ "200" ∷ "d" ∷ "p" ∷ "q" ∷ []) Generate 200 [] ("d" ∷ "p" ∷ "q" ∷ [])
   pub too_few : words ("generate" ∷ "0" ∷ "d" ∷ "p" ∷ "q" ∷ []) ≡ None
   pub too_many : words ("generate" ∷ "201" ∷ "d" ∷ "p" ∷ "q" ∷ []) ≡ None
   pub superfluous_zero : words ("generate" ∷ "03" ∷ "d" ∷ "p" ∷ "q" ∷ []) ≡ None
   pub other_case : words ("Compile" ∷ "d" ∷ "p" ∷ "x" ∷ "y" ∷ []) ≡ None
+  pub a_file_more : words ("evaluate" ∷ "d" ∷ "p" ∷ "q" ∷ "x" ∷ []) ≡ None
+  pub a_file_less : words ("lift" ∷ "d" ∷ "p" ∷ "x" ∷ "y" ∷ "q" ∷ []) ≡ None
   pub none : words [] ≡ None
+
+-- what is printed where the words ask for nothing
+abbrev pub LinesOfUsage : Type 0
+LinesOfUsage = usage_lines ≡ text_of (
+    "usage: pddl3c compile D P OD OP"
+    ∷ "       pddl3c lift D P OD OP PLAN OUT"
+    ∷ "       pddl3c embed D P PLAN OD OP OUT"
+    ∷ "       pddl3c evaluate D P PLAN"
+    ∷ "       pddl3c generate N D P PLAN" ∷ [])

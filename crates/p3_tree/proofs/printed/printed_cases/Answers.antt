@@ -1,4 +1,4 @@
-use Rattle.p3_tree.proofs.WorkedLines.{lines_of_tasks, lines_of_plans, samples_for_one_and_three, words_of_commands}
+use Rattle.p3_tree.proofs.WorkedLines.{lines_of_tasks, lines_of_plans, samples_for_one_and_three, words_of_commands, lines_of_usage}
 use Rattle.p3_tree.proofs.printed.printed_cases.Goals as goal
 
 pub returns : goal.returns
@@ -7,4 +7,5 @@ returns c = record {
   plans = lines_of_plans;
   samples = samples_for_one_and_three;
   commands = words_of_commands;
+  usage = lines_of_usage;
 }

@@ -1,0 +1,52 @@
+-- Why the constraints and preferences of a plan are satisfied or not: for each operator the visited states that show it (the PDDL3 report).
+use Rattle.std.specs.Prelude.{ℕ, ◌-◌, Bool, not, List, ◌++◌, map, flat_map, filter, length}
+use Rattle.std.specs.List.{enumerate_from}
+use Rattle.p3_base.specs.Showings.{shown_at_end, shown_always, shown_sometime, shown_at_most_once, shown_sometime_after, shown_sometime_before}
+use Rattle.p3_base.specs.declared.showing.Reason.{Reason}
+use Rattle.p3_base.specs.declared.showing.Showing.{Showing}
+use Rattle.p3_base.specs.declared.showing.Showing.TheVariants.{FailsAt}
+use Rattle.p3_base.specs.declared.showing.Subject.{Subject}
+use Rattle.p3_base.specs.declared.showing.Subject.TheVariants.{Hard, Soft, Pre}
+use Rattle.p3_tree.specs.States.{State, Environment}
+use Rattle.p3_tree.specs.Formulas.{holds}
+use Rattle.p3_tree.specs.Goals.{StatePref}
+use Rattle.p3_tree.specs.Plans.{Plan, Move, moves, visited}
+use Rattle.p3_tree.specs.Constraints.{HardModal, Instance, hard_list, holds_at, instances, operators}
+use Rattle.p3_tree.specs.Metrics.{step_prefs}
+use Rattle.p3_tree.specs.declared.constraint.Modal.{Modal}
+use Rattle.p3_tree.specs.declared.constraint.Modal.TheVariants.{AtEnd, Always, Sometime, AtMostOnce, SometimeAfter, SometimeBefore}
+use Rattle.p3_tree.specs.declared.task.Task.{Task}
+
+-- the states that show whether an operator is satisfied over the visited states
+unfoldable pub shown : Task → List State → Environment → Modal → Showing
+shown T W env (AtEnd f) = shown_at_end (length W) (holds_at T W env f)
+shown T W env (Always f) = shown_always (length W) (holds_at T W env f)
+shown T W env (Sometime f) = shown_sometime (length W) (holds_at T W env f)
+shown T W env (AtMostOnce f) = shown_at_most_once (length W) (holds_at T W env f)
+shown T W env (SometimeAfter f g) = shown_sometime_after (length W) (holds_at T W env f) (holds_at T W env g)
+shown T W env (SometimeBefore f g) = shown_sometime_before (length W) (holds_at T W env f) (holds_at T W env g)
+
+-- ---- reasons
+
+-- the operators of a list, each with its number
+abbrev pub operator_reasons : Task → List State → (ℕ → Subject) → List HardModal → List Reason
+operator_reasons T W subject list = map (λ (numbered : ℕ × HardModal). record { subject = subject numbered.0; showing = shown T W numbered.1.env numbered.1.modal }) (enumerate_from 0 list)
+
+abbrev pub hard_reasons : Task → Plan → List Reason
+hard_reasons T plan = operator_reasons T (visited T plan) Hard (hard_list T)
+
+abbrev pub instance_reasons : Task → Plan → ℕ × Instance → List Reason
+instance_reasons T plan numbered = operator_reasons T (visited T plan) (Soft numbered.0) (operators T numbered.1.env numbered.1.body)
+
+-- the precondition preferences of a step that are false in the state before it; before step j stands state j - 1
+abbrev pub is_false_in : Task → State → ℕ × StatePref → Bool
+is_false_in T s numbered = not (holds T s numbered.1.env numbered.1.body)
+
+abbrev pub move_reasons : Task → ℕ × Move → List Reason
+move_reasons T numbered =
+    map (λ (pref : ℕ × StatePref). record { subject = Pre numbered.0 pref.0; showing = FailsAt (numbered.0 - 1) })
+    (filter (is_false_in T numbered.1.state) (enumerate_from 0 (step_prefs T numbered.1.step)))
+
+-- the hard constraints, the operators of the instances, and the false preferences of the steps, all in text and binding order
+unfoldable pub reasons : Task → Plan → List Reason
+reasons T plan = hard_reasons T plan ++ flat_map (instance_reasons T plan) (enumerate_from 0 (instances T)) ++ flat_map (move_reasons T) (enumerate_from 1 (moves T plan))
