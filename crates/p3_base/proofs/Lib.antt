@@ -1,3 +1,4 @@
+pub mod CopiedLaws
 pub mod CopyLemmas
 pub mod NameLemmas
 pub mod ShelfLemmas

@@ -1,4 +1,5 @@
 pub mod Connectives
+pub mod Copied
 pub mod Copies
 pub mod Memory
 pub mod Outside

@@ -3,6 +3,7 @@
 #![tactic(auto)]
 
 mod boxed;
+mod copied;
 mod error;
 mod files;
 mod list;
@@ -19,6 +20,7 @@ mod sink;
 mod sure;
 
 pub use boxed::Boxed;
+pub use copied::{copied_step, number_of};
 pub use error::{NoMemory, ReadFault, SinkFailed, WriteFault};
 pub use files::Files;
 pub use list::List;

@@ -4,7 +4,7 @@ ghost use Rattle.std.specs.Prelude.{◌≡◌, ◌≤◌};
 ghost use Rattle.std.specs.Option.{option_map};
 ghost use Rattle.p3_tree.specs.Commands.{sample_number};
 
-use p3_copies::number_of;
+use p3_base::number_of;
 
 /// The greatest number of a sample.
 const LAST: u32 = 200;

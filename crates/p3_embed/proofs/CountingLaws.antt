@@ -5,8 +5,8 @@ use Rattle.std.specs.List.{range_with_len}
 use Rattle.p3_base.specs.Copies.{copy_prefix, is_copy_of}
 use Rattle.p3_base.specs.Words.{Name}
 use Rattle.p3_base.proofs.CopyLemmas.{copy_of_only}
-use Rattle.p3_copies.specs.Copied.{IsNoCopy}
-use Rattle.p3_copies.proofs.CopiedLaws.{copy_is}
+use Rattle.p3_base.specs.Copied.{IsNoCopy}
+use Rattle.p3_base.proofs.CopiedLaws.{copy_is}
 use Rattle.p3_formula.specs.Targets.{lifted_number}
 use Rattle.p3_formula.specs.declared.task.GroundTask.{GroundTask}
 use Rattle.p3_formula.proofs.NameLaws.{copy_lifted}

@@ -3,7 +3,7 @@
 ghost use Rattle.std.specs.Prelude.{◌≡◌};
 ghost use Rattle.p3_formula.specs.Targets.{lifted_number};
 
-use p3_copies::copied_step;
+use p3_base::copied_step;
 use p3_formula::GroundTask;
 
 /// The step as which an action of that name counts, if it does.

@@ -5,8 +5,8 @@ use Rattle.std.specs.List.{enumerate_from}
 use Rattle.p3_base.specs.Copies.{copy_prefix, is_copy_of}
 use Rattle.p3_base.specs.Words.{Name}
 use Rattle.p3_base.proofs.CopyLemmas.{copy_of_only}
-use Rattle.p3_copies.specs.Copied.{IsNoCopy}
-use Rattle.p3_copies.proofs.CopiedLaws.{copy_is}
+use Rattle.p3_base.specs.Copied.{IsNoCopy}
+use Rattle.p3_base.proofs.CopiedLaws.{copy_is}
 use Rattle.p3_tree.specs.Lifting.{lifted_step, steps}
 use Rattle.p3_tree.specs.Names.{is_empty}
 use Rattle.p3_tree.specs.declared.task.Step.{Step}

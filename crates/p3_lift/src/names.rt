@@ -4,7 +4,7 @@ ghost use Rattle.std.specs.Prelude.{◌≡◌, ◌<◌, ◌≤◌, IfSome, optio
 ghost use Rattle.p3_tree.specs.Lifting.{lifted_step, steps};
 ghost use Rattle.p3_tree.specs.Limits.{step_count as count_of_steps};
 
-use p3_copies::copied_step;
+use p3_base::copied_step;
 use p3_tree::Step;
 use p3_types::Checked;
 

@@ -1,7 +1,7 @@
 use Rattle.std.proofs.Common.{◌≡◌, arith, subst, true}
 use Rattle.p3_base.specs.Copies.{is_copy_of}
 use Rattle.p3_base.specs.Words.{Name}
-use Rattle.p3_copies.specs.Copied.{IsNoCopy}
+use Rattle.p3_base.specs.Copied.{IsNoCopy}
 use Rattle.p3_lift.proofs.NameLaws.{no_arguments, of_copy, of_no_copy, of_other_copy, some_arguments, with_arguments}
 use Rattle.p3_lift.proofs.names.counted_step.Goals as goal
 

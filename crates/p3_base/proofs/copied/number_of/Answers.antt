@@ -1,9 +1,9 @@
 use Rattle.std.proofs.Common.{◌≡◌, ◌∙◌, ℕ, List, Option, sym, subst}
 use Rattle.std.specs.Prelude.{IfSome, IfNone, decimal}
 use Rattle.std.specs.Str.Parse.{ParsesUnsigned}
-use Rattle.p3_copies.specs.Copied.{IsNoNumber}
-use Rattle.p3_copies.proofs.CopiedLaws.{no_text, padded_is_none, parsed}
-use Rattle.p3_copies.proofs.copied.number_of.Goals as goal
+use Rattle.p3_base.specs.Copied.{IsNoNumber}
+use Rattle.p3_base.proofs.CopiedLaws.{no_text, padded_is_none, parsed}
+use Rattle.p3_base.proofs.copied.number_of.Goals as goal
 
 pub returns-then-is_padded-clause-none : goal.returns-then-is_padded-clause-none
 returns-then-is_padded-clause-none c = padded_is_none c.args.digits.now (sym c.is_padded.ensures ∙ c.if-is_padded.true)

@@ -16,7 +16,7 @@ use Rattle.std.proofs.lemmas.Str.Parse.{IsNumeralModel, numerals_by_fold, not_in
 use Rattle.p3_base.specs.Copies.{copy_prefix, copy_name, is_copy_of}
 use Rattle.p3_base.specs.Words.{Name}
 use Rattle.p3_base.proofs.CopyLemmas.{begins, begins_with, copy_of_own}
-use Rattle.p3_copies.specs.Copied.{IsFirstV, IsNoNumber, IsNotNumbered, is_numbered, is_padded}
+use Rattle.p3_base.specs.Copied.{IsFirstV, IsNoNumber, IsNotNumbered, is_numbered, is_padded}
 
 -- ---- numbers as words of digits
 

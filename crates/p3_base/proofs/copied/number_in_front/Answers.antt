@@ -1,5 +1,5 @@
-use Rattle.p3_copies.proofs.CopiedLaws.{in_front, no_v_at_all}
-use Rattle.p3_copies.proofs.copied.number_in_front.Goals as goal
+use Rattle.p3_base.proofs.CopiedLaws.{in_front, no_v_at_all}
+use Rattle.p3_base.proofs.copied.number_in_front.Goals as goal
 
 pub returns-in-Some-clause-some : goal.returns-in-Some-clause-some
 returns-in-Some-clause-some c = (in_front c.args.bytes.now c.in-Some.place c.in-Some.ensures.some c.number_of.result c.number_of.ensures.some c.number_of.ensures.none).0

@@ -3,8 +3,8 @@
 ghost use Rattle.std.specs.Prelude.{◌≡◌, ◌≢◌, ◌<◌, ◌^◌, ℕ, IfSome, IfNone};
 ghost use Rattle.std.specs.Prelude.{decimal, true, length, slice_index};
 ghost use Rattle.p3_base.specs.Copies.{is_copy_of};
-ghost use Rattle.p3_copies.specs.Copied.{IsFirstV, IsNoCopy, IsNoNumber, IsNotNumbered};
-ghost use Rattle.p3_copies.specs.Copied.{is_numbered, is_padded};
+ghost use Rattle.p3_base.specs.Copied.{IsFirstV, IsNoCopy, IsNoNumber, IsNotNumbered};
+ghost use Rattle.p3_base.specs.Copied.{is_numbered, is_padded};
 
 /// The number of the step whose copy has that name, where it is below 2^32. It takes no memory.
 pub fn copied_step(name: &[u8]) -> Option<u32>
