@@ -28,7 +28,7 @@ use crate::plan_report::{evaluated_report, fault_text};
 use crate::texts::Texts;
 use p3_base::{List, Side};
 use p3_eval::{PlanFault, Whole};
-use p3_judge::first_fault;
+use p3_eval::first_fault;
 use std::alloc::Global;
 
 /// Judges the plan that a text spells, for the task that the two other texts spell: the report of a

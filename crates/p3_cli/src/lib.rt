@@ -26,4 +26,4 @@ mod translation;
 pub use call::run;
 pub use ending::Ending;
 pub use laws::{compiled_tasks_are_faithful, written_targets_are_faithful_texts};
-pub use p3_judge::{TextVerdict, judge_text};
+pub use p3_eval::{TextVerdict, judge_text};

@@ -1,4 +1,3 @@
-pub mod AtomLists
 pub mod CopyLists
 pub mod CopyNames
 pub mod NumberedNames

@@ -15,10 +15,11 @@ use Rattle.p3_formula.specs.declared.modal.GroundModal.TheVariants.{AtEnd, Alway
 use Rattle.p3_formula.proofs.FormLemmas.{list_any-map}
 use Rattle.p3_monitors.specs.declared.watching.Monitor.{Monitor}
 use Rattle.p3_compile.specs.declared.reading.Reader.{Reader}
-use Rattle.p3_compile.specs.Readers.{atoms_of, read_atoms, reader, readers_from, reads_atom, places_of, places_read}
+use Rattle.p3_formula.specs.AtomLists.{atoms_of}
+use Rattle.p3_compile.specs.Readers.{read_atoms, reader, readers_from, reads_atom, places_of, places_read}
 use Rattle.p3_compile.specs.Lean.{is_busy}
 use Rattle.p3_compile.specs.Updated.{AreTouched}
-use Rattle.p3_compile.proofs.AtomLists.{has_listed}
+use Rattle.p3_formula.proofs.AtomLists.{has_listed}
 
 -- ---- tests at some item
 

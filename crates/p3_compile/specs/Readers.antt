@@ -2,26 +2,12 @@
 use Rattle.std.specs.Prelude.{ℕ, ◌+◌, ◌==◌, Bool, List, [], ◌∷◌, ◌++◌, map}
 use Rattle.std.specs.List.{filter, flat_map}
 use Rattle.std.specs.List.Sorted.{IsNonDecreasingBy}
-use Rattle.p3_formula.specs.Folds.{fold_form}
+use Rattle.p3_formula.specs.AtomLists.{atoms_of}
 use Rattle.p3_formula.specs.declared.form.Change.{Change}
-use Rattle.p3_formula.specs.declared.form.Form.{Form}
-use Rattle.p3_formula.specs.declared.form.Form.TheOpen.{Form-F, True, False, Atom, Not, And, Or}
 use Rattle.p3_formula.specs.declared.modal.GroundModal.{GroundModal}
 use Rattle.p3_formula.specs.declared.modal.GroundModal.TheVariants.{AtEnd, Always, Sometime, AtMostOnce, SometimeAfter, SometimeBefore}
 use Rattle.p3_monitors.specs.declared.watching.Monitor.{Monitor}
 use Rattle.p3_compile.specs.declared.reading.Reader.{Reader}
-
-abbrev pub atoms_layer : Form-F (List ℕ) → List ℕ
-atoms_layer True = []
-atoms_layer False = []
-atoms_layer (Atom atom) = atom ∷ []
-atoms_layer (Not part) = part
-atoms_layer (And parts) = flat_map (λ part. part) parts
-atoms_layer (Or parts) = flat_map (λ part. part) parts
-
--- the atoms that stand in a form, from left to right
-unfoldable pub atoms_of : Form → List ℕ
-atoms_of form = fold_form atoms_layer form
 
 -- the atoms whose changes a monitor follows: none where only the last state counts
 abbrev pub read_atoms : GroundModal → List ℕ

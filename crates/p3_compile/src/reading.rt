@@ -3,7 +3,8 @@
 ghost use Rattle.std.specs.Prelude.{◌≡◌, ◌++◌, length, map, IfOk, OnOk};
 ghost use Rattle.std.specs.List.{flat_map, filter};
 ghost use Rattle.std.specs.List.Sorted.{IsPermutation};
-ghost use Rattle.p3_compile.specs.Readers.{atoms_of, read_atoms, reader, readers_from, reads_atom, IsRising};
+ghost use Rattle.p3_formula.specs.AtomLists.{atoms_of};
+ghost use Rattle.p3_compile.specs.Readers.{read_atoms, reader, readers_from, reads_atom, IsRising};
 
 use p3_base::NoMemory;
 use p3_formula::{Form, GroundModal};
@@ -21,7 +22,7 @@ pub(crate) struct Reader {
 
 /// The monitor at the place reads the atoms of the form.
 #[cycle(atoms)]
-#[tactic(auto, using(crate::proofs::AtomLists::atoms_of_laws))]
+#[tactic(auto, using(p3_formula::proofs::AtomLists::atoms_of_laws))]
 fn push_form(readers: &mut Vec<Reader>, form: &Form, place: usize) -> Result<(), NoMemory>
     ensures { OnOk result (readers.new.items
         ≡ readers.old.items ++ map (reader place) (atoms_of form.now)) }

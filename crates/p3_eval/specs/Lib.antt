@@ -1,4 +1,5 @@
-pub mod Failing
 pub mod Accepted
-pub mod Runs
+pub mod Failing
 pub mod Judged
+pub mod Judging
+pub mod Runs

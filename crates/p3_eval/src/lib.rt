@@ -8,6 +8,7 @@ mod judge;
 mod laws;
 mod parts;
 mod run;
+mod text_judging;
 mod whole;
 
 pub use error::WholeFail;
@@ -17,4 +18,5 @@ pub use laws::{
     runs_tell_the_first_fault,
 };
 pub use run::Run;
+pub use text_judging::{TextVerdict, first_fault, judge_text};
 pub use whole::Whole;

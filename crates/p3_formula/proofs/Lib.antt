@@ -2,6 +2,7 @@ pub mod FormLemmas
 pub mod SimplifiedLemmas
 pub mod TruthLaws
 pub mod AtomLaws
+pub mod AtomLists
 pub mod TidyLaws
 pub mod Worked
 pub mod NextLaws

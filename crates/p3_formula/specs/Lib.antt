@@ -14,3 +14,4 @@ pub mod Tidy
 pub mod Simplified
 pub mod Nodes
 pub mod Conditions
+pub mod AtomLists

@@ -13,7 +13,7 @@ use Rattle.p3_formula.specs.declared.task.GroundTask.{GroundTask}
 use Rattle.p3_numbers.specs.Tasks.{numbered_action}
 use Rattle.p3_numbers.specs.declared.task.NumberedTask.{NumberedTask}
 use Rattle.p3_expansion.specs.declared.statics.Statics.{Statics}
-use Rattle.p3_candidates.specs.Possible.{may_begin}
+use Rattle.p3_steps.specs.Possible.{may_begin}
 use Rattle.p3_ground.specs.Expanded.{IsStepAt, OfExpanded, StandsWithLittle, choice_of, facts_of}
 use Rattle.p3_ground.specs.Grounding.{KeepsWhatMayBegin, LeavesOutWhatNeverBegins, MayBegin, IsGroundingOverReached}
 use Rattle.p3_ground.specs.Sparse.{AtItsStep, HasPossibleConjuncts, StepsHavePossibleConjuncts}

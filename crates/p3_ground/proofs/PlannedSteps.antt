@@ -32,8 +32,8 @@ use Rattle.p3_expansion.specs.NamedReads.{IsNamedStep}
 use Rattle.p3_expansion.specs.Preferences.{preference_atoms}
 use Rattle.p3_expansion.specs.declared.statics.Statics.{Statics}
 use Rattle.p3_expansion.proofs.NamedReads.{reads-named}
-use Rattle.p3_candidates.specs.Possible.{may_begin}
-use Rattle.p3_candidates.specs.Candidates.{candidates_of}
+use Rattle.p3_steps.specs.Possible.{may_begin}
+use Rattle.p3_steps.specs.Candidates.{candidates_of}
 use Rattle.p3_steps.specs.Steps.{PlannedStep, StepIsMade, StepsAreMade, action_steps, all_atoms, count_of_steps, planned_step, planned_steps, step_atoms, steps_from}
 use Rattle.p3_ground.specs.Expanded.{AreExpanded, IsAtChoice, IsKept, OfExpanded, choice_of, step_of as step_at, steps_before}
 use Rattle.p3_ground.specs.Grounding.{KeepsWhatMayBegin, MayBegin}

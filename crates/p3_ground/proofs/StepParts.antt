@@ -27,9 +27,9 @@ use Rattle.p3_expansion.specs.Statics.{TellStatics}
 use Rattle.p3_expansion.proofs.NextLemmas.{all-at}
 use Rattle.p3_expansion.proofs.StaticLemmas.{tell-statics}
 use Rattle.p3_expansion.proofs.TaskLemmas.{known}
-use Rattle.p3_candidates.proofs.PossibleLaws.{may-begin-where-met}
-use Rattle.p3_costs.specs.Costs.{cost_of}
-use Rattle.p3_costs.proofs.CostLaws.{costs-mean}
+use Rattle.p3_steps.proofs.PossibleLaws.{may-begin-where-met}
+use Rattle.p3_steps.specs.Costs.{cost_of}
+use Rattle.p3_steps.proofs.CostLaws.{costs-mean}
 use Rattle.p3_ground.specs.Expanded.{IsStepAt}
 use Rattle.p3_ground.specs.StandsFor.{can_begin_by, can_begin}
 use Rattle.p3_ground.specs.StepParts.{OfSteps, NeverBegins, CostsAlike}

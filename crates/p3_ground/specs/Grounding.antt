@@ -17,7 +17,7 @@ use Rattle.p3_numbers.specs.declared.task.NumberedTask.{NumberedTask}
 use Rattle.p3_reach.specs.Closed.{IsClosed, IsInEachClosed}
 use Rattle.p3_expansion.specs.Atoms.{GroundAtom}
 use Rattle.p3_expansion.specs.declared.statics.Statics.{Statics}
-use Rattle.p3_candidates.specs.Possible.{may_begin}
+use Rattle.p3_steps.specs.Possible.{may_begin}
 use Rattle.p3_ground.specs.Expanded.{IsPutTogether, IsStepAt, choice_of, steps_before}
 use Rattle.p3_ground.specs.Pruned.{pruned}
 use Rattle.p3_ground.specs.Sparse.{IsGroundingOf}

@@ -16,8 +16,8 @@ use Rattle.p3_numbers.specs.declared.numbers.Numbers.{Numbers}
 use Rattle.p3_numbers.specs.declared.task.NumberedTask.{NumberedTask}
 use Rattle.p3_expansion.specs.Statics.{AreStatics}
 use Rattle.p3_expansion.specs.declared.statics.Statics.{Statics}
-use Rattle.p3_candidates.specs.Possible.{may_begin}
-use Rattle.p3_costs.specs.Costs.{cost_of}
+use Rattle.p3_steps.specs.Possible.{may_begin}
+use Rattle.p3_steps.specs.Costs.{cost_of}
 use Rattle.p3_ground.specs.Expanded.{IsStepAt, IsAtChoice, choice_of, step_of, steps_before}
 use Rattle.p3_ground.specs.Sparse.{HasPossibleConjuncts}
 use Rattle.p3_ground.specs.StandsFor.{can_begin}

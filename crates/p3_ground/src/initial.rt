@@ -5,7 +5,7 @@ ghost use Rattle.p3_tree.specs.Costs.{cost_places, entry_value, initial_cost as 
 ghost use Rattle.p3_tree.specs.Names.{total_cost};
 
 use p3_base::NoMemory;
-use p3_costs::units_at;
+use p3_steps::units_at;
 use p3_tree::{Init, Task};
 use p3_types::Checked;
 

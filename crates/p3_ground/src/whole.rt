@@ -9,7 +9,7 @@ ghost use Rattle.p3_ground.specs.Whole.{ArePartsOf, IsWhole, HasFewSteps};
 use crate::initial::{initial_cost, places_of};
 use crate::parts::Parts;
 use p3_base::NoMemory;
-use p3_costs::Costs;
+use p3_steps::Costs;
 use p3_expansion::{
     Atoms, Statics, Work, hard_constraints, hard_form, initial_bits, soft_constraints,
 };

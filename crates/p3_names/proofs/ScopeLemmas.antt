@@ -11,7 +11,8 @@ use Rattle.p3_tree.specs.Uses.{scope_of}
 use Rattle.std.specs.Prelude.{reverse, is_some}
 use Rattle.std.specs.List.{list_any}
 use Rattle.std.proofs.lemmas.List.{reverse-append, reverse-reverse, get_or-reverse, take-take, take_more, length-reverse, take_all}
-use Rattle.p3_names.specs.Scopes.{scope_seen, place_after, slot_of, hidden_after, hidden_by, words_of, Indexed}
+use Rattle.p3_tree.specs.Slots.{place_after, slot_of, words_of}
+use Rattle.p3_names.specs.Scopes.{scope_seen, hidden_after, hidden_by, Indexed}
 
 place_after-push : (names : List Name) (last name : Name) (passed : ℕ) (found : Option ℕ)
     → place_after (names ++ last ∷ []) name passed found ≡ (if same_name last name then Some (length names + passed) else place_after names name passed found)

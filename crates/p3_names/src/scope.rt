@@ -2,7 +2,8 @@
 
 ghost use Rattle.std.specs.Prelude.{◌≡◌, ◌<◌, ◌-◌, ◌++◌, ◌∷◌, [], length, take, reverse, slice_get, Some, OnOk, OnErr};
 ghost use Rattle.p3_tree.specs.Uses.{scope_of};
-ghost use Rattle.p3_names.specs.Scopes.{slot_of, words_of, scope_seen};
+ghost use Rattle.p3_tree.specs.Slots.{slot_of, words_of};
+ghost use Rattle.p3_names.specs.Scopes.{scope_seen};
 
 use p3_base::{Name, NoMemory};
 use p3_tree::Typed;

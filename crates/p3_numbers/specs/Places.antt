@@ -10,7 +10,7 @@ use Rattle.p3_tree.specs.declared.term.Term.{Term}
 use Rattle.p3_tree.specs.declared.term.Term.TheVariants.{Var, Const}
 use Rattle.p3_tree.specs.declared.term.Typed.{Typed}
 use Rattle.p3_tree.specs.declared.task.Task.{Task}
-pub use Rattle.p3_names.specs.Scopes.{place_after, slot_of, words_of}
+pub use Rattle.p3_tree.specs.Slots.{place_after, slot_of, words_of}
 use Rattle.p3_numbers.specs.Slots.{Slots, name_at, object_names, range_at, tuples_of}
 use Rattle.p3_numbers.specs.declared.condition.Argument.{Argument}
 use Rattle.p3_numbers.specs.declared.condition.Argument.TheVariants.{Slot, Object}

@@ -15,8 +15,8 @@ use Rattle.p3_tree.specs.declared.term.Term.TheVariants.{Const, Var}
 use Rattle.p3_tree.specs.declared.term.Typed.{Typed}
 use Rattle.p3_tree.specs.declared.task.Header.{Header}
 use Rattle.p3_tree.specs.declared.task.Task.{Task}
-use Rattle.p3_fits.specs.Fitting.{object_fits_at, variable_fits_at}
-use Rattle.p3_fits.specs.Numbers.{headers_of, parameter_at}
+use Rattle.p3_offences.specs.Fitting.{object_fits_at, variable_fits_at}
+use Rattle.p3_offences.specs.Numbers.{headers_of, parameter_at}
 use Rattle.p3_offences.specs.Spots.{step}
 use Rattle.p3_offences.specs.declared.spot.Spot.{Spot}
 use Rattle.p3_offences.proofs.WalkLemmas.{fold-append}

@@ -1,8 +1,12 @@
+pub mod ByNameLemmas
 pub mod ClashLemmas
 pub mod FirstLemmas
+pub mod FitLemmas
 pub mod FormLemmas
+pub mod FoundLemmas
 pub mod GivenLemmas
 pub mod HeaderLemmas
+pub mod NumberLemmas
 pub mod OrderLemmas
 pub mod TableLemmas
 pub mod VariableLemmas

@@ -8,7 +8,8 @@ use Rattle.p3_tree.specs.Types.{type_names}
 use Rattle.p3_tree.specs.Uses.{scope_of}
 use Rattle.p3_tree.specs.declared.term.Typed.{Typed}
 use Rattle.p3_tree.proofs.OnceLemmas.{Some-injective}
-use Rattle.p3_names.specs.Scopes.{scope_seen, place_after, slot_of, words_of}
+use Rattle.p3_tree.specs.Slots.{place_after, slot_of, words_of}
+use Rattle.p3_names.specs.Scopes.{scope_seen}
 use Rattle.p3_names.proofs.ScopeLemmas.{slot_of-push}
 
 abbrev pub entry_of : Typed → Name × List Name

@@ -8,7 +8,7 @@ use Rattle.p3_tree.specs.declared.term.Ref.{Ref}
 use Rattle.p3_tree.specs.declared.goal.PreGoal.{PreGoal}
 use Rattle.p3_tree.specs.declared.task.Header.{Header}
 use Rattle.p3_tree.specs.declared.task.Task.{Task}
-use Rattle.p3_fits.specs.Numbers.{headers_of}
+use Rattle.p3_offences.specs.Numbers.{headers_of}
 use Rattle.p3_offences.specs.declared.tables.Declared.{Declared}
 use Rattle.p3_tree.specs.declared.constraint.Constraint.{Constraint}
 

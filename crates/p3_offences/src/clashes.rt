@@ -6,7 +6,7 @@ ghost use Rattle.p3_tree.specs.Types.{type_names};
 ghost use Rattle.p3_tree.specs.Offences.{clashes, term_fits, unless as unless_passing};
 ghost use Rattle.p3_tree.specs.Offences as specs;
 ghost use Rattle.p3_names.specs.Scopes.{scope_seen};
-ghost use Rattle.p3_fits.specs.Numbers.{headers_of, parameter_at};
+ghost use Rattle.p3_offences.specs.Numbers.{headers_of, parameter_at};
 ghost use Rattle.p3_offences.specs.Spots.{step};
 
 use crate::spot::{Spot, unless};

@@ -1,12 +1,16 @@
 //! The first offence of a task that is not well-formed.
 #![tactic(auto)]
 
+mod by_name;
 mod clashes;
 mod declared_names;
 mod first;
 mod firsts;
+mod fit;
+mod fits;
 mod given;
 mod notes;
+mod numbers;
 mod spot;
 mod tables;
 mod walk;

@@ -1,5 +1,4 @@
 pub mod StageLaws
-pub mod AtomLists
 pub mod ReaderLaws
 pub mod TallyLaws
 pub mod RenewLaws

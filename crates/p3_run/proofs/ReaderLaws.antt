@@ -19,9 +19,10 @@ use Rattle.p3_formula.specs.declared.modal.GroundSoft.{GroundSoft}
 use Rattle.p3_formula.specs.declared.task.GroundTask.{GroundTask}
 use Rattle.p3_formula.proofs.ReadAtoms.{read_below, same_number}
 use Rattle.p3_run.specs.Groups.{AreModalsBelow, modals_of, modals_at, modal_at, IsReader}
-use Rattle.p3_run.specs.Readers.{atoms_of, modal_atoms, readers_at, filed, filed_all, is_same, IsFiled, IsBefore, AreFiledTo, AreReaders, is_same_by, ends, with_reader}
+use Rattle.p3_formula.specs.AtomLists.{atoms_of, modal_atoms}
+use Rattle.p3_run.specs.Readers.{readers_at, filed, filed_all, is_same, IsFiled, IsBefore, AreFiledTo, AreReaders, is_same_by, ends, with_reader}
 use Rattle.p3_run.specs.declared.readers.Reader.{Reader}
-use Rattle.p3_run.proofs.AtomLists.{has_listed}
+use Rattle.p3_formula.proofs.AtomLists.{has_listed}
 
 -- ---- one operator is filed
 

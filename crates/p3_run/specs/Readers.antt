@@ -1,33 +1,10 @@
 -- Which operators read an atom: for each atom a list of them.
 use Rattle.std.specs.Prelude.{◌≡◌, ℕ, ◌-◌, ◌<◌, ◌==◌, Bool, true, false, if◌then◌else◌, ◌&&◌, ◌⊎◌, List, [], ◌∷◌, ◌++◌, length, slice_get, slice_index_or, slice_set, fold, Option, Some, None}
-use Rattle.std.specs.List.{All, flat_map, list_any}
-use Rattle.p3_formula.specs.Folds.{fold_form}
-use Rattle.p3_formula.specs.Modals.{forms_of, is_read}
-use Rattle.p3_formula.specs.declared.form.Form.{Form}
-use Rattle.p3_formula.specs.declared.form.Form.TheOpen.{Form-F, True, False, Atom, Not, And, Or}
-use Rattle.p3_formula.specs.declared.modal.GroundModal.{GroundModal}
+use Rattle.std.specs.List.{All, list_any}
+use Rattle.p3_formula.specs.Modals.{is_read}
 use Rattle.p3_formula.specs.declared.task.GroundTask.{GroundTask}
 use Rattle.p3_run.specs.Groups.{modal_at, IsReader}
 use Rattle.p3_run.specs.declared.readers.Reader.{Reader}
-
--- ---- the atoms of forms
-
-abbrev pub atoms_layer : Form-F (List ℕ) → List ℕ
-atoms_layer True = []
-atoms_layer False = []
-atoms_layer (Atom atom) = atom ∷ []
-atoms_layer (Not part) = part
-atoms_layer (And parts) = flat_map (λ part. part) parts
-atoms_layer (Or parts) = flat_map (λ part. part) parts
-
--- the atoms that stand in a form, from left to right
-unfoldable pub atoms_of : Form → List ℕ
-atoms_of form = fold_form atoms_layer form
-
-abbrev pub modal_atoms : GroundModal → List ℕ
-modal_atoms modal = flat_map atoms_of (forms_of modal)
-
--- ---- the readers of atoms
 
 abbrev pub readers_at : List (List Reader) → ℕ → List Reader
 readers_at readers atom = slice_index_or readers atom []

@@ -3,7 +3,8 @@
 ghost use Rattle.std.specs.Prelude.{◌≡◌, ◌+◌, ◌<◌, ◌≤◌, length, replicate, [], IfOk, OnOk};
 ghost use Rattle.p3_formula.specs.Conditions.{HasAtomsBelow};
 ghost use Rattle.p3_run.specs.Groups.{modals_of};
-ghost use Rattle.p3_run.specs.Readers.{atoms_of, modal_atoms, ends, with_reader, filed, filed_all, AreFiledTo, AreReaders};
+ghost use Rattle.p3_formula.specs.AtomLists.{atoms_of, modal_atoms};
+ghost use Rattle.p3_run.specs.Readers.{ends, with_reader, filed, filed_all, AreFiledTo, AreReaders};
 ghost use Rattle.std.specs.List.{flat_map};
 
 use crate::modals::{group_count, modals_at};
@@ -53,7 +54,7 @@ fn push_atom(readers: &mut Vec<List<Reader>>, atom: usize, reader: Reader) -> Re
 
 /// The operator reads the atoms of the form.
 #[cycle(atoms)]
-#[tactic(auto, using(crate::proofs::AtomLists::atoms_of_laws))]
+#[tactic(auto, using(p3_formula::proofs::AtomLists::atoms_of_laws))]
 fn push_form(readers: &mut Vec<List<Reader>>, form: &Form, reader: Reader) -> Result<(), NoMemory>
     ensures { OnOk result
         (readers.new.items ≡ filed_all reader readers.old.items (atoms_of form.now)) }

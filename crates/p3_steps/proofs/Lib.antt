@@ -1,1 +1,9 @@
+pub mod CandidateLemmas
+pub mod ConjunctLemmas
+pub mod CostLaws
+pub mod CostLemmas
+pub mod LinkLemmas
+pub mod MarkLemmas
+pub mod PossibleLaws
+pub mod PossibleLemmas
 pub mod StepLemmas

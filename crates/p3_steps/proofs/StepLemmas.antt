@@ -17,8 +17,8 @@ use Rattle.p3_numbers.specs.declared.goal.Goal.{Goal}
 use Rattle.p3_numbers.specs.declared.numbers.Numbers.{Numbers}
 use Rattle.p3_numbers.specs.declared.task.NumberedAction.{NumberedAction}
 use Rattle.p3_numbers.specs.declared.task.NumberedTask.{NumberedTask}
-use Rattle.p3_candidates.specs.Candidates.{candidates_of}
-use Rattle.p3_costs.specs.Costs.{cost_of}
+use Rattle.p3_steps.specs.Candidates.{candidates_of}
+use Rattle.p3_steps.specs.Costs.{cost_of}
 use Rattle.p3_expansion.specs.Atoms.{GroundAtom, Keeps}
 use Rattle.p3_expansion.specs.Changes.{ChangesStand, MakesChanges, always, effect_atoms, guarded_literals}
 use Rattle.p3_expansion.specs.Expansions.{Stands}

@@ -9,8 +9,8 @@ use Rattle.p3_numbers.specs.Slots.{Slots}
 use Rattle.p3_numbers.specs.declared.numbers.Numbers.{Numbers}
 use Rattle.p3_numbers.specs.declared.task.NumberedAction.{NumberedAction}
 use Rattle.p3_numbers.specs.declared.task.NumberedTask.{NumberedTask}
-use Rattle.p3_candidates.specs.Candidates.{candidates_of}
-use Rattle.p3_costs.specs.Costs.{cost_of}
+use Rattle.p3_steps.specs.Candidates.{candidates_of}
+use Rattle.p3_steps.specs.Costs.{cost_of}
 use Rattle.p3_expansion.specs.Atoms.{GroundAtom}
 use Rattle.p3_expansion.specs.Changes.{ChangesStand, always, effect_atoms, guarded_literals}
 use Rattle.p3_expansion.specs.Expansions.{Grows, Stands}

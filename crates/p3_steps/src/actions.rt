@@ -13,8 +13,8 @@ ghost use Rattle.p3_steps.specs.Steps.{
 
 use crate::made::step_at;
 use p3_base::{List, NoMemory};
-use p3_candidates::candidates;
-use p3_costs::Costs;
+use crate::choices::candidates;
+use crate::costs::Costs;
 use p3_expansion::{Statics, Work, choice_count, place_choice};
 use p3_formula::GroundStep;
 use p3_numbers::{NumberedAction, NumberedTask};

@@ -31,6 +31,7 @@ pub mod Refusals
 pub mod Reports
 pub mod Samples
 pub mod Sides
+pub mod Slots
 pub mod States
 pub mod Static
 pub mod StepNumbers

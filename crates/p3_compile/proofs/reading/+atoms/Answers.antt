@@ -1,7 +1,8 @@
 use Rattle.std.proofs.Common.{◌∙◌, ◌++◌, map, sym, ap}
 use Rattle.std.proofs.lemmas.List.{append-nil}
-use Rattle.p3_compile.specs.Readers.{atoms_of, reader}
-use Rattle.p3_compile.proofs.AtomLists.{atoms_of-True, atoms_of-False}
+use Rattle.p3_formula.specs.AtomLists.{atoms_of}
+use Rattle.p3_compile.specs.Readers.{reader}
+use Rattle.p3_formula.proofs.AtomLists.{atoms_of-True, atoms_of-False}
 use Rattle.p3_compile.proofs.reading.+atoms.Goals as goal
 
 pub push_form-returns-in-True : goal.push_form-returns-in-True

@@ -1,6 +1,7 @@
 use Rattle.std.proofs.Common.{◌≡◌, ◌++◌, map, take}
 use Rattle.std.specs.List.{flat_map}
-use Rattle.p3_compile.specs.Readers.{atoms_of, reader}
+use Rattle.p3_formula.specs.AtomLists.{atoms_of}
+use Rattle.p3_compile.specs.Readers.{reader}
 use Rattle.p3_compile.proofs.reading.+atoms.Given as goal
 
 -- the atoms of the forms passed are read

@@ -1,6 +1,7 @@
 use Rattle.std.proofs.Common.{◌≡◌, take}
 use Rattle.std.specs.List.{flat_map}
-use Rattle.p3_run.specs.Readers.{atoms_of, filed_all}
+use Rattle.p3_formula.specs.AtomLists.{atoms_of}
+use Rattle.p3_run.specs.Readers.{filed_all}
 use Rattle.p3_run.proofs.readers.+atoms.Given as goal
 
 -- the atoms of the forms passed are read

@@ -4,7 +4,8 @@ use Rattle.p3_formula.specs.declared.form.Form.TheVariants.{True}
 use Rattle.p3_formula.specs.declared.modal.GroundModal.{GroundModal}
 use Rattle.p3_formula.specs.declared.modal.GroundModal.TheVariants.{AtEnd}
 use Rattle.p3_run.specs.Groups.{modal_at, modals_at, IsReader}
-use Rattle.p3_run.specs.Readers.{modal_atoms, filed_all, AreFiledTo}
+use Rattle.p3_formula.specs.AtomLists.{modal_atoms}
+use Rattle.p3_run.specs.Readers.{filed_all, AreFiledTo}
 use Rattle.p3_run.specs.declared.readers.Reader.{Reader}
 use Rattle.p3_run.proofs.ReaderLaws.{filed_one}
 use Rattle.p3_run.proofs.readers.push_group.Goals as goal

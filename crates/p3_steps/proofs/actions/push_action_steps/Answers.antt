@@ -1,10 +1,10 @@
 use Rattle.std.proofs.Common.{◌≡◌, ◌∙◌, ◌<◌, arith, refl, sym, ap, subst}
 use Rattle.std.specs.List.{All}
 use Rattle.p3_numbers.specs.Choices.{choice_count}
-use Rattle.p3_candidates.specs.Candidates.{candidates_of}
+use Rattle.p3_steps.specs.Candidates.{candidates_of}
 use Rattle.p3_expansion.proofs.WalkLemmas.{pushes-none}
 use Rattle.p3_steps.specs.Steps.{StepsAreMade}
-use Rattle.p3_candidates.proofs.CandidateLemmas.{candidates-below}
+use Rattle.p3_steps.proofs.CandidateLemmas.{candidates-below}
 use Rattle.p3_steps.proofs.StepLemmas.{steps-more, steps-all}
 use Rattle.p3_steps.proofs.actions.push_action_steps.Goals as goal
 

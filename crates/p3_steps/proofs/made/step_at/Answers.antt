@@ -1,6 +1,6 @@
 use Rattle.std.proofs.Common.{◌∙◌, refl, subst}
 use Rattle.p3_numbers.specs.Goals.{preferences}
-use Rattle.p3_costs.specs.Costs.{cost_of}
+use Rattle.p3_steps.specs.Costs.{cost_of}
 use Rattle.p3_expansion.specs.Preferences.{PreferencesStand, preference_atoms}
 use Rattle.p3_expansion.specs.Walks.{Pushes}
 use Rattle.p3_steps.specs.Steps.{planned_step}

@@ -1,8 +1,0 @@
-use Rattle.std.proofs.Common.{◌≡◌, drop}
-use Rattle.p3_candidates.specs.Conjuncts.{all_may}
-use Rattle.p3_candidates.proofs.conjuncts.Test.may_begin.Given as goal
-
--- the conditions that are left decide
-abbrev pub invariant-loop-condition : goal.invariant-loop-condition
-invariant-loop-condition l =
-    all_may l.self.numbers.now l.self.statics.now l.slots (drop l.condition-index l.self.conjuncts.items) ≡ all_may l.self.numbers.now l.self.statics.now l.slots l.self.conjuncts.items

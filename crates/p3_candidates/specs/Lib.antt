@@ -1,4 +1,0 @@
-pub mod Candidates
-pub mod Conjuncts
-pub mod Links
-pub mod Possible

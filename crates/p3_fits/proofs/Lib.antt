@@ -1,4 +1,0 @@
-pub mod ByNameLemmas
-pub mod FitLemmas
-pub mod NumberLemmas
-pub mod FoundLemmas

@@ -1,7 +1,0 @@
-use Rattle.p3_judge.proofs.JudgeLemmas.{goes_on}
-use Rattle.p3_judge.proofs.judge.step_fault.Goals as goal
-
-pub returns-clause-goes : goal.returns-clause-goes
-returns-clause-goes c =
-    goes_on c.args.checked.now.task c.args.run.now c.follow.new.self c.args.text.now c.find_text.result c.follow.result c.requires.of.together c.find_text.ensures c.follow.ensures.told
-    c.follow.ensures.ran

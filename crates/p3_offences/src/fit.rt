@@ -1,0 +1,100 @@
+//! What fits a list of types.
+
+ghost use Rattle.std.specs.Prelude.{◌≡◌, [], map, flat_map, IfOk, OnOk};
+ghost use Rattle.std.specs.List.{list_all};
+ghost use Rattle.p3_tree.specs.Types.{declared_objects, type_names, is_below_some};
+ghost use Rattle.p3_names.specs.Names.{Adds};
+ghost use Rattle.p3_offences.specs.ByName.{repeated_items};
+ghost use Rattle.p3_offences.specs.Fitting.{HasFitting, name_where_fit, found_fits};
+
+use crate::by_name::ByName;
+use p3_base::{Name, NoMemory};
+use p3_names::{Below, Kinds, Names};
+use p3_tree::{Ref, Typed};
+use std::alloc::Global;
+
+/// What fits a list of types.
+#[derive(Drop)]
+pub(crate) struct Fit<'t> {
+    below: Below<'t>,
+    /// The objects that are declared more than once, where one of the declarations fits.
+    repeated: Names,
+    ghost told: { HasFitting below.task.now below.types.now repeated },
+}
+
+/// The name of a declaration is added where it fits.
+#[tactic(auto, using(p3_names::proofs::NameLemmas::adds_laws))]
+fn add_fitting(
+    alloc: Global,
+    names: &mut Names,
+    below: &Below,
+    item: &Typed,
+) -> Result<(), NoMemory>
+    ensures { OnOk result (Adds names.old
+        (name_where_fit below.now.task.now below.now.types.now item.now)
+        names.new) }
+{
+    if below.has_some(item.types.items()) {
+        names.add(alloc, &item.name.name)?;
+    }
+    Ok(())
+}
+
+/// The names of the declarations that fit.
+#[tactic(auto, using(p3_names::proofs::NameLemmas::adds_laws))]
+fn fitting(alloc: Global, below: &Below, items: &[&Typed]) -> Result<Names, NoMemory>
+    ensures { IfOk result (λ names. Adds []
+        (flat_map
+        (λ item. name_where_fit below.now.task.now below.now.types.now item.now)
+        items.now)
+        names) }
+{
+    let mut names = Names::new(alloc);
+    for item in items {
+        add_fitting(alloc, &mut names, below, item)?;
+    }
+    Ok(names)
+}
+
+impl<'t> Fit<'t> {
+    /// What fits the list; these are the declarations of repeated names.
+    pub(crate) fn of(
+        alloc: Global,
+        kinds: &Kinds<'t>,
+        repeated: &[&'t Typed],
+        types: &'t [Ref],
+    ) -> Result<Fit<'t>, NoMemory>
+        requires { map (λ item. item.now) repeated.now
+            ≡ repeated_items (declared_objects kinds.now.task.now) }
+        ensures task { IfOk result (λ fit. fit.below.task.now ≡ kinds.now.task.now) }
+        ensures types { IfOk result (λ fit. fit.below.types.now ≡ types.now) }
+    {
+        let below = kinds.below_some(alloc, types)?;
+        let repeated = fitting(alloc, &below, repeated)?;
+        Ok(Fit { below, repeated })
+    }
+
+    /// Whether an object fits.
+    pub(crate) fn has_object(&self, declared: &ByName, name: &Name) -> bool
+        ensures { result ≡ found_fits
+            self.now.below.task.now
+            self.now.below.types.now
+            (declared_objects declared.now.task.now)
+            self.now.repeated
+            name.now }
+    {
+        if declared.is_repeated(name) {
+            return self.repeated.has(name.bytes());
+        }
+        declared.has_fitting(&self.below, name)
+    }
+
+    /// Whether each of a variable's types is below one of the listed ones.
+    pub(crate) fn has_variable(&self, variable: &Typed) -> bool
+        ensures { result ≡ list_all
+            (is_below_some self.now.below.task.now self.now.below.types.now)
+            (type_names variable.now.types) }
+    {
+        self.below.has_each(variable.types.items())
+    }
+}

@@ -1,0 +1,260 @@
+//! The choices of an action's arguments that may begin.
+
+ghost use Rattle.std.specs.Prelude.{◌≡◌, ◌<◌, ◌≤◌, ◌*◌, ◌+◌, ◌++◌, [], ◌∷◌, All, drop, flat_map, length, take, IfOk, IfSome, OnOk};
+ghost use Rattle.p3_numbers.specs.Choices.{choice_count as count_of};
+ghost use Rattle.p3_steps.specs.Candidates.{
+  Marks,
+  RulesUnmarked,
+  all_taken,
+  candidates_of,
+  is_unmarked as unmarked,
+  taken_behind,
+};
+ghost use Rattle.p3_steps.specs.Links.{Tells};
+ghost use Rattle.p3_steps.specs.Possible.{may_begin};
+
+use crate::conjuncts::Test;
+use crate::links::{Links, all_links, shortest_row};
+use p3_base::NoMemory;
+use p3_expansion::{Statics, choice_count, objects_of, place_choice};
+use p3_formula::Bits;
+use p3_numbers::{Goal, Numbers};
+use std::alloc::Global;
+
+/// Marks the objects that have names.
+fn mark(marks: &mut Bits, row: &[u32])
+    ensures { Marks row.now marks.old marks.new }
+{
+    for object in row {
+        if (*object as usize) < marks.count() {
+            marks.set(*object as usize, true);
+        }
+    }
+}
+
+/// Takes the marks from the objects.
+fn unmark(marks: &mut Bits, row: &[u32])
+    ensures { length marks.new ≡ length marks.old }
+{
+    for object in row {
+        if (*object as usize) < marks.count() {
+            marks.set(*object as usize, false);
+        }
+    }
+}
+
+/// Whether the object has a name, and is not marked.
+fn is_unmarked(marks: &Bits, object: u32) -> bool
+    ensures { result ≡ unmarked marks.now object }
+{
+    let place = object as usize;
+    if place >= marks.count() {
+        return false;
+    }
+    !marks.get(place)
+}
+
+/// Whether the precondition may begin where the object comes behind those in the slots.
+fn may_take(
+    test: &Test,
+    words: &mut Vec<u32>,
+    slots: &mut Vec<u32>,
+    marks: Option<&Bits>,
+    object: u32,
+) -> Result<bool, NoMemory>
+    requires { IfSome marks (λ those. RulesUnmarked test.now.numbers.now test.now.statics.now
+        test.now.goal.now slots.old.items those.now) }
+    ensures slots { OnOk result (slots.new.items ≡ slots.old.items) }
+    ensures may { IfOk result (λ may. may ≡ may_begin test.now.numbers.now
+        test.now.statics.now (slots.old.items ++ object ∷ []) test.now.goal.now) }
+{
+    if let Some(those) = marks {
+        if is_unmarked(those, object) {
+            return Ok(false);
+        }
+    }
+    let size = slots.len();
+    slots.push(object)?;
+    let may = test.may_begin(words, slots.as_slice())?;
+    slots.truncate(size);
+    Ok(may)
+}
+
+/// Puts the numbers of the objects that may come behind those in the slots, on from the first
+/// number, behind those taken.
+fn push_taken(
+    test: &Test,
+    words: &mut Vec<u32>,
+    slots: &mut Vec<u32>,
+    marks: Option<&Bits>,
+    objects: &[u32],
+    first: usize,
+    taken: &mut Vec<u32>,
+) -> Result<(), NoMemory>
+    requires few { first + length objects.now ≤ 20000000 }
+    requires rules { IfSome marks (λ those. RulesUnmarked test.now.numbers.now
+        test.now.statics.now test.now.goal.now slots.old.items those.now) }
+    ensures { OnOk result (taken.new.items ≡ taken.old.items ++ all_taken
+        test.now.numbers.now test.now.statics.now test.now.goal.now slots.old.items
+        objects.now first) }
+{
+    for place in 0..objects.len() {
+        if may_take(test, words, slots, marks, objects[place])? {
+            taken.push((first + place) as u32)?;
+        }
+    }
+    Ok(())
+}
+
+/// Puts the numbers of the objects that may come behind those in the slots, on from the first
+/// number, behind those taken. Where facts tell of them, the others are left out untested.
+fn push_behind(
+    test: &Test,
+    links: &[Links],
+    words: &mut Vec<u32>,
+    slots: &mut Vec<u32>,
+    marks: &mut Bits,
+    objects: &[u32],
+    first: usize,
+    taken: &mut Vec<u32>,
+) -> Result<(), NoMemory>
+    requires few { first + length objects.now ≤ 20000000 }
+    requires marks { length marks.old ≡ length test.now.numbers.now.objects }
+    requires links { All (Tells test.now.numbers.now test.now.statics.now test.now.goal.now
+        (length slots.old.items)) links.now }
+    ensures marks { OnOk result (length marks.new ≡ length marks.old) }
+    ensures taken { OnOk result (taken.new.items ≡ taken.old.items ++ all_taken
+        test.now.numbers.now test.now.statics.now test.now.goal.now slots.old.items
+        objects.now first) }
+{
+    match shortest_row(links, test, words, slots.as_slice())? {
+        None => push_taken(test, words, slots, None, objects, first, taken),
+        Some(row) => {
+            mark(marks, row);
+            push_taken(test, words, slots, Some(marks), objects, first, taken)?;
+            unmark(marks, row);
+            Ok(())
+        }
+    }
+}
+
+/// What the facts tell of the variable behind the first so many, if that is less work than so many
+/// tests.
+fn useful_links<'t>(
+    alloc: Global,
+    test: &Test<'t>,
+    count: usize,
+    tests: usize,
+) -> Result<Vec<Links<'t>>, NoMemory>
+    ensures { IfOk result (λ links. All
+        (Tells test.now.numbers.now test.now.statics.now test.now.goal.now count) links.items) }
+{
+    if tests < test.statics.facts.len() {
+        return Ok(Vec::new(alloc));
+    }
+    all_links(alloc, test, count)
+}
+
+/// The choices of one range more, behind each of those kept, at which the precondition may begin.
+fn widened(
+    alloc: Global,
+    test: &Test,
+    before: &[u32],
+    count: usize,
+    objects: &[u32],
+    kept: &[u32],
+) -> Result<Vec<u32>, NoMemory>
+    requires count { count ≡ count_of test.now.numbers.now before.now }
+    requires few { count * length objects.now ≤ 20000000 }
+    requires within { All (λ number. number < count) kept.now }
+    ensures { IfOk result (λ wider. wider.items ≡ flat_map (taken_behind test.now.numbers.now
+        test.now.statics.now test.now.goal.now before.now objects.now) kept.now) }
+{
+    let tests = kept.len().saturating_mul(objects.len());
+    let links = useful_links(alloc, test, before.len(), tests)?;
+    let mut marks = Bits::new(alloc, test.numbers.objects.len())?;
+    let mut words = Vec::new(alloc);
+    let mut slots = Vec::new(alloc);
+    let mut wider = Vec::new(alloc);
+    for choice in kept {
+        let number = *choice as usize;
+        place_choice(&mut slots, 0, test.numbers, before, count, number)?;
+        push_behind(
+            test,
+            links.as_slice(),
+            &mut words,
+            &mut slots,
+            &mut marks,
+            objects,
+            number * objects.len(),
+            &mut wider,
+        )?;
+    }
+    Ok(wider)
+}
+
+/// The place of the first range, on from a place, that has not just one object, or of the last.
+fn next_wide(numbers: &Numbers, ranges: &[u32], place: usize) -> usize
+    requires { place < length ranges.now }
+    ensures within { result < length ranges.now }
+    ensures on { place ≤ result }
+    ensures ones { count_of numbers.now (drop place (take result ranges.now)) ≡ 1 }
+{
+    let mut last = place;
+    while last + 1 < ranges.len() && objects_of(numbers, ranges[last]).len() == 1 {
+        last += 1;
+    }
+    last
+}
+
+/// The choices of no object at which a precondition may begin: the one that there is, or none.
+fn first_kept(alloc: Global, test: &Test) -> Result<Vec<u32>, NoMemory>
+    ensures { IfOk result (λ kept. kept.items
+        ≡ candidates_of test.now.numbers.now test.now.statics.now [] test.now.goal.now) }
+{
+    let mut words = Vec::new(alloc);
+    let slots = Vec::new(alloc);
+    let mut kept = Vec::new(alloc);
+    if test.may_begin(&mut words, slots.as_slice())? {
+        kept.push(0)?;
+    }
+    Ok(kept)
+}
+
+/// The numbers of the choices of one object of each range at which a precondition's hard part may
+/// hold in some state that keeps what no step changes, rising. A range is added after another, to
+/// those choices alone that are not ruled out before; ranges of one object go with the next one.
+pub(crate) fn candidates(
+    alloc: Global,
+    numbers: &Numbers,
+    statics: &Statics,
+    ranges: &[u32],
+    goal: &Goal,
+) -> Result<Vec<u32>, NoMemory>
+    requires { count_of numbers.now ranges.now ≤ 20000000 }
+    ensures { IfOk result (λ kept. kept.items
+        ≡ candidates_of numbers.now statics.now ranges.now goal.now) }
+{
+    if choice_count(numbers, ranges)? == 0 {
+        return Ok(Vec::new(alloc));
+    }
+    let test = Test::of(alloc, numbers, statics, goal)?;
+    let mut kept = first_kept(alloc, &test)?;
+    let mut count = 1;
+    let mut place = 0;
+    while place < ranges.len() {
+        let last = next_wide(numbers, ranges, place);
+        let objects = objects_of(numbers, ranges[last]);
+        kept = widened(
+            alloc,
+            &test,
+            &ranges[..last],
+            count,
+            objects,
+            kept.as_slice(),
+        )?;
+        count *= objects.len();
+        place = last + 1;
+    }
+    Ok(kept)
+}

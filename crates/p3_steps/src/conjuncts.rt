@@ -1,0 +1,128 @@
+//! The conditions that `and` alone joins in a precondition, and whether all of them may hold.
+
+ghost use Rattle.std.specs.Prelude.{◌≡◌, IfOk, OnOk};
+ghost use Rattle.p3_steps.specs.Conjuncts.{AreConjuncts, Joins, JoinsAll, JoinsAllGoals, JoinsGoal};
+ghost use Rattle.p3_steps.specs.Possible.{may_begin};
+
+use crate::possible::condition_may;
+use p3_base::NoMemory;
+use p3_expansion::Statics;
+use p3_numbers::{Condition, Goal, Numbers};
+use std::alloc::Global;
+
+/// Puts the conditions that `and` alone joins in a condition behind those found.
+#[cycle(conditions)]
+#[tactic(auto, using(crate::proofs::PossibleLemmas::condition_laws))]
+fn push_joined<'t>(found: &mut Vec<&'t Condition>, condition: &'t Condition) -> Result<(), NoMemory>
+    ensures { OnOk result (Joins condition.now found.old.items found.new.items) }
+{
+    match condition {
+        Condition::And(parts) => {
+            push_all_joined(found, parts.items())?;
+            Ok(())
+        }
+        _ => {
+            found.push(condition)?;
+            Ok(())
+        }
+    }
+}
+
+/// Puts the conditions that `and` alone joins in each of the parts behind those found.
+#[cycle(conditions)]
+fn push_all_joined<'t>(
+    found: &mut Vec<&'t Condition>,
+    parts: &'t [Condition],
+) -> Result<(), NoMemory>
+    ensures { OnOk result (JoinsAll parts.now found.old.items found.new.items) }
+{
+    for part in parts {
+        push_joined(found, part)?;
+    }
+    Ok(())
+}
+
+/// Puts the conditions that `and` alone joins in a precondition behind those found.
+#[cycle(goals)]
+#[tactic(auto, using(crate::proofs::PossibleLemmas::goal_laws))]
+fn push_conjuncts<'t>(found: &mut Vec<&'t Condition>, goal: &'t Goal) -> Result<(), NoMemory>
+    ensures { OnOk result (JoinsGoal goal.now found.old.items found.new.items) }
+{
+    match goal {
+        Goal::Plain(condition) => {
+            push_joined(found, condition)?;
+            Ok(())
+        }
+        Goal::Both(parts) => {
+            push_all_conjuncts(found, parts.items())?;
+            Ok(())
+        }
+        Goal::Each(_, _) => Ok(()),
+        Goal::Soft(_) => Ok(()),
+    }
+}
+
+/// Puts the conditions that `and` alone joins in each of the parts behind those found.
+#[cycle(goals)]
+fn push_all_conjuncts<'t>(found: &mut Vec<&'t Condition>, parts: &'t [Goal]) -> Result<(), NoMemory>
+    ensures { OnOk result (JoinsAllGoals parts.now found.old.items found.new.items) }
+{
+    for part in parts {
+        push_conjuncts(found, part)?;
+    }
+    Ok(())
+}
+
+/// The conditions that `and` alone joins in a precondition.
+fn conjuncts_of<'t>(alloc: Global, goal: &'t Goal) -> Result<Vec<&'t Condition>, NoMemory>
+    ensures { IfOk result (λ conjuncts. AreConjuncts goal.now conjuncts.items) }
+{
+    let mut conjuncts = Vec::new(alloc);
+    push_conjuncts(&mut conjuncts, goal)?;
+    Ok(conjuncts)
+}
+
+/// A precondition as the conditions that `and` alone joins in it, and what it is tested by.
+#[derive(Drop)]
+pub(crate) struct Test<'t> {
+    pub(crate) numbers: &'t Numbers,
+    pub(crate) statics: &'t Statics,
+    pub(crate) goal: &'t Goal,
+    pub(crate) conjuncts: Vec<&'t Condition>,
+    ghost are: { ∥ AreConjuncts goal.now conjuncts.items ∥₁ },
+}
+
+impl<'t> Test<'t> {
+    /// The test of a precondition.
+    pub(crate) fn of(
+        alloc: Global,
+        numbers: &'t Numbers,
+        statics: &'t Statics,
+        goal: &'t Goal,
+    ) -> Result<Test<'t>, NoMemory>
+        ensures numbers { IfOk result (λ test. test.numbers.now ≡ numbers.now) }
+        ensures statics { IfOk result (λ test. test.statics.now ≡ statics.now) }
+        ensures goal { IfOk result (λ test. test.goal.now ≡ goal.now) }
+    {
+        let conjuncts = conjuncts_of(alloc, goal)?;
+        Ok(Test {
+            numbers,
+            statics,
+            goal,
+            conjuncts,
+        })
+    }
+
+    /// Whether the precondition may begin where the first objects are those in the slots.
+    pub(crate) fn may_begin(&self, words: &mut Vec<u32>, slots: &[u32]) -> Result<bool, NoMemory>
+        ensures { IfOk result (λ may. may
+            ≡ may_begin self.now.numbers.now self.now.statics.now slots.now self.now.goal.now) }
+    {
+        for condition in self.conjuncts.as_slice() {
+            if !condition_may(self.numbers, self.statics, words, slots, condition, true)? {
+                return Ok(false);
+            }
+        }
+        Ok(true)
+    }
+}
