@@ -91,9 +91,12 @@ abbrev pub is_file_word : Word → Bool
 is_file_word [] = false
 is_file_word (byte ∷ bytes) = true
 
+abbrev pub names_of : Command → List Word
+names_of command = map (λ (input : Input). input.name) (inputs command) ++ map (λ (out : Output). out.name) (outputs command)
+
 -- all names are words that can name a file, and no two outputs have the same name
 abbrev pub has_file_words : Command → Bool
-has_file_words command = list_all is_file_word (command.reads ++ command.writes) && are_different command.writes
+has_file_words command = list_all is_file_word (names_of command) && are_different (map (λ (out : Output). out.name) (outputs command))
 
 -- a decimal number from 1 to 200 without superfluous zeros
 abbrev pub sample_number : Word → Option ℕ
