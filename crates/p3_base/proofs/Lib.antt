@@ -1,4 +1,5 @@
 pub mod CopyLemmas
+pub mod CountedLemmas
 pub mod NameLemmas
 pub mod ShelfLemmas
 pub mod TakenLemmas

@@ -1,6 +1,6 @@
-//! The steps of which names are those of copies, and the numbers in names.
+//! The steps to which actions belong by their names, and the numbers in names.
 #![tactic(auto)]
 
 mod copied;
 
-pub use copied::{copied_step, number_of};
+pub use copied::{copied_step, number_of, owning_step};
