@@ -1,5 +1,6 @@
 pub mod CopiedLaws
 pub mod CopyLemmas
+pub mod CountedLemmas
 pub mod NameLemmas
 pub mod ShelfLemmas
 pub mod TakenLemmas

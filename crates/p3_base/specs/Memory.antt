@@ -88,3 +88,8 @@ pub record FaultCounts : Type 0 where
 
 abbrev pub counts_code : Coded FaultCounts
 counts_code = code_by (ℕ × ℕ) (coded× coded_ℕ coded_ℕ) (λ c. (c.reads, c.writes)) (λ p. record { reads = p.0; writes = p.1 }) (λ _. refl)
+
+-- how often they failed after a write: each answer but success is a fault of a write
+abbrev pub after_counted_write : Result (Unit {0}) WriteFault → FaultCounts → FaultCounts
+after_counted_write (Ok done) counts = counts
+after_counted_write (Err fault) counts = record counts { writes = one_more counts.writes }

@@ -51,8 +51,8 @@ pub trait Files {
             → Rose (seen self.old).write_faults (seen self.new).write_faults }
         ensures partly { IsErrOf result WriteFault.Failed
             → IsPartlyWritten name.now bytes.now (seen self.old).held (seen self.new).held }
-        ensures no_memory { IsErrOf result WriteFault.NoMemory
-            → (seen self.new).held ≡ (seen self.old).held }
+        // Nothing that is seen has changed: neither what is held nor how often a call has failed.
+        ensures no_memory { IsErrOf result WriteFault.NoMemory → seen self.new ≡ seen self.old }
         ensures sure_stays { (seen self.new).is_sure ≡ (seen self.old).is_sure }
         ensures read_faults_grow { (seen self.old).read_faults ≤ (seen self.new).read_faults }
         ensures write_faults_grow { (seen self.old).write_faults ≤ (seen self.new).write_faults };

@@ -20,7 +20,7 @@ mod sink;
 mod sure;
 
 pub use boxed::Boxed;
-pub use copied::{copied_step, number_of};
+pub use copied::{copied_step, number_of, owning_step};
 pub use error::{NoMemory, ReadFault, SinkFailed, WriteFault};
 pub use files::Files;
 pub use list::List;

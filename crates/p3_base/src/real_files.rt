@@ -45,6 +45,8 @@ impl<'r, R: rt::Files> RealFiles<'r, R> {
 }
 
 impl<'r, R: rt::Files> Files for RealFiles<'r, R> {
+    ghost use Rattle.p3_base.specs.Memory.{after_counted_write};
+
     ghost seen = { λ files. record {
       held = None;
       is_sure = false;
@@ -67,7 +69,12 @@ impl<'r, R: rt::Files> Files for RealFiles<'r, R> {
         answer
     }
 
-    fn write(&mut self, alloc: Global, name: &Word, bytes: &[u8]) -> Result<(), WriteFault> {
+    /// Whatever the machine answers in place of writing all bytes is a fault.
+    fn write(&mut self, alloc: Global, name: &Word, bytes: &[u8]) -> Result<(), WriteFault>
+        ensures never_wants_memory { result ≢ Err WriteFault.NoMemory }
+        ensures state { self.new ≡ after_counted_write result self.old }
+        ensures writes_grow { self.old.writes ≤ self.new.writes }
+    {
         let answer = write_file(self.runtime, name.bytes(), bytes);
         if answer.is_err() {
             self.write_faults = self.write_faults.saturating_add(1);

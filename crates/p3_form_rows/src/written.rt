@@ -43,7 +43,12 @@ fn conditional(alloc: Global) -> Result<TargetAction, NoMemory>
         atom: 0,
         add: false,
     };
-    let effects = both_changes(alloc, deleted, Change::sets(1))?;
+    let added = Change {
+        cond: Form::True,
+        atom: 1,
+        add: true,
+    };
+    let effects = both_changes(alloc, deleted, added)?;
     let pre = Form::True;
     Ok(TargetAction {
         name,

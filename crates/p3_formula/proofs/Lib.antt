@@ -7,6 +7,8 @@ pub mod TidyLaws
 pub mod Worked
 pub mod NextLaws
 pub mod NameLaws
+pub mod NamedLaws
+pub mod SameLemmas
 pub mod LossLaws
 pub mod ReadAtoms
 pub mod WatchedLaws

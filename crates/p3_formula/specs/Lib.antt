@@ -11,6 +11,7 @@ pub mod Kept
 pub mod Weighted
 pub mod Targets
 pub mod Tidy
+pub mod Same
 pub mod Simplified
 pub mod Nodes
 pub mod Conditions

@@ -91,6 +91,14 @@ pub record IsNamed (X : Target) : Type 0 where
   pub different : IsTrue (are_different (X.predicates ++ action_names X))
   pub endings : IsTrue (list_all (λ name. not (ends_with_c_number name)) (action_names X))
 
+-- what of this its texts need: its names are names of the grammar, made of bytes of words; those of predicates differ from one another, and so do those of actions
+pub record IsWellNamed (X : Target) : Type 0 where
+  pub predicates : IsTrue (list_all is_predicate_name X.predicates)
+  pub actions : IsTrue (list_all is_name (action_names X))
+  pub spelled : IsTrue (list_all (list_all is_lowered) (X.predicates ++ action_names X))
+  pub predicates_differ : IsTrue (are_different X.predicates)
+  pub actions_differ : IsTrue (are_different (action_names X))
+
 -- the states that actions lead to from one on
 pub data Leads (X : Target) (from : State) : State → Type 0 where
   Here : Leads X from from
@@ -124,6 +132,12 @@ pub record HasOneOrigin (G : GroundTask) (X : Target) (p : GroundPlan) : Type 0 
   pub valid : TargetValid X origin
   pub lifts : ground_lift G origin ≡ p
   pub only : (q : TargetPlan) → TargetValid X q → ground_lift G q ≡ p → q ≡ origin
+
+-- its plans are those of the ground task one to one, at the same costs, and so much longer
+pub record Translates (G : GroundTask) (weights : Weights) (X : Target) : Type 0 where
+  pub sound : (q : TargetPlan) → TargetValid X q → IsSoundFor G weights X q
+  pub one_to_one : (p : GroundPlan) → GroundValid G p → HasOneOrigin G X p
+  pub length : (q : TargetPlan) → TargetValid X q → length q ≡ length (ground_lift G q) + 1 + length G.soft + ground_extra G weights (ground_lift G q)
 
 pub record Compiled (G : GroundTask) (weights : Weights) (X : Target) : Type 0 where
   pub sound : (q : TargetPlan) → TargetValid X q → IsSoundFor G weights X q

@@ -12,15 +12,15 @@ mod guards;
 mod laws;
 mod modal;
 mod node;
+mod same;
 mod simpler;
-mod stepping;
 mod table;
 mod target;
 mod task;
 
 pub use atoms::is_free_of;
 pub use bits::Bits;
-pub use copy::{change_copied, copied, effects_copied, fitted};
+pub use copy::{copied, effects_copied, fitted};
 pub use evaluation::eval;
 pub use form::{Change, Effects, Form};
 pub use guards::{guarded, turned};
@@ -29,8 +29,8 @@ pub use laws::{
 };
 pub use modal::{GroundModal, GroundPref, GroundSoft};
 pub use node::Node;
+pub use same::same_form;
 pub use simpler::{negate, simplify};
-pub use stepping::after;
 pub use table::Table;
 pub use target::{Target, TargetAction, Weights};
 pub use task::{GroundStep, GroundTask};
