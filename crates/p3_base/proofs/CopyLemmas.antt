@@ -1,12 +1,12 @@
 -- The number in the name of a copy.
-use Rattle.std.proofs.Common.{◌≡◌, ◌∙◌, ℕ, zero, suc, ◌<◌, ◌^◌, ◌%◌, ◌/◌, Bool, true, false, ◌&&◌, ◌||◌, ◌⊎◌, ⊎_elim, List, [], ◌∷◌, ◌++◌, refl, sym, ap, arith}
+use Rattle.std.proofs.Common.{◌≡◌, ◌∙◌, ℕ, zero, suc, ◌<◌, ◌^◌, ◌%◌, ◌/◌, Bool, true, false, ◌&&◌, ⊎_elim, List, [], ◌∷◌, ◌++◌, refl, sym, ap, arith}
 use Rattle.std.specs.Prelude.{◌==◌, if◌then◌else◌, codes}
 use Rattle.std.specs.List.{list_all, starts_with}
 use Rattle.std.specs.Fmt.{decimal, digits, digits_onto, digit_glyph}
 use Rattle.std.proofs.lemmas.Bool.{and_parts, or_cases, or_left, or_right}
 use Rattle.std.proofs.lemmas.Bool.Decides.{nat_tests}
 use Rattle.std.proofs.lemmas.Fmt.{decimal_injective}
-use Rattle.p3_base.specs.Copies.{IsNamedFor, IsQuestionOf, Answer, Copy, End, Question, copy_name, copy_prefix, is_action_of, is_copy_of, is_question_of, question_name}
+use Rattle.p3_base.specs.Copies.{IsNamedFor, IsQuestionOf, Answer, Copy, End, Question, copy_name, copy_prefix, is_action_of, is_copy_of, is_question_of}
 use Rattle.p3_base.specs.Words.{Name, is_digit}
 
 -- ---- decimal numbers are made of digits

@@ -1,5 +1,5 @@
 -- What a write of the machine's files is seen to do, by its answer.
-use Rattle.std.proofs.Common.{◌≡◌, ◌≢◌, ℕ, ◌+◌, ◌-◌, ◌^◌, ◌≤◌, ◌⊎◌, ⊎_elim, inl, inr, refl, ap, sym, subst, arith, Result, Ok, Err, Option, None}
+use Rattle.std.proofs.Common.{◌≡◌, ◌≢◌, ℕ, ◌-◌, ◌^◌, ◌≤◌, ⊎_elim, inl, inr, refl, ap, sym, subst, arith, Result, Ok, Err, Option, None}
 use Rattle.std.specs.Prelude.{OnOk, IsErrOf}
 use Rattle.std.proofs.lemmas.Bool.{cases_lt}
 use Rattle.p3_base.specs.Memory.{FaultCounts, after_counted_write, one_more}

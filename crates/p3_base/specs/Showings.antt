@@ -1,5 +1,5 @@
 -- Places of the list of visited states that show why an operator of trajectory constraints is satisfied or not (the PDDL3 report), over tests at the places. There are n places, counted from 0.
-use Rattle.std.specs.Prelude.{◌≡◌, ℕ, ◌-◌, ◌<◌, nat_le, nat_lt, Bool, true, false, not, ◌&&◌, find, if◌then◌else◌, unwrap_or}
+use Rattle.std.specs.Prelude.{ℕ, ◌-◌, nat_le, nat_lt, Bool, not, ◌&&◌, find, if◌then◌else◌, unwrap_or}
 use Rattle.std.specs.List.{range_with_len}
 use Rattle.p3_base.specs.Connectives.{◌implies◌}
 use Rattle.p3_base.specs.Trajectories as operator

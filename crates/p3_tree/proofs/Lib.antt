@@ -7,6 +7,7 @@ pub mod Erased
 pub mod FineUses
 pub mod FoldLemmas
 pub mod KnownLaws
+pub mod LineLaws
 pub mod LiteralLaws
 pub mod MeaningLemmas
 pub mod OffenceLemmas
@@ -20,6 +21,7 @@ pub mod PreferenceNameLaws
 pub mod ReadingLemmas
 pub mod RefusalLaws
 pub mod ShapeLemmas
+pub mod ShownLaws
 pub mod SpellingLemmas
 pub mod StateLemmas
 pub mod StaticLaws

@@ -30,6 +30,7 @@ pub mod PreferenceNames
 pub mod Refusals
 pub mod Reports
 pub mod Samples
+pub mod Shows
 pub mod Sides
 pub mod Slots
 pub mod States

@@ -1,5 +1,6 @@
 -- A plan that is followed line by line: its lines, the step that each has, and what is answered to it.
-use Rattle.std.specs.Prelude.{ℕ, ◌+◌, nat_lt, Bool, true, false, List, [], ◌∷◌, ◌++◌, filter_map, length, if◌then◌else◌, Option, Some, None}
+use Rattle.std.specs.Prelude.{◌≡◌, ℕ, ◌+◌, ◌≤◌, nat_lt, Bool, true, false, List, [], ◌∷◌, ◌++◌, filter_map, length, if◌then◌else◌, Option, Some, None}
+use Rattle.std.specs.List.{list_any}
 use Rattle.p3_base.specs.Place.{is_line_feed}
 use Rattle.p3_base.specs.declared.refusal.Code.TheVariants.{Malformed, TooManySteps}
 use Rattle.p3_base.specs.declared.refusal.Refusal.{Refusal}
@@ -34,6 +35,11 @@ lines_from at (byte ∷ bytes) = piece_before (is_line_feed byte) at byte (lines
 
 abbrev pub lines_of : List ℕ → List Piece
 lines_of text = lines_from 0 text
+
+-- no line feed stands in it, and it has at most so many bytes
+pub record IsLine (most : ℕ) (piece : Piece) : Type 0 where
+  pub one : list_any is_line_feed piece.bytes ≡ false
+  pub short : length piece.bytes ≤ most
 
 -- ---- the step of a line
 

@@ -1,6 +1,6 @@
 //! Laws of the definitions. Each is the contract of a function without a body.
 
-ghost use Rattle.std.specs.Prelude.{◌≡◌, ◌⊎◌, ◌↔◌, ◌&&◌, ◌||◌, not, ℕ, List, IsTrue};
+ghost use Rattle.std.specs.Prelude.{◌≡◌, ◌⊎◌, ◌↔◌, ◌&&◌, ◌||◌, ◌∷◌, [], not, ℕ, All, List, IsTrue, None, length};
 ghost use Rattle.p3_base.specs.declared.refusal.Refusal.{Refusal};
 ghost use Rattle.p3_base.specs.declared.refusal.Side.{Side};
 ghost use Rattle.p3_tree.specs.Refusals.First.{AreAccepted, Given, IsFirstRefusal, given_task};
@@ -22,6 +22,13 @@ ghost use Rattle.p3_tree.specs.Offences.{WellFormed};
 ghost use Rattle.p3_tree.specs.FirstOffence.{first_offence};
 ghost use Rattle.p3_tree.specs.Lifting.{lift};
 ghost use Rattle.p3_tree.specs.Faithful.{Faithful};
+ghost use Rattle.p3_tree.specs.Explanations.{shown};
+ghost use Rattle.p3_tree.specs.PlanTexts.{IsPlanText};
+ghost use Rattle.p3_tree.specs.Shows.{Shows};
+ghost use Rattle.p3_tree.specs.Tokens.{tokens_of};
+ghost use Rattle.p3_tree.specs.Watching.{IsLine, OneStep, lines_of, second_step, step_in};
+ghost use Rattle.p3_tree.specs.declared.constraint.Modal.{Modal};
+ghost use Rattle.p3_tree.specs.declared.task.Step.{Step};
 ghost use Rattle.p3_tree.specs.Laws.{Chain, IsCheapest, IsBest, StateCounts, TrajectoryCounts};
 ghost use Rattle.p3_tree.specs.Grammar.Texts.{Reads};
 ghost use Rattle.p3_tree.specs.Erased.{erased};
@@ -127,4 +134,22 @@ pub fn one_first_refusal()
 pub fn accepted_texts_are_not_refused()
     ensures { (side : Side) (d p : List ℕ) (T : Task) → AreAccepted side d p T
         → (r : Refusal) → IsFirstRefusal (given_task side d p) r → ⊥ }
+{}
+
+/// What is shown of an operator shows whether it is satisfied over the visited states.
+pub fn what_is_shown_shows()
+    ensures { (T : Task) (W : List State) (env : Environment) (modal : Modal)
+        → Shows T W env modal (shown T W env modal) }
+{}
+
+/// The pieces of a text have no line feed, and none is longer than the text.
+pub fn pieces_are_lines()
+    ensures { (text : List ℕ) → All (IsLine (length text)) (lines_of text) }
+{}
+
+/// A text of a plan with one step has that step alone.
+pub fn one_step_is_the_plan()
+    ensures { (text : List ℕ) (plan : Plan) (at : ℕ) (step : Step) → IsPlanText text plan
+        → second_step (tokens_of text).tokens ≡ None
+        → step_in (tokens_of text).tokens ≡ OneStep at step → plan ≡ step ∷ [] }
 {}

@@ -28,8 +28,9 @@ pub use groundwork::{
 };
 pub use laws::{
     accepted_texts_are_not_refused, atoms_of_the_next_state, below_is_the_closure, counts_by_place,
-    offsets_have_no_meaning, one_first_refusal, one_task_at_most, optima_are_kept,
-    places_of_a_metric_are_fixed, valid_where_no_fault, well_formed_where_no_offence, worked_cases,
+    offsets_have_no_meaning, one_first_refusal, one_step_is_the_plan, one_task_at_most,
+    optima_are_kept, pieces_are_lines, places_of_a_metric_are_fixed, valid_where_no_fault,
+    well_formed_where_no_offence, what_is_shown_shows, worked_cases,
 };
 pub use metric::{Metric, Num};
 pub use printed::{followed_cases, printed_cases, refused_cases};

@@ -9,7 +9,7 @@ use Rattle.p3_tree.specs.Worked.Trajectories.{switched, answered}
 use Rattle.p3_tree.specs.declared.task.Task.{Task}
 use Rattle.p3_tree.specs.Reports.Explanations.{explained_lines}
 use Rattle.p3_tree.specs.Reports.Watching.{watch_lines}
-use Rattle.p3_tree.specs.Watching.{Piece, lines_of}
+use Rattle.p3_tree.specs.Watching.{lines_of}
 
 abbrev pub Explains : Task → List String → List String → Type 0
 Explains T names lines = explained_lines T (bare_steps names) ≡ text_of lines
