@@ -152,6 +152,13 @@ impl<'a> GroundRun<'a> {
         }
     }
 
+    /// The state that they lead to.
+    pub fn state(&self) -> &Bits
+        ensures { result.now ≡ runs.ground_state self.now.task self.now.plan }
+    {
+        &self.state
+    }
+
     /// How many steps are done.
     pub fn steps(&self) -> u32
         ensures steps { result ≡ length self.now.plan }

@@ -34,7 +34,7 @@ use Rattle.p3_tree.specs.declared.task.Task.{Task}
 use Rattle.p3_formula.specs.Forms.{State, is_set, truth}
 use Rattle.p3_formula.proofs.NextLaws.{length-after}
 use Rattle.p3_formula.specs.Targets as target
-use Rattle.p3_formula.specs.Targets.{TargetPlan, reaches_goal, target_cost, IsSized, IsNamed, action_names, is_sized_action}
+use Rattle.p3_formula.specs.Targets.{TargetPlan, reaches_goal, target_cost, IsSized, IsWellNamed, is_sized_action}
 use Rattle.p3_formula.specs.declared.form.Change.{Change}
 use Rattle.p3_formula.specs.declared.form.Form.{Form}
 use Rattle.p3_formula.specs.declared.form.Form.TheVariants as form
@@ -62,19 +62,11 @@ has_where (other ∷ names) name (suc k) e = ap (λ t. same_name other name || t
     or_true true = refl
     or_true false = refl
 
-pub differ_once : (names more : List Name) → are_different (names ++ more) ≡ true → AreOnce names
-differ_once [] more differ = λ i j x e f. absurd (cc)
-differ_once (name ∷ names) more differ =
-    let h = and_parts (not (has_name (names ++ more) name)) _ differ in
-    once_behind name names (differ_once names more h.1) (λ i x e same. true≢false (sym h.0 ∙ ap not (longer names more name (has_where names name i (e ∙ ap Some (sym same))))))
-  where
-    longer : (names more : List Name) (name : Name) → has_name names name ≡ true → has_name (names ++ more) name ≡ true
-    longer [] more name h = absurd (true≢false (sym h))
-    longer (first ∷ names) more name h = by (same_name first name) (longer names more name) h
-      where
-        by : (t : Bool) → (has_name names name ≡ true → has_name (names ++ more) name ≡ true) → (t || has_name names name) ≡ true → (t || has_name (names ++ more) name) ≡ true
-        by true rest h = refl
-        by false rest h = rest h
+pub differ_once : (names : List Name) → are_different names ≡ true → AreOnce names
+differ_once [] differ = λ i j x e f. absurd (cc)
+differ_once (name ∷ names) differ =
+    let h = and_parts (not (has_name names name)) _ differ in
+    once_behind name names (differ_once names h.1) (λ i x e same. true≢false (sym h.0 ∙ ap not (has_where names name i (e ∙ ap Some (sym same)))))
 
 -- ---- the initial state
 
@@ -133,12 +125,12 @@ increases_are names changes cost = increases-All (map (change_of names) changes 
     by true = refl
     by false = refl
 
-module _ (X : Target) (sized : IsSized X) (named_well : IsNamed X) where
+module _ (X : Target) (sized : IsSized X) (named_well : IsWellNamed X) where
   abbrev U : Task
   U = task_of X
 
   P : AreOnce X.predicates
-  P = differ_once X.predicates (action_names X) named_well.different
+  P = differ_once X.predicates named_well.predicates_differ
 
   begins_same : IsSame X.predicates (start U) X.initial
   unfolding start task_of

@@ -27,7 +27,7 @@ use Rattle.p3_tree.specs.declared.task.Init.{Init}
 use Rattle.p3_tree.specs.declared.task.Task.{Task}
 use Rattle.p3_formula.specs.Folds.{fold_forms}
 use Rattle.p3_formula.specs.Forms.{has_atoms, within_layer}
-use Rattle.p3_formula.specs.Targets.{IsSized, IsNamed, action_names, is_sized_action}
+use Rattle.p3_formula.specs.Targets.{IsSized, IsWellNamed, is_sized_action}
 use Rattle.p3_formula.specs.declared.form.Change.{Change}
 use Rattle.p3_formula.specs.declared.form.Form.{Form, Row_of-Form, end_of-Form, more_of-Form}
 use Rattle.p3_formula.specs.declared.form.Form.TheVariants as form
@@ -258,21 +258,7 @@ words_once seen (w ∷ words) differ fresh =
     true≢false (sym (has_where (map (λ (w : Ref). w.name) words) w.name k (map_at (λ (w : Ref). w.name) words k other at ∙ ap Some (sym ((bytes_eq-Decides w.name other.name).0 e)))) ∙ not-true _ h.0)))
     (fresh (suc k) other at)) i)
 
-different_ahead : (first second : List Name) → are_different (first ++ second) ≡ true → are_different first ≡ true
-different_ahead [] second h = refl
-different_ahead (name ∷ first) second h =
-    let parts = and_parts (not (has_name (first ++ second) name)) _ h in
-    and_from _ _ (ap not (fewer first second name (not-true _ parts.0))) (different_ahead first second parts.1)
-  where
-    fewer : (first second : List Name) (name : Name) → has_name (first ++ second) name ≡ false → has_name first name ≡ false
-    fewer [] second name h = refl
-    fewer (x ∷ first) second name h = let parts = or_parts (same_name x name) _ h in or_from _ _ parts.0 (fewer first second name parts.1)
-
-different_behind : (first second : List Name) → are_different (first ++ second) ≡ true → are_different second ≡ true
-different_behind [] second h = h
-different_behind (name ∷ first) second h = different_behind first second (and_parts (not (has_name (first ++ second) name)) _ h).1
-
-module _ (X : Target) (sized : IsSized X) (named : IsNamed X) where
+module _ (X : Target) (sized : IsSized X) (named : IsWellNamed X) where
   abbrev U : Task
   U = task_of X
 
@@ -288,10 +274,10 @@ module _ (X : Target) (sized : IsSized X) (named : IsNamed X) where
   names_of_actions (action ∷ actions) = λ i. action.name ∷ names_of_actions actions i
 
   predicates_once : repeated (header_words top) ≡ []
-  predicates_once = words_once [] (header_words top) (ap are_different (header_names X.predicates) ∙ different_ahead X.predicates (action_names X) named.different) (λ k w at. refl)
+  predicates_once = words_once [] (header_words top) (ap are_different (header_names X.predicates) ∙ named.predicates_differ) (λ k w at. refl)
 
   actions_once : repeated (action_words (map (written.action_of X.predicates) X.actions)) ≡ []
-  actions_once = words_once [] (action_words (map (written.action_of X.predicates) X.actions)) (ap are_different (names_of_actions X.actions) ∙ different_behind X.predicates (action_names X) named.different) (λ k w at. refl)
+  actions_once = words_once [] (action_words (map (written.action_of X.predicates) X.actions)) (ap are_different (names_of_actions X.actions) ∙ named.actions_differ) (λ k w at. refl)
 
   domain_fine : AllFine top (domain_uses U.domain)
   unfolding domain_uses task_of

@@ -1,11 +1,11 @@
 //! Laws of the definitions. Each is the contract of a function without a body.
 
-ghost use Rattle.p3_formula.specs.Targets.{IsNamed, IsSized};
+ghost use Rattle.p3_formula.specs.Targets.{IsSized, IsWellNamed};
 ghost use Rattle.p3_formula.specs.declared.target.Target.{Target};
 ghost use Rattle.p3_writer.specs.Written.{IsWritten};
 
 /// The task that a target is is well-formed, plain, without variables and without a point in its
 /// numbers; its valid plans and their costs are those of the target.
 pub fn targets_are_their_tasks()
-    ensures { (X : Target) → IsSized X → IsNamed X → IsWritten X }
+    ensures { (X : Target) → IsSized X → IsWellNamed X → IsWritten X }
 {}
