@@ -1,0 +1,3 @@
+pub mod JoinedLemmas
+pub mod PutLemmas
+pub mod QuantityLemmas

@@ -1,0 +1,6 @@
+pub mod Faults
+pub mod Joined
+pub mod Parts
+pub mod Pieces
+pub mod Reports
+pub mod Zeros

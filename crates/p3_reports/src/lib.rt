@@ -1,0 +1,23 @@
+//! All lines that the program prints, put into a sink piece by piece. Nothing here takes memory.
+#![tactic(auto)]
+
+mod fault;
+mod outside;
+mod part;
+mod piece;
+mod quantity;
+mod refusal;
+mod report;
+mod words;
+
+pub use fault::{Fault, Misfit, put_fault, put_lifted_fault};
+pub use outside::{put_no_memory, put_read_fault, put_too_long, put_write_fault};
+pub use part::{NameCount, Part, put_part, put_parts};
+pub use piece::{Piece, put_pieces};
+pub use quantity::Quantity;
+pub use refusal::{put_not_plain, put_numbers_differ, put_refusal};
+pub use report::{
+    CompileReport, EmbedReport, EvaluateReport, GenerateReport, LiftReport, put_compile_report,
+    put_embed_report, put_evaluate_report, put_generate_report, put_lift_report,
+};
+pub use words::{code_words, direction_word, misfit_words, role_word};
