@@ -1,4 +1,5 @@
 pub mod Faults
+pub mod Found
 pub mod Joined
 pub mod Parts
 pub mod Pieces

@@ -11,7 +11,7 @@ mod report;
 mod words;
 
 pub use fault::{Fault, Misfit, put_fault, put_lifted_fault};
-pub use outside::{put_no_memory, put_read_fault, put_too_long, put_write_fault};
+pub use outside::{put_no_memory, put_read_fault, put_too_long, put_usage, put_write_fault};
 pub use part::{NameCount, Part, put_part, put_parts};
 pub use piece::{Piece, put_pieces};
 pub use quantity::Quantity;
