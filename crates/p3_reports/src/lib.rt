@@ -3,6 +3,7 @@
 
 mod fault;
 mod laws;
+mod line_buffer;
 mod outside;
 mod part;
 mod piece;

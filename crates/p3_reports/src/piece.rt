@@ -6,6 +6,7 @@ ghost use Rattle.p3_base.specs.Outside.{IsPartlyPut, IsPut, Rose};
 ghost use Rattle.p3_reports.specs.Pieces.{piece_text, pieces_text};
 
 use crate::fault::Misfit;
+use crate::line_buffer::LineBuffer;
 use crate::quantity::Quantity;
 use crate::words::{code_words, direction_word, misfit_words, role_word};
 use itoa::{Buffer, Integer};
@@ -34,8 +35,25 @@ pub enum Piece<'a> {
     Misfit(Misfit),
 }
 
-/// Puts pieces one behind another.
+/// Puts pieces one behind another. Where they have no more bytes than most lines, they are put at
+/// once.
 pub fn put_pieces<S: Sink>(pieces: &[Piece<'_>], out: &mut S) -> Result<(), SinkFailed>
+    ensures ok { OnOk result (IsPut (pieces_text pieces.now)
+        (S.seen out.old).written (S.seen out.new).written) }
+    ensures partly { OnErr result (IsPartlyPut (pieces_text pieces.now)
+        (S.seen out.old).written (S.seen out.new).written) }
+    ensures failed { OnErr result (Rose (S.seen out.old).faults (S.seen out.new).faults) }
+    ensures faults_grow { (S.seen out.old).faults ≤ (S.seen out.new).faults }
+{
+    let mut line = LineBuffer::new();
+    match put_each(pieces, &mut line) {
+        Ok(()) => out.put(line.bytes()),
+        Err(SinkFailed) => put_each(pieces, out),
+    }
+}
+
+/// Puts pieces, each by itself.
+fn put_each<S: Sink>(pieces: &[Piece<'_>], out: &mut S) -> Result<(), SinkFailed>
     ensures ok { OnOk result (IsPut (pieces_text pieces.now)
         (S.seen out.old).written (S.seen out.new).written) }
     ensures partly { OnErr result (IsPartlyPut (pieces_text pieces.now)

@@ -1,6 +1,6 @@
 use Rattle.p3_reports.specs.Pieces.{piece_text}
 use Rattle.p3_reports.proofs.PutLemmas.{all_joined, partly_joined, on_err}
-use Rattle.p3_reports.proofs.piece.put_pieces.Goals as goal
+use Rattle.p3_reports.proofs.piece.put_each.Goals as goal
 
 pub returns-in_err-put_piece-clause-partly : goal.returns-in_err-put_piece-clause-partly
 returns-in_err-put_piece-clause-partly g c =

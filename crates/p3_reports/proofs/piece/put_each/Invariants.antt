@@ -2,7 +2,7 @@ use Rattle.std.proofs.Common.{◌≤◌, take}
 use Rattle.std.specs.List.{flat_map}
 use Rattle.p3_base.specs.Outside.{IsPut}
 use Rattle.p3_reports.specs.Pieces.{piece_text}
-use Rattle.p3_reports.proofs.piece.put_pieces.Given as goal
+use Rattle.p3_reports.proofs.piece.put_each.Given as goal
 
 -- what comes before it is put
 abbrev pub invariant-loop-piece : goal.invariant-loop-piece
