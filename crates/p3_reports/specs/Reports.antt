@@ -10,6 +10,8 @@ use Rattle.p3_reports.specs.declared.report.EmbedReport.{EmbedReport}
 use Rattle.p3_reports.specs.declared.report.EvaluateReport.{EvaluateReport}
 use Rattle.p3_reports.specs.declared.report.GenerateReport.{GenerateReport}
 use Rattle.p3_reports.specs.declared.report.LiftReport.{LiftReport}
+use Rattle.p3_reports.specs.declared.report.Report.{Report}
+use Rattle.p3_reports.specs.declared.report.Report.TheVariants as report
 
 abbrev pub compile_text : CompileReport → List ℕ
 compile_text report =
@@ -47,3 +49,10 @@ generate_text report =
     ++ entry (codes "embedded") (decimal report.embedded)
     ++ entry (codes "cost") (signed_decimal report.cost)
     ++ entry (codes "metric") (quantity_text report.metric)
+
+abbrev pub report_text : Report → List ℕ
+report_text (report.Compile found) = compile_text found
+report_text (report.Embed found) = embed_text found
+report_text (report.Evaluate found) = evaluate_text found
+report_text (report.Lift found) = lift_text found
+report_text (report.Generate found) = generate_text found

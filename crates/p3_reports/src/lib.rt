@@ -7,6 +7,7 @@ mod line_buffer;
 mod outside;
 mod part;
 mod piece;
+mod placed;
 mod quantity;
 mod refusal;
 mod report;
@@ -19,10 +20,14 @@ pub use laws::reports_are_lines;
 pub use outside::{put_no_memory, put_read_fault, put_too_long, put_usage, put_write_fault};
 pub use part::{NameCount, Part, put_part, put_parts};
 pub use piece::{Piece, put_pieces};
+pub use placed::PlacedRefusal;
 pub use quantity::Quantity;
-pub use refusal::{put_not_plain, put_numbers_differ, put_refusal};
+pub use refusal::{
+    Rejection, put_not_plain, put_numbers_differ, put_placed_refusal, put_refusal, put_rejection,
+};
 pub use report::{
-    CompileReport, EmbedReport, EvaluateReport, GenerateReport, LiftReport, put_compile_report,
-    put_embed_report, put_evaluate_report, put_generate_report, put_lift_report,
+    CompileReport, EmbedReport, EvaluateReport, GenerateReport, LiftReport, Report,
+    put_compile_report, put_embed_report, put_evaluate_report, put_generate_report,
+    put_lift_report, put_report,
 };
 pub use words::{code_words, direction_word, misfit_words, role_word};

@@ -8,6 +8,7 @@ ghost use Rattle.p3_reports.specs.Reports.{
   evaluate_text,
   generate_text,
   lift_text,
+  report_text,
 };
 
 use crate::part::{NameCount, Part, put_parts};
@@ -77,6 +78,39 @@ pub struct GenerateReport {
     pub cost: i128,
     /// The value of the metric.
     pub metric: Quantity,
+}
+
+/// What a command reports.
+#[derive(Debug, Drop)]
+pub enum Report {
+    /// `compile` is done.
+    Compile(CompileReport),
+    /// `embed` is done.
+    Embed(EmbedReport),
+    /// `evaluate` is done.
+    Evaluate(EvaluateReport),
+    /// `lift` is done.
+    Lift(LiftReport),
+    /// `generate` is done.
+    Generate(GenerateReport),
+}
+
+/// Puts a report.
+pub fn put_report<S: Sink>(report: &Report, out: &mut S) -> Result<(), SinkFailed>
+    ensures ok { OnOk result (IsPut (report_text report.now)
+        (S.seen out.old).written (S.seen out.new).written) }
+    ensures partly { OnErr result (IsPartlyPut (report_text report.now)
+        (S.seen out.old).written (S.seen out.new).written) }
+    ensures failed { OnErr result (Rose (S.seen out.old).faults (S.seen out.new).faults) }
+    ensures faults_grow { (S.seen out.old).faults ≤ (S.seen out.new).faults }
+{
+    match report {
+        Report::Compile(report) => put_compile_report(report, out),
+        Report::Embed(report) => put_embed_report(report, out),
+        Report::Evaluate(report) => put_evaluate_report(report, out),
+        Report::Lift(report) => put_lift_report(report, out),
+        Report::Generate(report) => put_generate_report(report, out),
+    }
 }
 
 /// Puts the report of a task that was compiled.
