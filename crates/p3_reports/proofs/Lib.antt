@@ -1,3 +1,4 @@
+pub mod FaultLemmas
 pub mod FoundLaws
 pub mod JoinedLemmas
 pub mod PutLemmas

@@ -2,6 +2,7 @@
 
 ghost use Rattle.std.specs.Prelude.{◌≡◌, ℕ, ℤ};
 ghost use Rattle.p3_tree.specs.Plans.{Plan};
+ghost use Rattle.p3_tree.specs.Validity.{Fault};
 ghost use Rattle.p3_tree.specs.Reports.Plans.{
   embedded_lines,
   evaluated_lines,
@@ -10,6 +11,7 @@ ghost use Rattle.p3_tree.specs.Reports.Plans.{
 };
 ghost use Rattle.p3_tree.specs.Reports.Tasks.{compiled_lines};
 ghost use Rattle.p3_tree.specs.declared.task.Task.{Task};
+ghost use Rattle.p3_reports.specs.Faults.{fault_named, fault_of};
 ghost use Rattle.p3_reports.specs.Found.{
   IsCompileReport,
   IsEmbedReport,
@@ -43,4 +45,9 @@ pub fn reports_are_lines()
     ensures generate { (T : Task) (plan : Plan) (len : ℕ) (cost : ℤ) (report : GenerateReport)
         → IsGenerateReport T plan len cost report
         → generate_text report ≡ generated_lines T plan len cost }
+{}
+
+/// The fault that the code names for one of the definitions is that one.
+pub fn faults_are_named()
+    ensures { (fault : Fault) → fault_of (fault_named fault) ≡ fault }
 {}

@@ -16,7 +16,7 @@ mod tests;
 mod words;
 
 pub use fault::{Fault, Misfit, put_fault, put_lifted_fault};
-pub use laws::reports_are_lines;
+pub use laws::{faults_are_named, reports_are_lines};
 pub use outside::{put_no_memory, put_read_fault, put_too_long, put_usage, put_write_fault};
 pub use part::{NameCount, Part, put_part, put_parts};
 pub use piece::{Piece, put_pieces};
