@@ -1,0 +1,5 @@
+pub mod FaultLemmas
+pub mod FoundLaws
+pub mod JoinedLemmas
+pub mod PutLemmas
+pub mod QuantityLemmas

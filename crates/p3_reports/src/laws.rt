@@ -1,0 +1,53 @@
+//! The laws of reports. Each is the contract of a function without a body.
+
+ghost use Rattle.std.specs.Prelude.{◌≡◌, ℕ, ℤ};
+ghost use Rattle.p3_tree.specs.Plans.{Plan};
+ghost use Rattle.p3_tree.specs.Validity.{Fault};
+ghost use Rattle.p3_tree.specs.Reports.Plans.{
+  embedded_lines,
+  evaluated_lines,
+  generated_lines,
+  lifted_lines,
+};
+ghost use Rattle.p3_tree.specs.Reports.Tasks.{compiled_lines};
+ghost use Rattle.p3_tree.specs.declared.task.Task.{Task};
+ghost use Rattle.p3_reports.specs.Faults.{fault_named, fault_of};
+ghost use Rattle.p3_reports.specs.Found.{
+  IsCompileReport,
+  IsEmbedReport,
+  IsEvaluateReport,
+  IsGenerateReport,
+  IsLiftReport,
+};
+ghost use Rattle.p3_reports.specs.Reports.{
+  compile_text,
+  embed_text,
+  evaluate_text,
+  generate_text,
+  lift_text,
+};
+ghost use Rattle.p3_reports.specs.declared.report.CompileReport.{CompileReport};
+ghost use Rattle.p3_reports.specs.declared.report.EmbedReport.{EmbedReport};
+ghost use Rattle.p3_reports.specs.declared.report.EvaluateReport.{EvaluateReport};
+ghost use Rattle.p3_reports.specs.declared.report.GenerateReport.{GenerateReport};
+ghost use Rattle.p3_reports.specs.declared.report.LiftReport.{LiftReport};
+
+/// What is found of a task and a plan is printed as the lines that the definitions give them.
+pub fn reports_are_lines()
+    ensures compile { (T : Task) (report : CompileReport) → IsCompileReport T report
+        → compile_text report ≡ compiled_lines T }
+    ensures embed { (T : Task) (len : ℕ) (cost : ℤ) (report : EmbedReport)
+        → IsEmbedReport T len cost report → embed_text report ≡ embedded_lines T len cost }
+    ensures evaluate { (T : Task) (plan : Plan) (report : EvaluateReport)
+        → IsEvaluateReport T plan report → evaluate_text report ≡ evaluated_lines T plan }
+    ensures lift { (T : Task) (plan : Plan) (cost : ℤ) (report : LiftReport)
+        → IsLiftReport T plan cost report → lift_text report ≡ lifted_lines T plan cost }
+    ensures generate { (T : Task) (plan : Plan) (len : ℕ) (cost : ℤ) (report : GenerateReport)
+        → IsGenerateReport T plan len cost report
+        → generate_text report ≡ generated_lines T plan len cost }
+{}
+
+/// The fault that the code names for one of the definitions is that one.
+pub fn faults_are_named()
+    ensures { (fault : Fault) → fault_of (fault_named fault) ≡ fault }
+{}
