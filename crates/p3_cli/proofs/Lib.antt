@@ -1,5 +1,6 @@
 pub mod EmbeddingLemmas
 pub mod FaithfulLaws
+pub mod FileLemmas
 pub mod GroupLemmas
 pub mod HeldLemmas
 pub mod MeaningLemmas
@@ -15,4 +16,3 @@ pub mod SpelledLemmas
 pub mod StoreLemmas
 pub mod TranslationLemmas
 pub mod WordLaws
-pub mod WordLemmas

@@ -1,15 +1,15 @@
 -- A done run keeps what its command means.
-use Rattle.std.proofs.Common.{◌≡◌, ◌∙◌, ◌≢◌, ℕ, Bool, true, false, ◌&&◌, List, [], ◌∷◌, map, Option, Some, None, IfSome, refl, sym, subst, inl, inr}
+use Rattle.std.proofs.Common.{◌≡◌, ◌∙◌, ◌≢◌, ◌+◌, ◌==◌, ℕ, Bool, true, false, ◌&&◌, List, [], ◌∷◌, length, map, Option, Some, None, IfSome, refl, sym, subst, inl, inr}
 use Rattle.std.specs.Prelude.{IsSomeAnd, option_and_then, if◌then◌else◌}
 use Rattle.std.specs.FinMap.{insert}
 use Rattle.std.specs.List.{list_all}
 use Rattle.p3_base.specs.Outside.{FilesSeen, SinkSeen, Store, with_put}
 use Rattle.p3_base.specs.Words.{are_different}
-use Rattle.p3_tree.specs.Commands.{Command, Output, Word, command_of, has_file_words, if_files, inputs, is_file_word, names_of}
+use Rattle.p3_tree.specs.Commands.{Command, Output, Word, command_by, command_of, command_with, has_file_words, if_spelled, inputs, is_file_word, is_spelled, kind_of, names_of, numbered, row}
+use Rattle.p3_tree.specs.declared.command.CommandKind.{CommandKind}
 use Rattle.p3_cli.specs.Ending.{status_of}
 use Rattle.p3_cli.specs.Meaning.{AllHold, Keeps, KeepsInRun, IsDone, IsFaithfulRun, IsLaidOutRun, OfAsked, output_names}
 use Rattle.p3_cli.specs.Product.{LaysOut, Means, Produces, texts_in}
-use Rattle.p3_cli.specs.Request.{command_named}
 use Rattle.p3_cli.specs.Run.{Leaves, Tells, Answers, IsProduct}
 use Rattle.p3_cli.specs.Store.{holding_all}
 use Rattle.p3_cli.specs.declared.ending.Ending.{Ending}
@@ -24,21 +24,25 @@ abbrev pub HasWords : Option Command → Type 0
 HasWords None = Unit {0}
 HasWords (Some command) = has_file_words command ≡ true
 
-words_by : (command : Command) (test : Bool) → has_file_words command ≡ test → HasWords (if test then Some command else None)
-words_by command true e = e
-words_by command false e = tt
-
-if_words : (found : Option Command) → HasWords (option_and_then if_files found)
-if_words None = tt
-if_words (Some command) = words_by command (has_file_words command) refl
-
-pub has_words : (words : List Word) → HasWords (command_of words)
-has_words [] = tt
-has_words (name ∷ files) = if_words (command_named name files)
-
 second_part : (first second : Bool) → (first && second) ≡ true → second ≡ true
 second_part true second e = e
 second_part false second e = absurd (cc)
+
+spelled_by : (kind : CommandKind) (found : ℕ × List Word) (test : Bool) → is_spelled kind found ≡ test → HasWords (if test then Some (command_with kind found) else None)
+spelled_by kind found true e = second_part (length found.1 == length (row kind).reads + length (row kind).writes) (has_file_words (command_with kind found)) e
+spelled_by kind found false e = tt
+
+numbered_words : (kind : CommandKind) (found : Option (ℕ × List Word)) → HasWords (option_and_then (if_spelled kind) found)
+numbered_words kind None = tt
+numbered_words kind (Some found) = spelled_by kind found (is_spelled kind found) refl
+
+words_behind : (words : List Word) (kind : Option CommandKind) → HasWords (option_and_then (command_by words) kind)
+words_behind words None = tt
+words_behind words (Some kind) = numbered_words kind (numbered (row kind).is_numbered words)
+
+pub has_words : (words : List Word) → HasWords (command_of words)
+has_words [] = tt
+has_words (word ∷ words) = words_behind words (kind_of word)
 
 -- no two outputs have the same name
 outputs_differ : (command : Command) → has_file_words command ≡ true → are_different (output_names command) ≡ true

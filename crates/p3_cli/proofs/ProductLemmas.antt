@@ -1,7 +1,10 @@
 -- What a command makes of its texts, and why it makes nothing of them, as what is said of the texts in order.
-use Rattle.std.proofs.Common.{◌≡◌, ◌∙◌, ◌≤◌, ℕ, List, [], ◌∷◌, None, length, refl, sym, subst, inl, inr}
+use Rattle.std.proofs.Common.{◌≡◌, ◌∙◌, ◌≤◌, ℕ, List, [], ◌∷◌, None, length, map, zip, refl, sym, subst, inl, inr}
+use Rattle.p3_base.specs.declared.refusal.Role.{Role}
 use Rattle.p3_base.specs.declared.refusal.Side.TheVariants.{Source, Written}
-use Rattle.p3_tree.specs.Commands.{Compile, Embed, Evaluate, Generate, Lift}
+use Rattle.p3_tree.specs.Commands.{Command, Word, input, inputs, row}
+use Rattle.p3_tree.specs.declared.command.CommandKind.{CommandKind}
+use Rattle.p3_tree.specs.declared.command.CommandKind.TheVariants.{Compile, Embed, Evaluate, Generate, Lift}
 use Rattle.p3_tree.specs.PlanTexts.{IsPlanText, plan_offence, step_limit}
 use Rattle.p3_tree.specs.Plans.{Plan}
 use Rattle.p3_tree.specs.Refusals.First.{given_task}
@@ -15,31 +18,45 @@ use Rattle.p3_cli.specs.Evaluation.{AreOfPlan, IsEvaluation, IsFaultOf, IsReject
 use Rattle.p3_lift.specs.Lifting.{IsLiftFail}
 use Rattle.p3_lift.specs.declared.answers.LiftFail.{LiftFail}
 use Rattle.p3_cli.specs.Lifting.{IsLifting, RejectsLift, TellsFail}
-use Rattle.p3_cli.specs.Product.{Accepts, Produces, Rejects}
+use Rattle.p3_cli.specs.Product.{AcceptsBy, ProducesBy, RejectsBy}
 use Rattle.p3_cli.specs.Refusing.{AllTexts, AreAcceptedFor, IsRefusal, IsRefusedTask, IsRejectedBy, for_lift, only_task, with_plan}
 use Rattle.p3_cli.specs.Sampling.{IsSampling}
-use Rattle.p3_cli.specs.Store.{AreWithin}
+use Rattle.p3_cli.specs.Store.{AreWithin, nameless}
 use Rattle.p3_cli.specs.Translation.{HasLayout, IsTranslation}
 use Rattle.p3_cli.specs.WrittenText.{HasPlanLayout}
 use Rattle.p3_cli.specs.declared.ending.Ending.{Ending}
 use Rattle.p3_cli.proofs.RejectionLemmas.{lift_accepted, plan_accepted}
 use Rattle.p3_cli.proofs.SpelledLemmas.{says_more}
 
+-- ---- the limits of what is read
+
+-- a limit is that of a role
+within_roles : (roles : List Role) (names : List Word) (texts : List (List ℕ)) → length names ≡ length roles → AreWithin (map input (zip roles names)) texts → AreWithin (nameless roles) texts
+within_roles [] [] texts same within = within
+within_roles [] (name ∷ names) texts same within = absurd (cc)
+within_roles (role ∷ roles) [] texts same within = absurd (cc)
+within_roles (role ∷ roles) (name ∷ names) [] same within = absurd within
+within_roles (role ∷ roles) (name ∷ names) (text ∷ texts) same within = (within.0, within_roles roles names texts (cc) within.1)
+
+pub within_kind : (kind : CommandKind) (command : Command) (texts : List (List ℕ)) → command.kind ≡ kind → length command.reads ≡ length (row command.kind).reads → AreWithin (inputs command) texts
+    → AreWithin (nameless (row kind).reads) texts
+within_kind kind command texts is all within = subst (λ one. AreWithin (nameless (row one).reads) texts) is (within_roles (row command.kind).reads command.reads texts all within)
+
 -- ---- of a task that is read alone
 
-module _ (a b od op : List ℕ) (read : List (List ℕ)) (texts : AllTexts) (is : read ≡ texts.domain ∷ texts.problem ∷ []) where
-  pub compile_rejects : texts ≡ only_task texts.domain texts.problem → (how : Ending) → IsRefusedTask texts how → IsRejectedBy (Rejects (Compile a b od op) read) how
+module _ (n : ℕ) (read : List (List ℕ)) (texts : AllTexts) (is : read ≡ texts.domain ∷ texts.problem ∷ []) where
+  pub compile_rejects : texts ≡ only_task texts.domain texts.problem → (how : Ending) → IsRefusedTask texts how → IsRejectedBy (RejectsBy Compile n read) how
   compile_rejects only how told =
-      subst (λ found. IsRejectedBy (Rejects (Compile a b od op) found) how) (sym is)
+      subst (λ found. IsRejectedBy (RejectsBy Compile n found) how) (sym is)
       (says_more (IsRefusal (given_task Source texts.domain texts.problem) texts) (IsRefusal (given_task Source texts.domain texts.problem) (only_task texts.domain texts.problem))
       (λ end said. subst (λ all. IsRefusal (given_task Source texts.domain texts.problem) all end) only said) how told)
 
   module _ (first second report : List ℕ) (means : IsTranslation texts.domain texts.problem first second report) where
-    pub compile_produces : HasLayout texts.domain texts.problem first second → Produces (Compile a b od op) read (first ∷ second ∷ []) report
-    compile_produces layout = subst (λ found. Produces (Compile a b od op) found (first ∷ second ∷ []) report) (sym is) (record { means = means; layout = layout })
+    pub compile_produces : HasLayout texts.domain texts.problem first second → ProducesBy Compile n read (first ∷ second ∷ []) report
+    compile_produces layout = subst (λ found. ProducesBy Compile n found (first ∷ second ∷ []) report) (sym is) (record { means = means; layout = layout })
 
-    pub compile_accepts : Accepts (Compile a b od op) read
-    compile_accepts = subst (Accepts (Compile a b od op)) (sym is) (λ how shown. nothing_is_refused Source texts.domain texts.problem means.task means.accepted shown.refusal shown.shows)
+    pub compile_accepts : AcceptsBy Compile n read
+    compile_accepts = subst (AcceptsBy Compile n) (sym is) (λ how shown. nothing_is_refused Source texts.domain texts.problem means.task means.accepted shown.refusal shown.shows)
 
 -- ---- of a task with a plan
 
@@ -48,43 +65,43 @@ with_plan_rejects : (texts : AllTexts) → texts ≡ with_plan texts.domain text
 with_plan_rejects texts only = says_more (RejectsPlan texts) (RejectsPlan (with_plan texts.domain texts.problem texts.plan)) (λ how said. subst (λ all. RejectsPlan all how) only said)
 
 module _ (read : List (List ℕ)) (texts : AllTexts) (is : read ≡ texts.domain ∷ texts.problem ∷ texts.plan ∷ []) where
-  module _ (a b c : List ℕ) where
-    pub evaluate_rejects : texts ≡ with_plan texts.domain texts.problem texts.plan → (how : Ending) → IsRejectedPlan texts how → IsRejectedBy (Rejects (Evaluate a b c) read) how
-    evaluate_rejects only how told = subst (λ found. IsRejectedBy (Rejects (Evaluate a b c) found) how) (sym is) (with_plan_rejects texts only how told)
+  module _ (n : ℕ) where
+    pub evaluate_rejects : texts ≡ with_plan texts.domain texts.problem texts.plan → (how : Ending) → IsRejectedPlan texts how → IsRejectedBy (RejectsBy Evaluate n read) how
+    evaluate_rejects only how told = subst (λ found. IsRejectedBy (RejectsBy Evaluate n found) how) (sym is) (with_plan_rejects texts only how told)
 
     module _ (report : List ℕ) (means : IsEvaluation texts.domain texts.problem texts.plan report) where
-      pub evaluate_produces : Produces (Evaluate a b c) read [] report
-      evaluate_produces = subst (λ found. Produces (Evaluate a b c) found [] report) (sym is) (record { means = means; layout = tt })
+      pub evaluate_produces : ProducesBy Evaluate n read [] report
+      evaluate_produces = subst (λ found. ProducesBy Evaluate n found [] report) (sym is) (record { means = means; layout = tt })
 
-      pub evaluate_accepts : Accepts (Evaluate a b c) read
-      evaluate_accepts = subst (Accepts (Evaluate a b c)) (sym is) (plan_accepted texts.domain texts.problem texts.plan means.task means.plan means.texts means.valid)
+      pub evaluate_accepts : AcceptsBy Evaluate n read
+      evaluate_accepts = subst (AcceptsBy Evaluate n) (sym is) (plan_accepted texts.domain texts.problem texts.plan means.task means.plan means.texts means.valid)
 
-  module _ (a b c od op out : List ℕ) where
-    pub embed_rejects : texts ≡ with_plan texts.domain texts.problem texts.plan → (how : Ending) → IsRejectedPlan texts how → IsRejectedBy (Rejects (Embed a b c od op out) read) how
-    embed_rejects only how told = subst (λ found. IsRejectedBy (Rejects (Embed a b c od op out) found) how) (sym is) (with_plan_rejects texts only how told)
+  module _ (n : ℕ) where
+    pub embed_rejects : texts ≡ with_plan texts.domain texts.problem texts.plan → (how : Ending) → IsRejectedPlan texts how → IsRejectedBy (RejectsBy Embed n read) how
+    embed_rejects only how told = subst (λ found. IsRejectedBy (RejectsBy Embed n found) how) (sym is) (with_plan_rejects texts only how told)
 
     module _ (first second third report : List ℕ) (means : IsEmbedding texts.domain texts.problem texts.plan first second third report) where
-      pub embed_produces : HasLayout texts.domain texts.problem first second → HasPlanLayout third → Produces (Embed a b c od op out) read (first ∷ second ∷ third ∷ []) report
-      embed_produces layout lines = subst (λ found. Produces (Embed a b c od op out) found (first ∷ second ∷ third ∷ []) report) (sym is) (record { means = means; layout = (layout, lines) })
+      pub embed_produces : HasLayout texts.domain texts.problem first second → HasPlanLayout third → ProducesBy Embed n read (first ∷ second ∷ third ∷ []) report
+      embed_produces layout lines = subst (λ found. ProducesBy Embed n found (first ∷ second ∷ third ∷ []) report) (sym is) (record { means = means; layout = (layout, lines) })
 
-      pub embed_accepts : Accepts (Embed a b c od op out) read
-      embed_accepts = subst (Accepts (Embed a b c od op out)) (sym is) (plan_accepted texts.domain texts.problem texts.plan means.task means.plan means.texts means.valid)
+      pub embed_accepts : AcceptsBy Embed n read
+      embed_accepts = subst (AcceptsBy Embed n) (sym is) (plan_accepted texts.domain texts.problem texts.plan means.task means.plan means.texts means.valid)
 
 -- ---- of two tasks and a plan
 
-module _ (a b od op c out : List ℕ) (read : List (List ℕ)) (texts : AllTexts) (is : read ≡ texts.domain ∷ texts.problem ∷ texts.written_domain ∷ texts.written_problem ∷ texts.plan ∷ []) where
+module _ (n : ℕ) (read : List (List ℕ)) (texts : AllTexts) (is : read ≡ texts.domain ∷ texts.problem ∷ texts.written_domain ∷ texts.written_problem ∷ texts.plan ∷ []) where
   abbrev the_texts : AllTexts
   the_texts = for_lift texts.domain texts.problem texts.written_domain texts.written_problem texts.plan
 
-  pub lift_rejects : (how : Ending) → IsRejectedBy (RejectsLift texts) how → IsRejectedBy (Rejects (Lift a b od op c out) read) how
-  lift_rejects how told = subst (λ found. IsRejectedBy (Rejects (Lift a b od op c out) found) how) (sym is) (says_more (RejectsLift texts) (RejectsLift the_texts) (λ end said. said) how told)
+  pub lift_rejects : (how : Ending) → IsRejectedBy (RejectsLift texts) how → IsRejectedBy (RejectsBy Lift n read) how
+  lift_rejects how told = subst (λ found. IsRejectedBy (RejectsBy Lift n found) how) (sym is) (says_more (RejectsLift texts) (RejectsLift the_texts) (λ end said. said) how told)
 
   module _ (text report : List ℕ) (means : IsLifting texts.domain texts.problem texts.written_domain texts.written_problem texts.plan text report) where
-    pub lift_produces : HasPlanLayout text → Produces (Lift a b od op c out) read (text ∷ []) report
-    lift_produces lines = subst (λ found. Produces (Lift a b od op c out) found (text ∷ []) report) (sym is) (record { means = means; layout = lines })
+    pub lift_produces : HasPlanLayout text → ProducesBy Lift n read (text ∷ []) report
+    lift_produces lines = subst (λ found. ProducesBy Lift n found (text ∷ []) report) (sym is) (record { means = means; layout = lines })
 
-    pub lift_accepts : Accepts (Lift a b od op c out) read
-    lift_accepts = subst (Accepts (Lift a b od op c out)) (sym is) (lift_accepted the_texts means.task means.written means.plan means.texts means.lifted means.is)
+    pub lift_accepts : AcceptsBy Lift n read
+    lift_accepts = subst (AcceptsBy Lift n) (sym is) (lift_accepted the_texts means.task means.written means.plan means.texts means.lifted means.is)
 
 -- ---- of a sample
 
@@ -97,11 +114,11 @@ pub sample_rejects : (n : ℕ) (d p q : List ℕ) (texts : AllTexts) → texts �
     → IsRejectedPlan (with_plan sample_domain (sample_problem n) (sample_plan n)) how
 sample_rejects n d p q texts only domain problem plan how = subst (λ all. IsRejectedPlan all how) (only ∙ (λ i. with_plan (domain i) (problem i) (plan i)))
 
-module _ (n : ℕ) (a b c d p q report : List ℕ) (means : IsSampling n d p q report) where
-  pub generate_produces : Produces (Generate n a b c) [] (d ∷ p ∷ q ∷ []) report
+module _ (n : ℕ) (d p q report : List ℕ) (means : IsSampling n d p q report) where
+  pub generate_produces : ProducesBy Generate n [] (d ∷ p ∷ q ∷ []) report
   generate_produces = record { means = means; layout = tt }
 
-  pub generate_accepts : Accepts (Generate n a b c) []
+  pub generate_accepts : AcceptsBy Generate n []
   generate_accepts =
       subst (λ text. (how : Ending) → RejectsPlan (with_plan sample_domain (sample_problem n) text) how → ⊥) means.plan
       (subst (λ text. (how : Ending) → RejectsPlan (with_plan sample_domain text q) how → ⊥) means.problem

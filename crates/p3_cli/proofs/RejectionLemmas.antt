@@ -2,7 +2,9 @@
 use Rattle.std.proofs.Common.{◌≡◌, ◌∙◌, ℕ, List, [], ◌∷◌, Some, None, true, false, sym, ap, subst, inl, inr, refl}
 use Rattle.p3_base.specs.declared.refusal.Refusal.{Refusal}
 use Rattle.p3_base.specs.declared.refusal.Side.TheVariants.{Source, Written}
-use Rattle.p3_tree.specs.Commands.{Command, Compile, Lift, Embed, Evaluate, Generate}
+use Rattle.p3_tree.specs.Commands.{Command}
+use Rattle.p3_tree.specs.declared.command.CommandKind.{CommandKind}
+use Rattle.p3_tree.specs.declared.command.CommandKind.TheVariants.{Compile, Lift, Embed, Evaluate, Generate}
 use Rattle.p3_tree.specs.Lifting.{is_plain, lift}
 use Rattle.p3_tree.specs.Plans.{Plan}
 use Rattle.p3_tree.specs.PlanTexts.{plan_offence}
@@ -23,7 +25,7 @@ use Rattle.p3_lift.specs.declared.answers.Lifted.{Lifted}
 use Rattle.p3_cli.specs.Ending.{status_of}
 use Rattle.p3_cli.specs.Evaluation.{AreOfPlan, IsInvalidPlan, RejectsPlan, given_plan}
 use Rattle.p3_cli.specs.Lifting.{AreOfLift, RejectsLift, TellsFail, given_lift}
-use Rattle.p3_cli.specs.Product.{Rejects}
+use Rattle.p3_cli.specs.Product.{RejectsBy}
 use Rattle.p3_cli.specs.Refusing.{IsRefusal, AllTexts, for_lift, with_plan}
 use Rattle.p3_cli.specs.Run.{ShownBy}
 use Rattle.p3_cli.specs.Store.{Reading, Texts, TooLong, Absent}
@@ -164,32 +166,32 @@ module _ (texts : AllTexts) where
 -- ---- of each command
 
 -- all reasons have one status
-one_reason : (command : Command) (texts : List (List ℕ)) (how other : Ending) → Rejects command texts how → Rejects command texts other → status_of how ≡ status_of other
-one_reason (Compile a b c d) [] how other shown also = absurd shown
-one_reason (Compile a b c d) (x ∷ []) how other shown also = absurd shown
-one_reason (Compile a b c d) (x ∷ y ∷ []) how other shown also = refused_status how _ shown.says ∙ sym (refused_status other _ also.says)
-one_reason (Compile a b c d) (x ∷ y ∷ z ∷ texts) how other shown also = absurd shown
-one_reason (Lift a b c d e f) [] how other shown also = absurd shown
-one_reason (Lift a b c d e f) (x ∷ []) how other shown also = absurd shown
-one_reason (Lift a b c d e f) (x ∷ y ∷ []) how other shown also = absurd shown
-one_reason (Lift a b c d e f) (x ∷ y ∷ z ∷ []) how other shown also = absurd shown
-one_reason (Lift a b c d e f) (x ∷ y ∷ z ∷ u ∷ []) how other shown also = absurd shown
-one_reason (Lift a b c d e f) (x ∷ y ∷ z ∷ u ∷ v ∷ []) how other shown also = lift_reason (for_lift x y z u v) how other shown also
-one_reason (Lift a b c d e f) (x ∷ y ∷ z ∷ u ∷ v ∷ w ∷ texts) how other shown also = absurd shown
-one_reason (Embed a b c d e f) [] how other shown also = absurd shown
-one_reason (Embed a b c d e f) (x ∷ []) how other shown also = absurd shown
-one_reason (Embed a b c d e f) (x ∷ y ∷ []) how other shown also = absurd shown
-one_reason (Embed a b c d e f) (x ∷ y ∷ z ∷ []) how other shown also = plan_reason x y z how other shown also
-one_reason (Embed a b c d e f) (x ∷ y ∷ z ∷ u ∷ texts) how other shown also = absurd shown
-one_reason (Evaluate a b c) [] how other shown also = absurd shown
-one_reason (Evaluate a b c) (x ∷ []) how other shown also = absurd shown
-one_reason (Evaluate a b c) (x ∷ y ∷ []) how other shown also = absurd shown
-one_reason (Evaluate a b c) (x ∷ y ∷ z ∷ []) how other shown also = plan_reason x y z how other shown also
-one_reason (Evaluate a b c) (x ∷ y ∷ z ∷ u ∷ texts) how other shown also = absurd shown
-one_reason (Generate n a b c) [] how other shown also = plan_reason sample_domain (sample_problem n) (sample_plan n) how other shown also
-one_reason (Generate n a b c) (x ∷ texts) how other shown also = absurd shown
+one_reason : (kind : CommandKind) (number : ℕ) (texts : List (List ℕ)) (how other : Ending) → RejectsBy kind number texts how → RejectsBy kind number texts other → status_of how ≡ status_of other
+one_reason Compile n [] how other shown also = absurd shown
+one_reason Compile n (x ∷ []) how other shown also = absurd shown
+one_reason Compile n (x ∷ y ∷ []) how other shown also = refused_status how _ shown.says ∙ sym (refused_status other _ also.says)
+one_reason Compile n (x ∷ y ∷ z ∷ texts) how other shown also = absurd shown
+one_reason Lift n [] how other shown also = absurd shown
+one_reason Lift n (x ∷ []) how other shown also = absurd shown
+one_reason Lift n (x ∷ y ∷ []) how other shown also = absurd shown
+one_reason Lift n (x ∷ y ∷ z ∷ []) how other shown also = absurd shown
+one_reason Lift n (x ∷ y ∷ z ∷ u ∷ []) how other shown also = absurd shown
+one_reason Lift n (x ∷ y ∷ z ∷ u ∷ v ∷ []) how other shown also = lift_reason (for_lift x y z u v) how other shown also
+one_reason Lift n (x ∷ y ∷ z ∷ u ∷ v ∷ w ∷ texts) how other shown also = absurd shown
+one_reason Embed n [] how other shown also = absurd shown
+one_reason Embed n (x ∷ []) how other shown also = absurd shown
+one_reason Embed n (x ∷ y ∷ []) how other shown also = absurd shown
+one_reason Embed n (x ∷ y ∷ z ∷ []) how other shown also = plan_reason x y z how other shown also
+one_reason Embed n (x ∷ y ∷ z ∷ u ∷ texts) how other shown also = absurd shown
+one_reason Evaluate n [] how other shown also = absurd shown
+one_reason Evaluate n (x ∷ []) how other shown also = absurd shown
+one_reason Evaluate n (x ∷ y ∷ []) how other shown also = absurd shown
+one_reason Evaluate n (x ∷ y ∷ z ∷ []) how other shown also = plan_reason x y z how other shown also
+one_reason Evaluate n (x ∷ y ∷ z ∷ u ∷ texts) how other shown also = absurd shown
+one_reason Generate n [] how other shown also = plan_reason sample_domain (sample_problem n) (sample_plan n) how other shown also
+one_reason Generate n (x ∷ texts) how other shown also = absurd shown
 
 pub one_status : (command : Command) (read : Reading) (how other : Ending) → ShownBy command read how → ShownBy command read other → status_of how ≡ status_of other
-one_status command (Texts texts) how other shown also = one_reason command texts how other shown also
+one_status command (Texts texts) how other shown also = one_reason command.kind command.number texts how other shown also
 one_status command (TooLong role) how other shown also = ap status_of (shown ∙ sym also)
 one_status command Absent how other shown also = absurd shown

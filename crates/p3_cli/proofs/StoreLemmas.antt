@@ -111,9 +111,9 @@ holding_all-append (first ∷ written) next told = holding_all-append written ne
 
 -- one more output is written
 pub holding_all-more : (writings : List Written) (i : ℕ) (next : Written) (told : Option Store) → i < length writings → next ≡ get_or writings i next
-    → holding_all (take (i + 1) (asked_writings writings)) told ≡ holding next.name.now next.text.items (holding_all (take i (asked_writings writings)) told)
+    → holding_all (take (i + 1) (asked_writings writings)) told ≡ holding next.name.now next.text.now (holding_all (take i (asked_writings writings)) told)
 holding_all-more writings i next told within is =
     ap (λ ws. holding_all ws told)
     (take-map asked_written (i + 1) writings ∙ ap (map asked_written) (take_more writings i next within ∙ ap (λ w. take i writings ++ w ∷ []) (sym is)) ∙ map-append asked_written (take i writings) (next ∷ []))
     ∙ holding_all-append (map asked_written (take i writings)) (asked_written next) told
-    ∙ ap (λ ws. holding next.name.now next.text.items (holding_all ws told)) (sym (take-map asked_written i writings))
+    ∙ ap (λ ws. holding next.name.now next.text.now (holding_all ws told)) (sym (take-map asked_written i writings))

@@ -7,7 +7,6 @@ pub mod Meaning
 pub mod Outcome
 pub mod Product
 pub mod Refusing
-pub mod Request
 pub mod Run
 pub mod Sampling
 pub mod Status

@@ -22,10 +22,13 @@ ghost use Rattle.p3_cli.specs.Store.{AreStored};
 ghost use Rattle.p3_cli.specs.declared.ending.Ending.{Ending};
 
 use crate::Ending;
+use crate::asking::asked;
+use crate::files::writings;
 use crate::product::product_of;
-use crate::request::{Request, asked};
+use crate::request::Request;
 use crate::status::UNPUT;
 use crate::store::{read_all, write_all};
+use crate::table::row_of;
 use p3_base::{Files, List, Sink, SinkFailed, Word};
 use std::alloc::Global;
 
@@ -119,7 +122,12 @@ fn carried_out<F: Files>(alloc: Global, request: &Request<'_>, files: &mut F) ->
         Ok(product) => product,
         Err(ending) => return ending,
     };
-    match write_all(alloc, files, product.writings.as_slice()) {
+    let roles = row_of(request.kind).writes;
+    let writings = match writings(alloc, roles, request.writes, product.texts.as_slice()) {
+        Ok(writings) => writings,
+        Err(_) => return Ending::OutOfMemory,
+    };
+    match write_all(alloc, files, writings.as_slice()) {
         Ok(()) => Ending::Done(List::from(product.report)),
         Err(ending) => ending,
     }

@@ -1,6 +1,6 @@
 //! What `embed` makes of the texts of a task and of a plan for it.
 
-ghost use Rattle.std.specs.Prelude.{◌≡◌, ◌≤◌, ◌∷◌, [], IfErr, IfOk, IsTrue, OnOk, length, pos};
+ghost use Rattle.std.specs.Prelude.{◌≡◌, ◌≤◌, ◌∷◌, [], IfErr, IfOk, IsTrue, OnOk, length, map, pos};
 ghost use Rattle.std.specs.List.{list_all};
 ghost use Rattle.p3_tree.specs.PlanTexts.{IsPlanText, step_limit};
 ghost use Rattle.p3_tree.specs.Reports.Plans.{embedded_lines};
@@ -20,9 +20,8 @@ use crate::acceptance::plan_of;
 use crate::embedded_report::embedded_report;
 use crate::evaluation::{invalid, judged_task};
 use crate::product::Product;
-use crate::request::writing;
 use crate::texts::Texts;
-use p3_base::{NoMemory, Role, Word};
+use p3_base::NoMemory;
 use p3_compile::compile;
 use p3_embed::{EmbedFail, Embedded};
 use p3_eval::Whole;
@@ -46,30 +45,14 @@ pub(crate) struct Embedding {
 }
 
 impl Embedding {
-    ghost use Rattle.p3_tree.specs.Commands.{output};
-    ghost use Rattle.p3_base.specs.declared.refusal.Role.TheVariants as role;
-    ghost use Rattle.p3_cli.specs.Asked.{asked_writings};
-
-    /// What is written to the files of these names, and the report.
-    pub(crate) fn product<'a>(
-        self,
-        alloc: Global,
-        domain: &'a Word,
-        problem: &'a Word,
-        plan: &'a Word,
-    ) -> Result<Product<'a>, NoMemory>
-        ensures writings { IfOk result (λ product. asked_writings product.writings.items
-            ≡ (output role.WrittenDomain domain.now, self.domain.items)
-            ∷ (output role.WrittenProblem problem.now, self.problem.items)
-            ∷ (output role.Plan plan.now, self.plan.items) ∷ []) }
+    /// Gives the texts for the outputs, and the report.
+    pub(crate) fn product(self, alloc: Global) -> Result<Product, NoMemory>
+        ensures texts { IfOk result (λ product. map (λ text. text.items) product.texts.items
+            ≡ self.domain.items ∷ self.problem.items ∷ self.plan.items ∷ []) }
         ensures report { IfOk result (λ product. product.report.items ≡ self.report.items) }
     {
         Ok(Product {
-            writings: vec![in alloc;
-                writing(Role::WrittenDomain, domain, self.domain),
-                writing(Role::WrittenProblem, problem, self.problem),
-                writing(Role::Plan, plan, self.plan),
-            ]?,
+            texts: vec![in alloc; self.domain, self.problem, self.plan]?,
             report: self.report,
         })
     }

@@ -2,11 +2,13 @@
 #![tactic(auto)]
 
 mod acceptance;
+mod asking;
 mod call;
 mod embedded_report;
 mod embedding;
 mod ending;
 mod evaluation;
+mod files;
 mod laws;
 mod lifting;
 mod plan_report;
@@ -20,6 +22,7 @@ mod sample_number;
 mod sampling;
 mod status;
 mod store;
+mod table;
 mod texts;
 mod translation;
 

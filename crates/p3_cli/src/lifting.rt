@@ -1,6 +1,6 @@
 //! What `lift` makes of the texts of a task, of one that is written for it, and of a plan for that.
 
-ghost use Rattle.std.specs.Prelude.{◌≡◌, ◌≤◌, ◌∷◌, [], IfErr, IfOk, IsTrue, None, OnErr, OnOk, length};
+ghost use Rattle.std.specs.Prelude.{◌≡◌, ◌≤◌, ◌∷◌, [], IfErr, IfOk, IsTrue, None, OnErr, OnOk, length, map};
 ghost use Rattle.std.specs.List.{list_all};
 ghost use Rattle.p3_base.specs.declared.refusal.Side.TheVariants.{Source};
 ghost use Rattle.p3_base.specs.declared.refusal.Side.TheVariants as side;
@@ -25,9 +25,8 @@ use crate::acceptance::{accepted, plan_of, readable_plan, spelled_task};
 use crate::evaluation::invalid;
 use crate::plan_report::{differ_line, lifted_report, not_plain_line};
 use crate::product::Product;
-use crate::request::writing;
 use crate::texts::Texts;
-use p3_base::{List, NoMemory, Role, Side, Word};
+use p3_base::{List, NoMemory, Side};
 use p3_eval::Whole;
 use p3_lift::{LiftFail, Lifted};
 use p3_plans::write_plan;
@@ -44,18 +43,14 @@ pub(crate) struct Lifting {
 }
 
 impl Lifting {
-    ghost use Rattle.p3_tree.specs.Commands.{output};
-    ghost use Rattle.p3_base.specs.declared.refusal.Role.TheVariants as role;
-    ghost use Rattle.p3_cli.specs.Asked.{asked_writings};
-
-    /// What is written to the file of that name, and the report.
-    pub(crate) fn product<'a>(self, alloc: Global, plan: &'a Word) -> Result<Product<'a>, NoMemory>
-        ensures writings { IfOk result (λ product. asked_writings product.writings.items
-            ≡ (output role.Plan plan.now, self.plan.items) ∷ []) }
+    /// Gives the text for the output, and the report.
+    pub(crate) fn product(self, alloc: Global) -> Result<Product, NoMemory>
+        ensures texts { IfOk result (λ product. map (λ text. text.items) product.texts.items
+            ≡ self.plan.items ∷ []) }
         ensures report { IfOk result (λ product. product.report.items ≡ self.report.items) }
     {
         Ok(Product {
-            writings: vec![in alloc; writing(Role::Plan, plan, self.plan)]?,
+            texts: vec![in alloc; self.plan]?,
             report: self.report,
         })
     }

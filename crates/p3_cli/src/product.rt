@@ -1,9 +1,9 @@
 //! What a command makes of the texts that it read.
 
-ghost use Rattle.std.specs.Prelude.{◌≡◌, ◌∷◌, [], map, IfOk, IfErr, OnOk};
-ghost use Rattle.p3_tree.specs.Commands.{Evaluate, Lift, inputs, outputs, source_inputs};
-ghost use Rattle.p3_cli.specs.Asked.{asked_command, asked_writings};
-ghost use Rattle.p3_cli.specs.Product.{Accepts, Produces, Rejects, texts_in};
+ghost use Rattle.std.specs.Prelude.{◌≡◌, ◌∷◌, [], length, map, IfOk, IfErr, OnOk};
+ghost use Rattle.p3_tree.specs.Commands.{inputs, row, source_task};
+ghost use Rattle.p3_cli.specs.Asked.{asked_command};
+ghost use Rattle.p3_cli.specs.Product.{Accepts, Produces, Rejects};
 ghost use Rattle.p3_cli.specs.Refusing.{
   IsRejectedBy,
   all_texts,
@@ -11,86 +11,62 @@ ghost use Rattle.p3_cli.specs.Refusing.{
   only_task,
   with_plan,
 };
-ghost use Rattle.p3_cli.specs.Store.{AreWithin};
+ghost use Rattle.p3_cli.specs.Store.{AreWithin, nameless};
+ghost use Rattle.p3_tree.specs.declared.command.CommandKind.TheVariants.{Evaluate, Lift};
 
 use crate::Ending;
+use p3_tree::CommandKind;
 use crate::embedding::embed;
 use crate::evaluation::evaluate;
 use crate::lifting::lift;
-use crate::request::{Request, Written};
+use crate::request::Request;
 use crate::sampling::sample;
 use crate::texts::Texts;
 use crate::translation::translate;
 use std::alloc::Global;
 
-/// The texts that are written, and the report.
+/// The texts that are written, in order, and the report.
 #[derive(Drop)]
-pub(crate) struct Product<'a> {
-    /// The outputs with their texts.
-    pub(crate) writings: Vec<Written<'a>>,
+pub(crate) struct Product {
+    /// The texts of the outputs.
+    pub(crate) texts: Vec<Vec<u8>>,
     /// The report.
     pub(crate) report: Vec<u8>,
 }
 
 /// Carries a request out on the texts that were read.
-pub(crate) fn product_of<'a>(
+pub(crate) fn product_of(
     alloc: Global,
-    request: &Request<'a>,
+    request: &Request<'_>,
     texts: &[Vec<u8>],
-) -> Result<Product<'a>, Ending>
+) -> Result<Product, Ending>
     requires { AreWithin (inputs (asked_command request.now))
         (map (λ text. text.items) texts.now) }
-    ensures outputs { IfOk result (λ product.
-        map (λ written. written.0) (asked_writings product.writings.items)
-        ≡ outputs (asked_command request.now)) }
+    ensures many { IfOk result (λ product.
+        length product.texts.items ≡ length request.now.writes.now) }
     ensures ok { IfOk result (λ product.
         Produces (asked_command request.now) (map (λ text. text.items) texts.now)
-        (texts_in (asked_writings product.writings.items)) product.report.items) }
+        (map (λ text. text.items) product.texts.items) product.report.items) }
     ensures accepted { OnOk result
         (Accepts (asked_command request.now) (map (λ text. text.items) texts.now)) }
     ensures err { IfErr result (IsRejectedBy
         (Rejects (asked_command request.now) (map (λ text. text.items) texts.now))) }
 {
-    match request {
-        Request::Compile {
-            written_domain,
-            written_problem,
-            ..
-        } => Ok(translate(alloc, &texts_of_task(texts))?.product(
-            alloc,
-            written_domain,
-            written_problem,
-        )?),
-        Request::Lift { lifted, .. } => {
-            Ok(lift(alloc, &texts_of_lift(texts))?.product(alloc, lifted)?)
-        }
-        Request::Embed {
-            written_domain,
-            written_problem,
-            embedded,
-            ..
-        } => Ok(embed(alloc, &texts_of_plan(texts))?.product(
-            alloc,
-            written_domain,
-            written_problem,
-            embedded,
-        )?),
-        Request::Evaluate { .. } => Ok(Product {
-            writings: Vec::new(alloc),
+    match request.kind {
+        CommandKind::Compile => Ok(translate(alloc, &texts_of_task(texts))?.product(alloc)?),
+        CommandKind::Lift => Ok(lift(alloc, &texts_of_lift(texts))?.product(alloc)?),
+        CommandKind::Embed => Ok(embed(alloc, &texts_of_plan(texts))?.product(alloc)?),
+        CommandKind::Evaluate => Ok(Product {
+            texts: Vec::new(alloc),
             report: evaluate(alloc, &texts_of_plan(texts))?,
         }),
-        Request::Generate {
-            number,
-            domain,
-            problem,
-            plan,
-        } => Ok(sample(alloc, number.number)?.product(alloc, domain, problem, plan)?),
+        CommandKind::Generate => Ok(sample(alloc, request.number)?.product(alloc)?),
     }
 }
 
 /// The texts of a task.
 fn texts_of_task(texts: &[Vec<u8>]) -> Texts<'_>
-    requires { AreWithin (source_inputs [] []) (map (λ text. text.items) texts.now) }
+    requires { AreWithin (nameless source_task) (map (λ text. text.items) texts.now) }
     ensures read { map (λ text. text.items) texts.now
         ≡ result.domain.now ∷ result.problem.now ∷ [] }
     ensures only { all_texts result ≡ only_task result.domain.now result.problem.now }
@@ -109,7 +85,8 @@ fn texts_of_task(texts: &[Vec<u8>]) -> Texts<'_>
 
 /// The texts of a task and of a plan for it.
 fn texts_of_plan(texts: &[Vec<u8>]) -> Texts<'_>
-    requires { AreWithin (inputs (Evaluate [] [] [])) (map (λ text. text.items) texts.now) }
+    requires { AreWithin (nameless (row Evaluate).reads)
+        (map (λ text. text.items) texts.now) }
     ensures read { map (λ text. text.items) texts.now
         ≡ result.domain.now ∷ result.problem.now ∷ result.plan.now ∷ [] }
     ensures only { all_texts result
@@ -129,7 +106,7 @@ fn texts_of_plan(texts: &[Vec<u8>]) -> Texts<'_>
 
 /// The texts of a task, of one that is written for it, and of a plan for that.
 fn texts_of_lift(texts: &[Vec<u8>]) -> Texts<'_>
-    requires { AreWithin (inputs (Lift [] [] [] [] [] [])) (map (λ text. text.items) texts.now) }
+    requires { AreWithin (nameless (row Lift).reads) (map (λ text. text.items) texts.now) }
     ensures read { map (λ text. text.items) texts.now
         ≡ result.domain.now ∷ result.problem.now ∷ result.written_domain.now
         ∷ result.written_problem.now ∷ result.plan.now ∷ [] }

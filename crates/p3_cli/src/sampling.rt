@@ -1,6 +1,6 @@
 //! What `generate` makes.
 
-ghost use Rattle.std.specs.Prelude.{◌≡◌, ◌≤◌, ◌∷◌, [], IfErr, IfOk, length};
+ghost use Rattle.std.specs.Prelude.{◌≡◌, ◌≤◌, ◌∷◌, [], IfErr, IfOk, length, map};
 ghost use Rattle.p3_tree.specs.Metrics.{value};
 ghost use Rattle.p3_tree.specs.PlanTexts.{step_limit};
 ghost use Rattle.p3_tree.specs.Samples.{sample_domain, sample_plan, sample_problem};
@@ -15,9 +15,8 @@ use crate::embedded_report::sampled_report;
 use crate::embedding::embedded;
 use crate::evaluation::judged_task;
 use crate::product::Product;
-use crate::request::writing;
 use crate::texts::Texts;
-use p3_base::{NoMemory, Role, Word};
+use p3_base::NoMemory;
 use p3_compile::compile;
 use p3_eval::Whole;
 use p3_gen::{Sample, generate};
@@ -34,29 +33,17 @@ pub(crate) struct Sampling {
 }
 
 impl Sampling {
-    ghost use Rattle.p3_tree.specs.Commands.{output};
-    ghost use Rattle.p3_base.specs.declared.refusal.Role.TheVariants as role;
-    ghost use Rattle.p3_cli.specs.Asked.{asked_writings};
-
-    /// What is written to the files of these names, and the report.
-    pub(crate) fn product<'a>(
-        self,
-        alloc: Global,
-        domain: &'a Word,
-        problem: &'a Word,
-        plan: &'a Word,
-    ) -> Result<Product<'a>, NoMemory>
-        ensures writings { IfOk result (λ product. asked_writings product.writings.items
-            ≡ (output role.Domain domain.now, self.sample.domain)
-            ∷ (output role.Problem problem.now, self.sample.problem)
-            ∷ (output role.Plan plan.now, self.sample.plan) ∷ []) }
+    /// Gives the texts for the outputs, and the report.
+    pub(crate) fn product(self, alloc: Global) -> Result<Product, NoMemory>
+        ensures texts { IfOk result (λ product. map (λ text. text.items) product.texts.items
+            ≡ self.sample.domain ∷ self.sample.problem ∷ self.sample.plan ∷ []) }
         ensures report { IfOk result (λ product. product.report.items ≡ self.report.items) }
     {
         Ok(Product {
-            writings: vec![in alloc;
-                writing(Role::Domain, domain, self.sample.domain.into_items()),
-                writing(Role::Problem, problem, self.sample.problem.into_items()),
-                writing(Role::Plan, plan, self.sample.plan.into_items()),
+            texts: vec![in alloc;
+                self.sample.domain.into_items(),
+                self.sample.problem.into_items(),
+                self.sample.plan.into_items(),
             ]?,
             report: self.report,
         })

@@ -86,7 +86,7 @@ pub(crate) fn write_all<F: Files>(
     ensures write_faults_grow { (F.seen files.old).write_faults ≤ (F.seen files.new).write_faults }
 {
     for written in writings {
-        match files.write(alloc, written.name, written.text.as_slice()) {
+        match files.write(alloc, written.name, written.text) {
             Ok(()) => {}
             Err(WriteFault::Failed) => return Err(Ending::WriteFailed(written.role)),
             Err(WriteFault::NoMemory) => return Err(Ending::OutOfMemory),

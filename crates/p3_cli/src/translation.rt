@@ -1,6 +1,6 @@
 //! What `compile` makes of the texts of a domain and a problem.
 
-ghost use Rattle.std.specs.Prelude.{◌≡◌, ◌∷◌, [], IfOk, IfErr};
+ghost use Rattle.std.specs.Prelude.{◌≡◌, ◌∷◌, [], map, IfOk, IfErr};
 ghost use Rattle.p3_tree.specs.Reports.Tasks.{compiled_lines};
 ghost use Rattle.p3_cli.specs.Refusing.{IsRefusedTask, all_texts};
 ghost use Rattle.p3_cli.specs.Translation.{CanBeCompiled, HasLayout, IsLaidOut, IsTranslation};
@@ -10,9 +10,8 @@ use crate::Ending;
 use crate::acceptance::{accepted, spelled_task};
 use crate::product::Product;
 use crate::report::compiled_report;
-use crate::request::writing;
 use crate::texts::Texts;
-use p3_base::{NoMemory, Role, Side, Word};
+use p3_base::{NoMemory, Side};
 use p3_compile::compile;
 use p3_eval::Whole;
 use p3_writer::{write_domain, write_problem};
@@ -30,27 +29,14 @@ pub(crate) struct Translation {
 }
 
 impl Translation {
-    ghost use Rattle.p3_tree.specs.Commands.{output};
-    ghost use Rattle.p3_base.specs.declared.refusal.Role.TheVariants as role;
-    ghost use Rattle.p3_cli.specs.Asked.{asked_writings};
-
-    /// What is written to the files of these names, and the report.
-    pub(crate) fn product<'a>(
-        self,
-        alloc: Global,
-        domain: &'a Word,
-        problem: &'a Word,
-    ) -> Result<Product<'a>, NoMemory>
-        ensures writings { IfOk result (λ product. asked_writings product.writings.items
-            ≡ (output role.WrittenDomain domain.now, self.domain.items)
-            ∷ (output role.WrittenProblem problem.now, self.problem.items) ∷ []) }
+    /// Gives the texts for the outputs, and the report.
+    pub(crate) fn product(self, alloc: Global) -> Result<Product, NoMemory>
+        ensures texts { IfOk result (λ product. map (λ text. text.items) product.texts.items
+            ≡ self.domain.items ∷ self.problem.items ∷ []) }
         ensures report { IfOk result (λ product. product.report.items ≡ self.report.items) }
     {
         Ok(Product {
-            writings: vec![in alloc;
-                writing(Role::WrittenDomain, domain, self.domain),
-                writing(Role::WrittenProblem, problem, self.problem),
-            ]?,
+            texts: vec![in alloc; self.domain, self.problem]?,
             report: self.report,
         })
     }

@@ -1,4 +1,6 @@
-use Rattle.std.proofs.Common.{◌≡◌, ◌∙◌, ap, sym, subst, map}
+use Rattle.std.proofs.Common.{◌≡◌, ◌∙◌, ℕ, List, ap, sym, subst, map, zip}
+use Rattle.p3_tree.specs.Commands.{Command, output}
+use Rattle.p3_cli.specs.Product.{Produces}
 use Rattle.p3_cli.specs.Asked.{asked_inputs, asked_command, asked_writings}
 use Rattle.p3_cli.specs.Outcome.{WriteFails}
 use Rattle.p3_cli.specs.Run.{Leaves}
@@ -29,16 +31,20 @@ returns-clause-comes g c =
     unwritten_comes (asked_command c.args.request.now) _ same _ _ are (g.F.Files.seen c.args.files.now) (g.F.Files.seen c.write_all.new.files) c.in-Err-write_all.ending _ _ _ c.in-Ok-read_all.ensures.ok c.in-Ok-product_of.ensures.accepted
     c.read_all.ensures.write_faults_grow c.in-Err-write_all.ensures.err
 
+-- what is written of the texts that were made
+made_of : (command : Command) (texts made written : List (List ℕ)) (report : List ℕ) → written ≡ made → Produces command texts made report → Produces command texts written report
+made_of command texts made written report is = subst (λ all. Produces command texts all report) (sym is)
+
 pub returns-clause-leaves : goal.returns-clause-leaves
 returns-clause-leaves g c =
     let same = ap asked_inputs c.as_slice.ensures.value ∙ c.in-Ok.ensures in
     let are = sym (ap (λ xs. map (λ text. text.items) xs) c.as_slice-2.ensures.value) in
     let mid = g.F.Files.seen c.read_all.new.files in
     let new = g.F.Files.seen c.write_all.new.files in
-    let fails = subst (λ writings. WriteFails (asked_writings writings) mid.held new.held mid.write_faults new.write_faults c.in-Err-write_all.ending) c.as_slice-3.ensures.value c.in-Err-write_all.ensures.err in
-    unwritten_leaves (asked_command c.args.request.now) _ same _ _ are (g.F.Files.seen c.args.files.now).held mid.held new.held (asked_writings c.in-Ok-product_of.product.writings.items)
-    c.in-Ok-product_of.product.report.items _ _ c.in-Err-write_all.ending c.in-Ok-read_all.ensures.ok c.read_all.ensures.held_stays c.in-Ok-product_of.ensures.outputs
-    c.in-Ok-product_of.ensures.ok fails
+    let fails = subst (λ writings. WriteFails (asked_writings writings) mid.held new.held mid.write_faults new.write_faults c.in-Err-write_all.ending) c.as_slice-4.ensures.value c.in-Err-write_all.ensures.err in
+    unwritten_leaves (asked_command c.args.request.now) _ same _ _ are (g.F.Files.seen c.args.files.now).held mid.held new.held (asked_writings c.in-Ok-writings.writings.items)
+    c.in-Ok-product_of.product.report.items _ _ c.in-Err-write_all.ending c.in-Ok-read_all.ensures.ok c.read_all.ensures.held_stays (c.in-Ok-writings.ensures.outputs ∙ ap (λ row. map output (zip row.writes c.args.request.now.writes.now)) c.row_of.ensures)
+    (made_of _ _ _ _ _ (c.in-Ok-writings.ensures.texts ∙ ap (map (λ text. text.items)) c.as_slice-3.ensures.value) c.in-Ok-product_of.ensures.ok) fails
 
 pub returns-in-Ok-write_all-clause-leaves : goal.returns-in-Ok-write_all-clause-leaves
 returns-in-Ok-write_all-clause-leaves g c =
@@ -46,7 +52,7 @@ returns-in-Ok-write_all-clause-leaves g c =
     let are = sym (ap (λ xs. map (λ text. text.items) xs) c.as_slice-2.ensures.value) in
     let mid = g.F.Files.seen c.read_all.new.files in
     let new = g.F.Files.seen c.write_all.new.files in
-    let is = subst (λ writings. new.held ≡ holding_all (asked_writings writings) mid.held) c.as_slice-3.ensures.value c.in-Ok-write_all.ensures.ok in
+    let is = subst (λ writings. new.held ≡ holding_all (asked_writings writings) mid.held) c.as_slice-4.ensures.value c.in-Ok-write_all.ensures.ok in
     subst (λ report. Leaves (asked_command c.args.request.now) (g.F.Files.seen c.args.files.now).held new.held (Done report)) (sym c.from.ensures)
-    (done_leaves (asked_command c.args.request.now) _ same _ _ are (g.F.Files.seen c.args.files.now).held mid.held new.held (asked_writings c.in-Ok-product_of.product.writings.items)
-    c.in-Ok-product_of.product.report.items c.in-Ok-read_all.ensures.ok c.read_all.ensures.held_stays c.in-Ok-product_of.ensures.outputs c.in-Ok-product_of.ensures.ok is)
+    (done_leaves (asked_command c.args.request.now) _ same _ _ are (g.F.Files.seen c.args.files.now).held mid.held new.held (asked_writings c.in-Ok-writings.writings.items)
+    c.in-Ok-product_of.product.report.items c.in-Ok-read_all.ensures.ok c.read_all.ensures.held_stays (c.in-Ok-writings.ensures.outputs ∙ ap (λ row. map output (zip row.writes c.args.request.now.writes.now)) c.row_of.ensures) (made_of _ _ _ _ _ (c.in-Ok-writings.ensures.texts ∙ ap (map (λ text. text.items)) c.as_slice-3.ensures.value) c.in-Ok-product_of.ensures.ok) is)

@@ -1,0 +1,84 @@
+//! The table of commands.
+
+ghost use Rattle.std.specs.Prelude.{◌≡◌};
+ghost use Rattle.p3_tree.specs.Commands as commands;
+ghost use Rattle.p3_cli.specs.Asked.{as_row};
+
+use p3_tree::CommandKind;
+use p3_base::Role;
+
+/// What stands on a command line.
+#[derive(Clone, Copy)]
+pub(crate) struct Row {
+    /// The word of the command.
+    pub(crate) word: &'static [u8],
+    /// Whether a number stands behind it.
+    pub(crate) is_numbered: bool,
+    /// What the files are that it reads, in order.
+    pub(crate) reads: &'static [Role],
+    /// What the files are that it writes, in order.
+    pub(crate) writes: &'static [Role],
+}
+
+/// All commands.
+const KINDS: &[CommandKind] = &[
+    CommandKind::Compile,
+    CommandKind::Lift,
+    CommandKind::Embed,
+    CommandKind::Evaluate,
+    CommandKind::Generate,
+];
+
+/// The row of a command.
+pub(crate) fn row_of(kind: CommandKind) -> Row
+    ensures { as_row result ≡ commands.row kind }
+{
+    match kind {
+        CommandKind::Compile => Row {
+            word: b"compile",
+            is_numbered: false,
+            reads: &[Role::Domain, Role::Problem],
+            writes: &[Role::WrittenDomain, Role::WrittenProblem],
+        },
+        CommandKind::Lift => Row {
+            word: b"lift",
+            is_numbered: false,
+            reads: &[
+                Role::Domain,
+                Role::Problem,
+                Role::WrittenDomain,
+                Role::WrittenProblem,
+                Role::Plan,
+            ],
+            writes: &[Role::Plan],
+        },
+        CommandKind::Embed => Row {
+            word: b"embed",
+            is_numbered: false,
+            reads: &[Role::Domain, Role::Problem, Role::Plan],
+            writes: &[Role::WrittenDomain, Role::WrittenProblem, Role::Plan],
+        },
+        CommandKind::Evaluate => Row {
+            word: b"evaluate",
+            is_numbered: false,
+            reads: &[Role::Domain, Role::Problem, Role::Plan],
+            writes: &[],
+        },
+        CommandKind::Generate => Row {
+            word: b"generate",
+            is_numbered: true,
+            reads: &[],
+            writes: &[Role::Domain, Role::Problem, Role::Plan],
+        },
+    }
+}
+
+/// The command of a word. It takes no memory.
+pub(crate) fn kind_of(word: &[u8]) -> Option<CommandKind>
+    ensures { result ≡ commands.kind_of word.now }
+{
+    KINDS
+        .iter()
+        .copied()
+        .find(|kind| row_of(*kind).word == word)
+}
