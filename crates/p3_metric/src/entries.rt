@@ -35,10 +35,11 @@ ghost use Rattle.p3_metric.specs.Forms.{one_each};
 
 use indexmap::IndexMap;
 use p3_base::NoMemory;
+use p3_names::Key;
 use std::alloc::Global;
 
 /// The numbers that are not 0, and perhaps some that are.
-pub(crate) type Entries<'t> = IndexMap<&'t [u8], i128>;
+pub(crate) type Entries<'t> = IndexMap<&'t [u8], i128, Key>;
 
 /// Coefficients and constants of a metric stay below it in absolute value.
 const WEIGHT_BOUND: i128 = 1 << 62;
@@ -74,11 +75,15 @@ fn add<'t>(entries: &mut Entries<'t>, name: &'t [u8], number: i128) -> Result<bo
 }
 
 /// The entry of one name, whose number is 1.
-pub(crate) fn one_entry<'t>(alloc: Global, name: &'t [u8]) -> Result<Entries<'t>, NoMemory>
+pub(crate) fn one_entry<'t>(
+    alloc: Global,
+    key: Key,
+    name: &'t [u8],
+) -> Result<Entries<'t>, NoMemory>
     ensures { IfOk result (λ entries. (other : List ℕ)
         → number_at entries other ≡ one_each name.now other) }
 {
-    let mut entries = IndexMap::new(alloc);
+    let mut entries = IndexMap::with_hasher(alloc, key);
     add(&mut entries, name, 1)?;
     Ok(entries)
 }
@@ -157,7 +162,7 @@ pub(crate) fn scaled<'t>(
     requires fits { AreBelow (2 ^ 126) (products factor (number_at entries)) }
     ensures { IfOk result (IsJudged (products factor (number_at entries.entry))) }
 {
-    let mut products = IndexMap::new(alloc);
+    let mut products = IndexMap::with_hasher(alloc, *entries.hasher());
     let within = pour(&mut products, entries, factor)?;
     Ok(Judged {
         entries: products,

@@ -14,6 +14,7 @@ use crate::MetricFail;
 use crate::leaves::{constant, count, total_cost};
 use crate::linear::{Linear, Measured, minus, negated, plus, product};
 use p3_base::{Code, Pos, Refusal, Role, Side};
+use p3_names::Key;
 use p3_tree::{Num, Numeral, Ref, Task};
 use std::alloc::Global;
 
@@ -21,6 +22,8 @@ use std::alloc::Global;
 #[derive(Drop)]
 pub(crate) struct Evaluator<'t> {
     pub(crate) alloc: Global,
+    /// The key of the names of the task's preferences.
+    pub(crate) key: Key,
     /// The task whose metric is evaluated.
     pub(crate) task: &'t Task,
     /// The side of the task.
@@ -92,7 +95,7 @@ impl<'t> Evaluator<'t> {
         requires { IsFit self.now.task.now (num.Number numeral) }
         ensures { IsEvaluated self.now.task.now (num.Number numeral) result }
     {
-        constant(self.alloc, numeral.digits, numeral.places)
+        constant(self.alloc, self.key, numeral.digits, numeral.places)
     }
 
     /// The form of the total cost.
@@ -100,7 +103,7 @@ impl<'t> Evaluator<'t> {
         requires { IsFit self.now.task.now (num.TotalCost at) }
         ensures { IsEvaluated self.now.task.now (num.TotalCost at) result }
     {
-        total_cost(self.alloc, self.cost_places)
+        total_cost(self.alloc, self.key, self.cost_places)
     }
 
     /// The form of a count.
@@ -109,7 +112,7 @@ impl<'t> Evaluator<'t> {
         ensures fails { IfErr result
             (IsFailure self.now.task.now self.now.role (operations (num.Violated name.now))) }
     {
-        let form = count(self.alloc, name.name.bytes())?;
+        let form = count(self.alloc, self.key, name.name.bytes())?;
         Ok(form)
     }
 
@@ -134,7 +137,7 @@ impl<'t> Evaluator<'t> {
         ensures fails { IfErr result
             (IsFailure self.now.task.now self.now.role (operations (num.Sum at parts.now))) }
     {
-        let mut sum = constant(self.alloc, 0, 0);
+        let mut sum = constant(self.alloc, self.key, 0, 0);
         for part in parts {
             let form = self.evaluate(part)?;
             let measured = plus(self.alloc, sum, form)?;
@@ -151,7 +154,7 @@ impl<'t> Evaluator<'t> {
         ensures fails { IfErr result
             (IsFailure self.now.task.now self.now.role (operations (num.Product at parts.now))) }
     {
-        let mut done = constant(self.alloc, 1, 0);
+        let mut done = constant(self.alloc, self.key, 1, 0);
         for part in parts {
             let form = self.evaluate(part)?;
             let measured = product(self.alloc, done, form)?;

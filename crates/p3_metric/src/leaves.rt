@@ -8,50 +8,51 @@ use crate::entries::{Entries, one_entry};
 use crate::linear::Linear;
 use indexmap::IndexMap;
 use p3_base::NoMemory;
+use p3_names::Key;
 use std::alloc::Global;
 
 /// Entries without any.
-fn no_entries<'t>(alloc: Global) -> Entries<'t>
+fn no_entries<'t>(alloc: Global, key: Key) -> Entries<'t>
     ensures { (name : List ℕ) → number_at result name ≡ pos 0 }
 {
-    IndexMap::new(alloc)
+    IndexMap::with_hasher(alloc, key)
 }
 
 /// The form of a number.
-pub(crate) fn constant<'t>(alloc: Global, digits: u64, places: u32) -> Linear<'t>
+pub(crate) fn constant<'t>(alloc: Global, key: Key, digits: u64, places: u32) -> Linear<'t>
     ensures { IsLeaf places (pos digits) (pos 0) nothing_each false result }
 {
     Linear {
         places,
         constant: i128::from(digits),
         cost: 0,
-        counts: no_entries(alloc),
+        counts: no_entries(alloc, key),
         mention: false,
     }
 }
 
 /// The form of the total cost, which has so many decimal places.
-pub(crate) fn total_cost<'t>(alloc: Global, places: u32) -> Linear<'t>
+pub(crate) fn total_cost<'t>(alloc: Global, key: Key, places: u32) -> Linear<'t>
     ensures { IsLeaf places (pos 0) (pos 1) nothing_each true result }
 {
     Linear {
         places,
         constant: 0,
         cost: 1,
-        counts: no_entries(alloc),
+        counts: no_entries(alloc, key),
         mention: true,
     }
 }
 
 /// The form of a count.
-pub(crate) fn count<'t>(alloc: Global, name: &'t [u8]) -> Result<Linear<'t>, NoMemory>
+pub(crate) fn count<'t>(alloc: Global, key: Key, name: &'t [u8]) -> Result<Linear<'t>, NoMemory>
     ensures { IfOk result (IsLeaf 0 (pos 0) (pos 0) (one_each name.now) true) }
 {
     Ok(Linear {
         places: 0,
         constant: 0,
         cost: 0,
-        counts: one_entry(alloc, name)?,
+        counts: one_entry(alloc, key, name)?,
         mention: true,
     })
 }

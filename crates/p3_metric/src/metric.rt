@@ -3,6 +3,7 @@
 ghost use Rattle.std.specs.Prelude.{◌≡◌, None, IfOk, IfErr, OnOk};
 ghost use Rattle.p3_tree.specs.Refusals.Metric.{metric_refusals};
 ghost use Rattle.p3_tree.specs.Refusals.Places.{first_some};
+ghost use Rattle.p3_names.specs.Keys.{start_of};
 ghost use Rattle.p3_metric.specs.Refused.{IsRefusal};
 ghost use Rattle.p3_metric.specs.Weighed.{HasWeights, IsWeights};
 
@@ -10,8 +11,16 @@ use crate::MetricFail;
 use crate::evaluate::Evaluator;
 use p3_formula::Weights;
 use p3_limits::problem_role;
+use p3_names::{Key, listed_key};
 use p3_types::Checked;
 use std::alloc::Global;
+
+/// The key of the names of a checked task's preferences.
+fn count_key(task: &Checked) -> Key
+    ensures { result.start ≡ start_of task.now.numbered.numbers.preferences }
+{
+    listed_key(task.numbered().numbers.preferences.items())
+}
 
 /// The metric of a checked task as weights: for all counts and total costs, the loss is the base
 /// with the weighted counts and the weighted growth of the total cost, in units of the metric's
@@ -35,6 +44,7 @@ pub fn normalise(alloc: Global, task: &Checked) -> Result<Weights, MetricFail>
     let side = task.side();
     let evaluator = Evaluator {
         alloc,
+        key: count_key(task),
         task: task.task(),
         side,
         role: problem_role(side),

@@ -151,7 +151,7 @@ impl<'t> Evaluator<'t> {
             (IsRefusal (large_of self.now.side self.now.task.now)) }
     {
         match &self.task.problem.metric {
-            None => Ok(constant(self.alloc, 0, 0)),
+            None => Ok(constant(self.alloc, self.key, 0, 0)),
             Some(metric) => self.evaluate(&metric.body),
         }
     }

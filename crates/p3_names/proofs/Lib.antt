@@ -3,3 +3,4 @@ pub mod ScopeLemmas
 pub mod KindLemmas
 pub mod SearchLemmas
 pub mod ObjectLemmas
+pub mod PreferenceLemmas

@@ -2,6 +2,9 @@
 use Rattle.std.proofs.Common.{◌≡◌, ◌∙◌, ℕ, ◌+◌, ◌-◌, ◌<◌, ◌≤◌, get_or, take, length-append, Bool, true, false, ◌||◌, if◌then◌else◌, cond, List, [], ◌∷◌, ◌++◌, map, length, Option, Some, None, refl, sym, ap, subst, arith}
 use Rattle.std.specs.Prelude.{bytes_eq}
 use Rattle.std.proofs.lemmas.Slice.Eq.{bytes_eq-Decides}
+use Rattle.std.proofs.lemmas.Map.Text.{is_eq-slice_cmp}
+use Rattle.std.specs.Cmp.Lexicographic.{slice_cmp}
+use Rattle.std.specs.Ordering.{is_eq, nat_cmp}
 use Rattle.p3_tree.specs.Names.{Name, same_name}
 use denote.Ref.{Bor}
 use Rattle.std.proofs.lemmas.List.{map-append, length-map}
@@ -63,6 +66,11 @@ slot_of-pop names last name = by (bytes_eq last name) refl
     by : (same : Bool) → bytes_eq last name ≡ same → cond same (slot_of names last) (slot_of (names ++ last ∷ []) name) ≡ slot_of names name
     by true is = ap (slot_of names) ((bytes_eq-Decides last name).0 is)
     by false is = slot_of-push names last name ∙ ap (λ same. if same then Some (length names) else slot_of names name) is
+
+-- names that neither comes before the other are the same
+pub by-bytes : {X : Type 0} (name other : Bor (List ℕ)) (some none new : X)
+    → new ≡ cond (is_eq (slice_cmp nat_cmp name.now other.now)) some none → new ≡ cond (bytes_eq name.now other.now) some none
+by-bytes name other some none new is = is ∙ ap (λ same. cond same some none) (is_eq-slice_cmp name.now other.now)
 
 -- ---- the ends of lists
 

@@ -9,13 +9,14 @@ ghost use Rattle.p3_names.specs.Names.{with_names};
 ghost use Rattle.p3_names.specs.Kinds.{AreFiled, Files, FilesKind, IsDownFrom, IsBelowTest, lows_under};
 
 use crate::words::Words;
+use crate::{Digest, Key, kind_digest};
 use p3_base::{List, Name, NoMemory};
 use p3_tree::{Kind, Ref, Task};
 use std::alloc::Global;
 use std::collections::HashMap;
 
 /// From each type to those that are declared directly below it.
-type Lows<'t> = HashMap<&'t [u8], List<&'t [u8]>>;
+type Lows<'t> = HashMap<&'t [u8], List<&'t [u8]>, Key>;
 
 /// A type is declared directly below another.
 fn file<'t>(
@@ -55,11 +56,11 @@ fn file_kind<'t>(alloc: Global, lows: &mut Lows<'t>, kind: &'t Kind) -> Result<(
 }
 
 /// All of them go below their parents.
-fn filed<'t>(alloc: Global, kinds: &'t [Kind]) -> Result<Lows<'t>, NoMemory>
+fn filed<'t>(alloc: Global, kinds: &'t [Kind], key: Key) -> Result<Lows<'t>, NoMemory>
     ensures { IfOk result
         (λ lows. AreFiled kinds.now (get (λ x y. bytes_eq x.now y.now) lows)) }
 {
-    let mut lows = HashMap::new(alloc);
+    let mut lows = HashMap::with_hasher(alloc, key);
     for kind in kinds {
         file_kind(alloc, &mut lows, kind)?;
     }
@@ -71,6 +72,7 @@ fn filed<'t>(alloc: Global, kinds: &'t [Kind]) -> Result<Lows<'t>, NoMemory>
 pub struct Kinds<'t> {
     task: &'t Task,
     lows: Lows<'t>,
+    digest: Digest,
     ghost filed: { AreFiled task.now.domain.kinds (get (λ x y. bytes_eq x.now y.now) lows) },
 }
 
@@ -79,8 +81,9 @@ impl<'t> Kinds<'t> {
     pub fn of(alloc: Global, task: &'t Task) -> Result<Kinds<'t>, NoMemory>
         ensures { IfOk result (λ kinds. kinds.task.now ≡ task.now) }
     {
-        let lows = filed(alloc, task.domain.kinds.items())?;
-        Ok(Kinds { task, lows })
+        let digest = kind_digest(task.domain.kinds.items());
+        let lows = filed(alloc, task.domain.kinds.items(), digest.key())?;
+        Ok(Kinds { task, lows, digest })
     }
 
     /// Which types are below one of the listed ones; no type stands for `object`. Each declared
@@ -105,7 +108,7 @@ impl<'t> Kinds<'t> {
     fn down_from(&self, alloc: Global, types: &'t [Ref]) -> Result<Words<'t>, NoMemory>
         ensures { IfOk result (IsDownFrom (declared_pairs self.now.task.now) (names_of types.now)) }
     {
-        let mut found = listed(alloc, types)?;
+        let mut found = listed(alloc, types, self.digest)?;
         let mut at = 0;
         while at < found.len() {
             self.add_lows(&mut found, at)?;
@@ -128,10 +131,12 @@ impl<'t> Kinds<'t> {
 }
 
 /// The listed types, each once.
-fn listed<'t>(alloc: Global, types: &'t [Ref]) -> Result<Words<'t>, NoMemory>
+fn listed<'t>(alloc: Global, types: &'t [Ref], declared: Digest) -> Result<Words<'t>, NoMemory>
     ensures { IfOk result (λ found. found ≡ with_names [] (names_of types.now)) }
 {
-    let mut found = Words::new(alloc);
+    let mut digest = declared;
+    digest.tell_types(types);
+    let mut found = Words::new(alloc, digest.key());
     for kind in types {
         found.add(kind.name.bytes())?;
     }
@@ -180,7 +185,7 @@ fn all_types<'t>(alloc: Global, task: &'t Task, types: &'t [Ref]) -> Below<'t>
         task,
         types,
         all: true,
-        found: Words::new(alloc),
+        found: Words::new(alloc, Digest::new().key()),
     }
 }
 

@@ -1,6 +1,8 @@
-//! Names and variables, looked up by hashing.
+//! Names, looked up by hashing, and variables.
 #![tactic(auto)]
 
+mod digests;
+mod keys;
 mod kinds;
 mod names;
 mod objects;
@@ -8,6 +10,11 @@ mod scope;
 mod type_lists;
 mod words;
 
+pub use digests::{
+    item_key, kind_digest, list_key, listed_key, name_key, object_key, parameter_key,
+    preference_key, value_key,
+};
+pub use keys::{Digest, Key};
 pub use kinds::{Below, Kinds};
 pub use names::Names;
 pub use objects::Objects;

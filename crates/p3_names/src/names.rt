@@ -5,6 +5,7 @@ ghost use Rattle.std.specs.List.{position_or_len};
 ghost use Rattle.p3_tree.specs.Names.{same_name, has_name};
 ghost use Rattle.p3_names.specs.Names.{Adds, with_name};
 
+use crate::Key;
 use indexmap::IndexSet;
 use p3_base::{Name, NoMemory};
 use std::alloc::Global;
@@ -13,7 +14,7 @@ use std::marker::Model;
 /// Names, each once, in the order in which they were first seen. A name's number is its place.
 #[derive(Drop)]
 pub struct Names {
-    keys: IndexSet<Vec<u8>>,
+    keys: IndexSet<Vec<u8>, Key>,
 }
 
 impl Model for Names {
@@ -25,12 +26,12 @@ impl Model for Names {
 }
 
 impl Names {
-    /// No name.
-    pub fn new(alloc: Global) -> Names
+    /// No name. The key is made of all that may be added.
+    pub fn new(alloc: Global, key: Key) -> Names
         ensures { result ≡ [] }
     {
         Names {
-            keys: IndexSet::new(alloc),
+            keys: IndexSet::with_hasher(alloc, key),
         }
     }
 

@@ -1,4 +1,4 @@
-//! The variables in scope, found by hashing.
+//! The variables in scope, found in the order of their names.
 
 ghost use Rattle.std.specs.Prelude.{◌≡◌, ◌<◌, ◌-◌, ◌++◌, ◌∷◌, [], length, take, reverse, slice_get, Some, OnOk, OnErr};
 ghost use Rattle.p3_tree.specs.Uses.{scope_of};
@@ -8,7 +8,7 @@ ghost use Rattle.p3_names.specs.Scopes.{scope_seen};
 use p3_base::{Name, NoMemory};
 use p3_tree::Typed;
 use std::alloc::Global;
-use std::collections::HashMap;
+use std::collections::BTreeMap;
 use std::marker::Model;
 
 /// A variable in scope.
@@ -25,12 +25,14 @@ struct Entry<'t> {
 pub struct Scope<'t> {
     entries: Vec<Entry<'t>>,
     /// The slot of the innermost variable of a name.
-    newest: HashMap<&'t [u8], usize>,
+    newest: BTreeMap<&'t [u8], usize>,
 }
 
 impl<'t> Model for Scope<'t> {
-    ghost use Rattle.std.specs.Prelude.{List, map, bytes_eq};
-    ghost use Rattle.std.specs.HashMap.{get};
+    ghost use Rattle.std.specs.Prelude.{List, map};
+    ghost use Rattle.std.specs.BTreeMap.{get};
+    ghost use Rattle.std.specs.Cmp.Lexicographic.{slice_cmp};
+    ghost use Rattle.std.specs.Ordering.{nat_cmp};
     ghost use Rattle.p3_tree.specs.declared.term.Typed.{Typed};
     ghost use Rattle.p3_names.specs.Scopes.{Indexed};
 
@@ -42,7 +44,7 @@ impl<'t> Model for Scope<'t> {
         (λ entry. entry.variable.now)
         (λ entry. entry.hidden)
         scope.entries.items
-        (get (λ x y. bytes_eq x.now y.now) scope.newest) };
+        (get (λ x y. slice_cmp nat_cmp x.now y.now) scope.newest) };
 }
 
 impl<'t> Scope<'t> {
@@ -52,7 +54,7 @@ impl<'t> Scope<'t> {
     {
         Scope {
             entries: Vec::new(alloc),
-            newest: HashMap::new(alloc),
+            newest: BTreeMap::new(alloc),
         }
     }
 

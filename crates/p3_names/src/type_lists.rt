@@ -6,6 +6,7 @@ ghost use Rattle.p3_tree.specs.Names.{same_names};
 ghost use Rattle.p3_tree.specs.Types.{names_of};
 ghost use Rattle.p3_names.specs.Names.{with_list};
 
+use crate::Key;
 use indexmap::IndexSet;
 use p3_base::NoMemory;
 use p3_tree::Ref;
@@ -16,7 +17,7 @@ use std::marker::Model;
 /// place.
 #[derive(Drop)]
 pub struct TypeLists<'t> {
-    keys: IndexSet<Vec<&'t [u8]>>,
+    keys: IndexSet<Vec<&'t [u8]>, Key>,
 }
 
 impl<'t> Model for TypeLists<'t> {
@@ -39,12 +40,12 @@ fn words_of<'t>(alloc: Global, types: &'t [Ref]) -> Result<Vec<&'t [u8]>, NoMemo
 }
 
 impl<'t> TypeLists<'t> {
-    /// No list.
-    pub fn new(alloc: Global) -> TypeLists<'t>
+    /// No list. The key is made of the types of all that may be added.
+    pub fn new(alloc: Global, key: Key) -> TypeLists<'t>
         ensures { result ≡ [] }
     {
         TypeLists {
-            keys: IndexSet::new(alloc),
+            keys: IndexSet::with_hasher(alloc, key),
         }
     }
 

@@ -4,6 +4,7 @@ ghost use Rattle.std.specs.Prelude.{◌≡◌, ◌<◌, [], Some, length, map, s
 ghost use Rattle.p3_tree.specs.Names.{has_name};
 ghost use Rattle.p3_names.specs.Names.{with_name, with_names};
 
+use crate::Key;
 use indexmap::IndexSet;
 use p3_base::NoMemory;
 use std::alloc::Global;
@@ -12,7 +13,7 @@ use std::marker::Model;
 /// Words, each once, in the order in which they were first seen.
 #[derive(Drop)]
 pub(crate) struct Words<'t> {
-    keys: IndexSet<&'t [u8]>,
+    keys: IndexSet<&'t [u8], Key>,
 }
 
 impl<'t> Model for Words<'t> {
@@ -24,12 +25,12 @@ impl<'t> Model for Words<'t> {
 }
 
 impl<'t> Words<'t> {
-    /// No word.
-    pub(crate) fn new(alloc: Global) -> Words<'t>
+    /// No word. The key is made of all that may be added.
+    pub(crate) fn new(alloc: Global, key: Key) -> Words<'t>
         ensures { result ≡ [] }
     {
         Words {
-            keys: IndexSet::new(alloc),
+            keys: IndexSet::with_hasher(alloc, key),
         }
     }
 

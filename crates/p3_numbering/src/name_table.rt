@@ -7,7 +7,7 @@ ghost use Rattle.p3_numbers.specs.Places.{number_in};
 ghost use Rattle.p3_numbering.specs.Texts.{names_in};
 
 use p3_base::{List, Name, NoMemory};
-use p3_names::Names;
+use p3_names::{Names, name_key};
 use std::alloc::Global;
 
 /// A place as a number; one that has no number wants memory.
@@ -64,7 +64,7 @@ impl NameTable {
     pub(crate) fn of(alloc: Global, words: &[&Name]) -> Result<NameTable, NoMemory>
         ensures { IfOk result (λ table. table.names ≡ once_each (names_in words.now)) }
     {
-        let mut found = Names::new(alloc);
+        let mut found = Names::new(alloc, name_key(words));
         let mut names = List::new(alloc);
         for word in words {
             push_new(alloc, &mut found, &mut names, word)?;

@@ -13,7 +13,7 @@ use crate::listed::task_lists;
 use crate::name_table::{as_number, copied};
 use crate::type_table::TypeTable;
 use p3_base::{List, Name, NoMemory};
-use p3_names::{Kinds, Objects};
+use p3_names::{Kinds, Objects, list_key};
 use p3_tree::{Ref, Task};
 use std::alloc::Global;
 
@@ -53,7 +53,7 @@ struct Lists<'t> {
 fn each_list<'t>(alloc: Global, found: &[&'t [Ref]]) -> Result<Lists<'t>, NoMemory>
     ensures { IfOk result (λ lists. lists.table ≡ lists_once (lists_in found.now)) }
 {
-    let mut table = TypeTable::new(alloc);
+    let mut table = TypeTable::new(alloc, list_key(found));
     let mut lists = Vec::new(alloc);
     for types in found {
         push_list(alloc, &mut table, &mut lists, *types)?;

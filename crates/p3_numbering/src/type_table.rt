@@ -7,6 +7,7 @@ ghost use Rattle.p3_names.specs.Names.{with_list};
 
 use indexmap::IndexSet;
 use p3_base::NoMemory;
+use p3_names::Key;
 use p3_tree::Ref;
 use std::alloc::Global;
 use std::marker::Model;
@@ -15,7 +16,7 @@ use std::marker::Model;
 /// place.
 #[derive(Drop)]
 pub(crate) struct TypeTable<'t> {
-    keys: IndexSet<Vec<&'t [u8]>>,
+    keys: IndexSet<Vec<&'t [u8]>, Key>,
 }
 
 impl<'t> Model for TypeTable<'t> {
@@ -38,12 +39,12 @@ fn key_of<'t>(alloc: Global, types: &'t [Ref]) -> Result<Vec<&'t [u8]>, NoMemory
 }
 
 impl<'t> TypeTable<'t> {
-    /// No list.
-    pub(crate) fn new(alloc: Global) -> TypeTable<'t>
+    /// No list. The key is made of the types of all that may be added.
+    pub(crate) fn new(alloc: Global, key: Key) -> TypeTable<'t>
         ensures { result ≡ [] }
     {
         TypeTable {
-            keys: IndexSet::new(alloc),
+            keys: IndexSet::with_hasher(alloc, key),
         }
     }
 

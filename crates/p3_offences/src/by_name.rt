@@ -8,13 +8,13 @@ ghost use Rattle.p3_names.specs.Objects.{fits};
 ghost use Rattle.p3_offences.specs.ByName.{AreFiled, Files, FilesUnder, declared_as, is_repeated, repeated_in, repeated_items};
 
 use p3_base::{List, Name, NoMemory};
-use p3_names::Below;
+use p3_names::{Below, Key, object_key};
 use p3_tree::{Task, Typed};
 use std::alloc::Global;
 use std::collections::HashMap;
 
 /// From each name to the declarations that have it.
-type Table<'t> = HashMap<&'t [u8], List<&'t Typed>>;
+type Table<'t> = HashMap<&'t [u8], List<&'t Typed>, Key>;
 
 /// A declaration goes under the name.
 fn file_under<'t>(
@@ -67,7 +67,7 @@ fn filed<'t>(alloc: Global, task: &'t Task) -> Result<Table<'t>, NoMemory>
     ensures { IfOk result (λ table. AreFiled (declared_objects task.now)
         (get (λ x y. bytes_eq x.now y.now) table)) }
 {
-    let mut table = HashMap::new(alloc);
+    let mut table = HashMap::with_hasher(alloc, object_key(task));
     file_all(alloc, &mut table, task.domain.constants.items())?;
     file_all(alloc, &mut table, task.problem.objects.items())?;
     Ok(table)

@@ -8,7 +8,7 @@ ghost use Rattle.p3_names.specs.Names.{Adds};
 ghost use Rattle.p3_offences.specs.Tables.{name_of_word, goal_names, constraint_names};
 
 use p3_base::{Name, NoMemory};
-use p3_names::Names;
+use p3_names::{Names, kind_digest, preference_key};
 use p3_tree::{Action, Constraint, Domain, Kind, PreGoal, Problem, Ref, Task};
 use std::alloc::Global;
 
@@ -52,7 +52,8 @@ fn add_kinds(alloc: Global, names: &mut Names, kinds: &[Kind]) -> Result<(), NoM
 pub(crate) fn type_table(alloc: Global, task: &Task) -> Result<Names, NoMemory>
     ensures { IfOk result (λ table. Adds [] (declared_types task.now) table) }
 {
-    let mut types = Names::new(alloc);
+    let key = kind_digest(task.domain.kinds.items()).key();
+    let mut types = Names::new(alloc, key);
     let object = Name::of(alloc, b"object".as_slice())?;
     types.add(alloc, &object)?;
     add_kinds(alloc, &mut types, task.domain.kinds.items())?;
@@ -171,7 +172,7 @@ fn add_problem_names(alloc: Global, names: &mut Names, problem: &Problem) -> Res
 pub(crate) fn preference_table(alloc: Global, task: &Task) -> Result<Names, NoMemory>
     ensures { IfOk result (λ table. Adds [] (preference_names task.now) table) }
 {
-    let mut names = Names::new(alloc);
+    let mut names = Names::new(alloc, preference_key(task));
     add_domain_names(alloc, &mut names, &task.domain)?;
     add_problem_names(alloc, &mut names, &task.problem)?;
     Ok(names)

@@ -7,13 +7,14 @@ ghost use Rattle.p3_tree.specs.Names.{same_name};
 ghost use Rattle.p3_offences.specs.Tables.{AddsFirst, ArePlaced, FindsFirst};
 ghost use Rattle.p3_offences.specs.Tables.{first_named, item_of, looked_at};
 
-use crate::worded::Worded;
+use crate::worded::{Worded, word_key};
 use p3_base::{Name, NoMemory};
+use p3_names::Key;
 use std::alloc::Global;
 use std::collections::HashMap;
 
 /// From each name to the place of the first item that has it, and to the item.
-type Table<'t, T> = HashMap<&'t [u8], (usize, &'t T)>;
+type Table<'t, T> = HashMap<&'t [u8], (usize, &'t T), Key>;
 
 /// Things that are declared, the first of each name found by it.
 #[derive(Drop)]
@@ -51,7 +52,7 @@ fn firsts_of<'t, T: Worded>(alloc: Global, items: &'t [T]) -> Result<Table<'t, T
     ensures placed { IfOk result
         (λ first. ArePlaced items.now (get (λ x y. bytes_eq x.now y.now) first)) }
 {
-    let mut first = HashMap::new(alloc);
+    let mut first = HashMap::with_hasher(alloc, word_key(items));
     for (place, item) in items.iter().enumerate() {
         note_first(&mut first, place, item)?;
     }

@@ -9,7 +9,7 @@ ghost use Rattle.p3_offences.specs.Fitting.{HasFitting, name_where_fit, found_fi
 
 use crate::by_name::ByName;
 use p3_base::{Name, NoMemory};
-use p3_names::{Below, Kinds, Names};
+use p3_names::{Below, Kinds, Names, item_key};
 use p3_tree::{Ref, Typed};
 use std::alloc::Global;
 
@@ -49,7 +49,7 @@ fn fitting(alloc: Global, below: &Below, items: &[&Typed]) -> Result<Names, NoMe
         items.now)
         names) }
 {
-    let mut names = Names::new(alloc);
+    let mut names = Names::new(alloc, item_key(items));
     for item in items {
         add_fitting(alloc, &mut names, below, item)?;
     }

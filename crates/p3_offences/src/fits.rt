@@ -10,7 +10,7 @@ use crate::by_name::ByName;
 use crate::fit::Fit;
 use crate::numbers::number_headers;
 use p3_base::{Name, NoMemory};
-use p3_names::{Kinds, TypeLists};
+use p3_names::{Kinds, TypeLists, parameter_key};
 use p3_tree::{Ref, Task, Typed};
 use std::alloc::Global;
 
@@ -66,7 +66,7 @@ impl<'t> Fits<'t> {
     pub(crate) fn of(alloc: Global, task: &'t Task) -> Result<Fits<'t>, NoMemory>
         ensures { IfOk result (λ fits. fits.objects.task.now ≡ task.now) }
     {
-        let mut keys = TypeLists::new(alloc);
+        let mut keys = TypeLists::new(alloc, parameter_key(task));
         let mut lists = Vec::new(alloc);
         let mut numbers = Vec::new(alloc);
         number_headers(

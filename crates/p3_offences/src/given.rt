@@ -11,6 +11,7 @@ ghost use Rattle.p3_offences.specs.Spots.{step};
 use crate::spot::{Spot, unless};
 use indexmap::IndexSet;
 use p3_base::NoMemory;
+use p3_names::{Key, value_key};
 use p3_tree::{Init, Ref, Term};
 use std::alloc::Global;
 use std::marker::Model;
@@ -18,7 +19,7 @@ use std::marker::Model;
 /// What has a value: a function's name and its objects.
 #[derive(Drop)]
 struct Given<'t> {
-    keys: IndexSet<Vec<&'t [u8]>>,
+    keys: IndexSet<Vec<&'t [u8]>, Key>,
 }
 
 impl<'t> Model for Given<'t> {
@@ -30,12 +31,12 @@ impl<'t> Model for Given<'t> {
 }
 
 impl<'t> Given<'t> {
-    /// Nothing has a value.
-    fn new(alloc: Global) -> Given<'t>
+    /// Nothing has a value. The key is made of all that may be added.
+    fn new(alloc: Global, key: Key) -> Given<'t>
         ensures { result ≡ [] }
     {
         Given {
-            keys: IndexSet::new(alloc),
+            keys: IndexSet::with_hasher(alloc, key),
         }
     }
 
@@ -105,7 +106,7 @@ pub(crate) fn values_repeated(
     ensures { IfOk result (λ least. least ≡ fold step found (repeated_values [] entries.now)) }
 {
     let mut least = found;
-    let mut given = Given::new(alloc);
+    let mut given = Given::new(alloc, value_key(entries));
     for entry in entries {
         least = entry_noted(alloc, least, &mut given, entry)?;
     }

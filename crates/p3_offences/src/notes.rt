@@ -14,7 +14,7 @@ ghost use Rattle.p3_offences.specs.Tables.{IsNumbered, header_of};
 use crate::clashes::clashes_noted;
 use crate::spot::{Found, Spot, unless};
 use crate::tables::{Declared, Tables};
-use crate::worded::Worded;
+use crate::worded::{Worded, word_key};
 use p3_base::{Name, NoMemory};
 use p3_names::{Names, Scope};
 use p3_tree::{Header, Ref, Term, Typed};
@@ -112,7 +112,7 @@ pub(crate) fn words_repeated<T: Worded>(
     ensures { IfOk result (λ least. least ≡ fold step found (repeated (map T.word_of items.now))) }
 {
     let mut least = found;
-    let mut seen = Names::new(alloc);
+    let mut seen = Names::new(alloc, word_key(items));
     for item in items {
         least = word_noted(alloc, least, &mut seen, item.word())?;
     }

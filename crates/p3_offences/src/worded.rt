@@ -1,8 +1,10 @@
 //! Things that have a name where they are declared.
 
-ghost use Rattle.std.specs.Prelude.{◌≡◌};
+ghost use Rattle.std.specs.Prelude.{◌≡◌, map};
 ghost use Rattle.p3_tree.specs.declared.term.Ref.{Ref as Word};
+ghost use Rattle.p3_names.specs.Keys.{start_of};
 
+use p3_names::{Digest, Key};
 use p3_tree::{Action, Header, Ref, Typed};
 
 /// What is declared by a word.
@@ -36,4 +38,15 @@ impl Worded for Action {
     fn word(&self) -> &Ref {
         &self.name
     }
+}
+
+/// The key of the words by which these are declared.
+pub(crate) fn word_key<T: Worded>(items: &[T]) -> Key
+    ensures { result.start ≡ start_of (map (λ item. (T.word_of item).name) items.now) }
+{
+    let mut digest = Digest::new();
+    for item in items {
+        digest.tell(item.word().name.bytes());
+    }
+    digest.key()
 }

@@ -1,5 +1,5 @@
 -- What steps cost, by numbers: amounts, and the values that the initial state gives, in units.
-use Rattle.std.specs.Prelude.{◌≡◌, ℕ, ◌-◌, ◌*◌, ◌^◌, ◌==◌, Bool, true, ◌&&◌, List, map, filter_map, slice_get, if◌then◌else◌, Option, Some, None, bytes_eq}
+use Rattle.std.specs.Prelude.{◌≡◌, ℕ, ◌-◌, ◌*◌, ◌^◌, ◌==◌, Bool, true, ◌&&◌, List, ◌∷◌, map, filter_map, slice_get, if◌then◌else◌, Option, Some, None, bytes_eq}
 use Rattle.std.specs.Option.{option_or}
 use Rattle.std.specs.HashMap.{HashMap, get}
 use denote.Ref.{Bor}
@@ -43,6 +43,10 @@ unfoldable pub cost_of : ℕ → List NumberedValue → Slots → NumberedEffect
 cost_of places values slots effect = total (map (amount_at places values slots) (numbered_increases effect))
 
 -- ---- a table of values
+
+-- a function that is given a value, and its objects
+abbrev pub numbers_in : NumberedValue → List ℕ
+numbers_in value = value.function ∷ value.objects
 
 abbrev pub Key : Type 0
 Key = ℕ × Bor (List ℕ)

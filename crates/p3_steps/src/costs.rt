@@ -1,25 +1,29 @@
 //! Amounts and values in units, and what effects cost.
 
-ghost use Rattle.std.specs.Prelude.{◌≡◌, ◌+◌, ◌≤◌, map, IfOk, OnOk};
+ghost use Rattle.std.specs.Prelude.{◌≡◌, ◌+◌, ◌≤◌, flat_map, map, IfOk, OnOk};
+ghost use Rattle.std.specs.Hash.DefaultHasher as sip;
 ghost use Rattle.p3_tree.specs.Costs.{total};
 ghost use Rattle.p3_numbers.specs.Slots.{value_of as meaning_of, values_of};
+ghost use Rattle.p3_names.specs.Keys.{start_after, told_numbers};
 ghost use Rattle.p3_steps.specs.Costs.{
   AddsValue,
   HasValues,
   amount_at,
   cost_of,
   given_at,
+  numbers_in,
   units_at as units_at_places,
 };
 
 use p3_base::NoMemory;
+use p3_names::{Digest, Key};
 use p3_numbers::{Argument, NumberedAmount, NumberedEffect, NumberedValue};
 use p3_tree::Numeral;
 use std::alloc::Global;
 use std::collections::HashMap;
 
 /// From each function and its objects to the first value that they are given, in units.
-type Table<'t> = HashMap<(u32, &'t [u32]), u128>;
+type Table<'t> = HashMap<(u32, &'t [u32]), u128, Key>;
 
 /// What effects cost: the values that the initial state gives to static functions, looked up by
 /// hashing. Costs are in units of the last of the task's decimal places.
@@ -60,6 +64,26 @@ fn note_value<'t>(
     }
 }
 
+/// A function that is given a value and its objects are told.
+fn tell_value(digest: &mut Digest, value: &NumberedValue)
+    ensures { digest.new.told ≡ told_numbers digest.old.told (numbers_in value.now) }
+{
+    digest.tell_number(value.function);
+    digest.tell_numbers(value.objects.items());
+}
+
+/// The key of the functions and their objects that are given values.
+fn value_key(values: &[NumberedValue]) -> Key
+    ensures { result.start ≡ start_after
+        (told_numbers sip.initial (flat_map numbers_in values.now)) }
+{
+    let mut digest = Digest::new();
+    for value in values {
+        tell_value(&mut digest, value);
+    }
+    digest.key()
+}
+
 /// The table of the values.
 #[tactic(auto, unfolding(crate::specs::Costs::entry_at))]
 fn table_of<'t>(
@@ -70,7 +94,7 @@ fn table_of<'t>(
     requires { places ≤ 6 }
     ensures { IfOk result (λ table. HasValues places values.now table) }
 {
-    let mut table = HashMap::new(alloc);
+    let mut table = HashMap::with_hasher(alloc, value_key(values));
     for value in values {
         note_value(&mut table, places, value)?;
     }

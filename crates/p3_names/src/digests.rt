@@ -1,0 +1,248 @@
+//! The keys of tables whose names are known before the table is filled.
+
+ghost use Rattle.std.specs.Prelude.{◌≡◌, [], ◌++◌, flat_map, map};
+ghost use Rattle.std.specs.Hash.DefaultHasher as sip;
+ghost use Rattle.p3_tree.specs.Offences.{kind_names};
+ghost use Rattle.p3_tree.specs.PreferenceNames.{named_at, named_in_constraint, named_in_domain, named_in_goal, named_in_problem};
+ghost use Rattle.p3_tree.specs.States.{meaning, meanings};
+ghost use Rattle.p3_tree.specs.Types.{declared_objects, names_of};
+ghost use Rattle.p3_names.specs.Keys.{parameter_types, start_after, start_of, told_all, told_more, told_named, value_words};
+
+use crate::{Digest, Key};
+use p3_base::Name;
+use p3_tree::{Action, Constraint, Header, Init, Kind, PreGoal, Ref, Task, Term, Typed};
+
+/// A type and its parent are told.
+fn tell_kind(digest: &mut Digest, kind: &Kind)
+    ensures { digest.new.told ≡ told_all digest.old.told (kind_names kind.now) }
+{
+    digest.tell(kind.name.name.bytes());
+    if let Some(parent) = &kind.parent {
+        digest.tell(parent.name.bytes());
+    }
+}
+
+/// A digest of types and their parents.
+pub fn kind_digest(kinds: &[Kind]) -> Digest
+    ensures { result.told ≡ told_all sip.initial (flat_map kind_names kinds.now) }
+{
+    let mut digest = Digest::new();
+    for kind in kinds {
+        tell_kind(&mut digest, kind);
+    }
+    digest
+}
+
+/// The key of the names of a task's constants and objects.
+pub fn object_key(task: &Task) -> Key
+    ensures { result.start
+        ≡ start_of (map (λ item. item.name.name) (declared_objects task.now)) }
+{
+    let mut digest = Digest::new();
+    digest.tell_declared(task.domain.constants.items());
+    digest.tell_declared(task.problem.objects.items());
+    digest.key()
+}
+
+/// The key of names.
+pub fn name_key(names: &[&Name]) -> Key
+    ensures { result.start ≡ start_of (map (λ name. name.now) names.now) }
+{
+    let mut digest = Digest::new();
+    for name in names {
+        digest.tell(name.bytes());
+    }
+    digest.key()
+}
+
+/// The key of listed names.
+pub fn listed_key(names: &[Name]) -> Key
+    ensures { result.start ≡ start_of names.now }
+{
+    let mut digest = Digest::new();
+    for name in names {
+        digest.tell(name.bytes());
+    }
+    digest.key()
+}
+
+/// The key of the names of what is declared.
+pub fn item_key(items: &[&Typed]) -> Key
+    ensures { result.start ≡ start_of (map (λ item. item.now.name.name) items.now) }
+{
+    let mut digest = Digest::new();
+    for item in items {
+        digest.tell(item.name.name.bytes());
+    }
+    digest.key()
+}
+
+/// The key of lists of types.
+pub fn list_key(lists: &[&[Ref]]) -> Key
+    ensures { result.start ≡ start_of (flat_map (λ types. names_of types.now) lists.now) }
+{
+    let mut digest = Digest::new();
+    for types in lists {
+        digest.tell_types(*types);
+    }
+    digest.key()
+}
+
+/// The types of parameters are told.
+fn tell_parameters(digest: &mut Digest, parameters: &[Typed])
+    ensures { digest.new.told ≡ told_all digest.old.told (parameter_types parameters.now) }
+{
+    for parameter in parameters {
+        digest.tell_types(parameter.types.items());
+    }
+}
+
+/// The types of the parameters of headers are told.
+fn tell_headers(digest: &mut Digest, headers: &[Header])
+    ensures { digest.new.told ≡ told_all digest.old.told
+        (flat_map (λ header. parameter_types header.params) headers.now) }
+{
+    for header in headers {
+        tell_parameters(digest, header.params.items());
+    }
+}
+
+/// The key of the lists of types of the parameters of predicates and functions.
+pub fn parameter_key(task: &Task) -> Key
+    ensures { result.start ≡ start_of
+        (flat_map (λ header. parameter_types header.params) task.now.domain.predicates
+        ++ flat_map (λ header. parameter_types header.params) task.now.domain.functions) }
+{
+    let mut digest = Digest::new();
+    tell_headers(&mut digest, task.domain.predicates.items());
+    tell_headers(&mut digest, task.domain.functions.items());
+    digest.key()
+}
+
+/// What a term of the initial state means is told.
+fn tell_term(digest: &mut Digest, term: &Term)
+    ensures { digest.new.told ≡ told_more digest.old.told (meaning [] term.now) }
+{
+    match term {
+        Term::Var(variable) => digest.tell(variable.name.bytes()),
+        Term::Const(object) => digest.tell(object.name.bytes()),
+    }
+}
+
+/// What terms of the initial state mean is told.
+fn tell_terms(digest: &mut Digest, terms: &[Term])
+    ensures { digest.new.told ≡ told_all digest.old.told (meanings [] terms.now) }
+{
+    for term in terms {
+        tell_term(digest, term);
+    }
+}
+
+/// The function and its objects are told, where an entry gives them a value.
+fn tell_value(digest: &mut Digest, entry: &Init)
+    ensures { digest.new.told ≡ told_all digest.old.told (value_words entry.now) }
+{
+    match entry {
+        Init::True { .. } => {}
+        Init::False { .. } => {}
+        Init::Value { function, args, .. } => {
+            digest.tell(function.name.bytes());
+            tell_terms(digest, args.items());
+        }
+    }
+}
+
+/// The key of the functions with their objects that are given values.
+pub fn value_key(entries: &[Init]) -> Key
+    ensures { result.start ≡ start_of (flat_map value_words entries.now) }
+{
+    let mut digest = Digest::new();
+    for entry in entries {
+        tell_value(&mut digest, entry);
+    }
+    digest.key()
+}
+
+/// A preference's name is told, where it has one.
+fn tell_name(digest: &mut Digest, at: u32, name: &Option<Ref>)
+    ensures { digest.new.told ≡ told_named digest.old.told (named_at at name.now) }
+{
+    if let Some(word) = name {
+        digest.tell(word.name.bytes());
+    }
+}
+
+/// The names of the preferences of a constraint are told.
+#[cycle(constraints)]
+#[tactic(auto, using(crate::proofs::PreferenceLemmas::preference_laws))]
+fn tell_constraint(digest: &mut Digest, constraint: &Constraint)
+    ensures { digest.new.told ≡ told_named digest.old.told (named_in_constraint constraint.now) }
+{
+    match constraint {
+        Constraint::Both(parts) => tell_constraints(digest, parts.items()),
+        Constraint::Each(_, body) => tell_constraint(digest, body.get()),
+        Constraint::Single(_) => {}
+        Constraint::Soft { at, name, body } => {
+            tell_name(digest, *at, name);
+            tell_constraint(digest, body.get());
+        }
+    }
+}
+
+/// The names of the preferences of each constraint are told.
+#[cycle(constraints)]
+fn tell_constraints(digest: &mut Digest, parts: &[Constraint])
+    ensures { digest.new.told
+        ≡ told_named digest.old.told (flat_map named_in_constraint parts.now) }
+{
+    for part in parts {
+        tell_constraint(digest, part);
+    }
+}
+
+/// The names of the preferences of a goal are told.
+#[cycle(goals)]
+#[tactic(auto, using(crate::proofs::PreferenceLemmas::preference_laws))]
+fn tell_goal(digest: &mut Digest, goal: &PreGoal)
+    ensures { digest.new.told ≡ told_named digest.old.told (named_in_goal goal.now) }
+{
+    match goal {
+        PreGoal::Plain(_) => {}
+        PreGoal::Both(parts) => tell_goals(digest, parts.items()),
+        PreGoal::Each(_, body) => tell_goal(digest, body.get()),
+        PreGoal::Soft(pref) => tell_name(digest, pref.at, &pref.name),
+    }
+}
+
+/// The names of the preferences of each goal are told.
+#[cycle(goals)]
+fn tell_goals(digest: &mut Digest, parts: &[PreGoal])
+    ensures { digest.new.told ≡ told_named digest.old.told (flat_map named_in_goal parts.now) }
+{
+    for part in parts {
+        tell_goal(digest, part);
+    }
+}
+
+/// The names of the preferences of each precondition are told.
+fn tell_actions(digest: &mut Digest, actions: &[Action])
+    ensures { digest.new.told ≡ told_named digest.old.told
+        (flat_map (λ action. named_in_goal action.pre.body) actions.now) }
+{
+    for action in actions {
+        tell_goal(digest, &action.pre.body);
+    }
+}
+
+/// The key of the names of a task's preferences.
+pub fn preference_key(task: &Task) -> Key
+    ensures { result.start ≡ start_after (told_named sip.initial
+        (named_in_domain task.now.domain ++ named_in_problem task.now.problem)) }
+{
+    let mut digest = Digest::new();
+    tell_constraint(&mut digest, &task.domain.constraints.body);
+    tell_actions(&mut digest, task.domain.actions.items());
+    tell_constraint(&mut digest, &task.problem.constraints.body);
+    tell_goal(&mut digest, &task.problem.goal.body);
+    digest.key()
+}
