@@ -3,3 +3,6 @@ pub mod ScopeLemmas
 pub mod KindLemmas
 pub mod SearchLemmas
 pub mod ObjectLemmas
+pub mod ReachLemmas
+pub mod SpanLemmas
+pub mod PlaceLemmas

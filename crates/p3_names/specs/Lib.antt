@@ -2,3 +2,7 @@ pub mod Names
 pub mod Scopes
 pub mod Kinds
 pub mod Objects
+pub mod Walks
+pub mod Nexts
+pub mod Reaches
+pub mod Spans

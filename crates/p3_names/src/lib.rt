@@ -4,8 +4,12 @@
 mod kinds;
 mod names;
 mod objects;
+mod order;
+mod reaches;
 mod scope;
+mod span;
 mod type_lists;
+mod walk;
 mod words;
 
 pub use kinds::{Below, Kinds};
