@@ -4,3 +4,6 @@ pub mod KindLemmas
 pub mod SearchLemmas
 pub mod ObjectLemmas
 pub mod PreferenceLemmas
+pub mod ReachLemmas
+pub mod SpanLemmas
+pub mod PlaceLemmas

@@ -15,9 +15,8 @@ use Rattle.p3_tree.specs.Types.{declared_pairs, below, type_names, names_of, is_
 use Rattle.p3_tree.specs.declared.task.Task.{Task}
 use Rattle.p3_tree.proofs.MeaningLemmas.{list_any-map}
 use Rattle.p3_tree.proofs.BelowLemmas.{below_is_the_closure}
-use Rattle.p3_tree.specs.Laws.{Chain, none, step}
 use Rattle.p3_names.specs.Names.{with_name, with_names}
-use Rattle.p3_names.specs.Kinds.{lows_under, IsLed, IsDownFrom, IsSearched}
+use Rattle.p3_names.specs.Kinds.{lows_under}
 use Rattle.p3_names.proofs.NameLemmas.{same-swap, or-false}
 use Rattle.p3_names.proofs.ScopeLemmas.{same-name}
 
@@ -32,25 +31,25 @@ contains-has names name has = Contains-from_any (λ one other. (bytes_eq-Decides
 -- ---- names more
 
 -- the new list begins with the old one
-record Continues (old new : List Name) : Type 0 where
-  more : List Name
-  is : new ≡ old ++ more
+pub record Continues (old new : List Name) : Type 0 where
+  pub more : List Name
+  pub is : new ≡ old ++ more
 
-continues-one : (old : List Name) (name : Name) → Continues old (with_name old name)
+pub continues-one : (old : List Name) (name : Name) → Continues old (with_name old name)
 continues-one old name = by (has_name old name)
   where
     by : (has : Bool) → Continues old (if has then old else old ++ name ∷ [])
     by true = record { more = []; is = sym (append-nil old) }
     by false = record { more = name ∷ []; is = refl }
 
-continues-all : (old names : List Name) → Continues old (with_names old names)
+pub continues-all : (old names : List Name) → Continues old (with_names old names)
 continues-all old [] = record { more = []; is = sym (append-nil old) }
 continues-all old (name ∷ names) =
     let one = continues-one old name in
     let rest = continues-all (with_name old name) names in
     record { more = one.more ++ rest.more; is = rest.is ∙ ap (λ front. front ++ rest.more) one.is ∙ append_assoc old one.more rest.more }
 
-kept : (old new : List Name) (name : Name) → Continues old new → Contains old name → Contains new name
+pub kept : (old new : List Name) (name : Name) → Continues old new → Contains old name → Contains new name
 kept old new name continues here = subst (λ names. Contains names name) (sym continues.is) (Contains-append_left old continues.more name here)
 
 has-new : (old : List Name) (name : Name) → Contains (with_name old name) name
@@ -77,7 +76,7 @@ all-with P old (name ∷ names) before more = all-with P (with_name old name) na
 -- ---- types declared directly below another
 
 module _ (high : Name) where
-  low-filed : (pairs : List (Name × Name)) (low : Name) → Contains pairs (low, high) → Contains (lows_under pairs high) low
+  pub low-filed : (pairs : List (Name × Name)) (low : Name) → Contains pairs (low, high) → Contains (lows_under pairs high) low
   low-filed [] low (k, within, is) = absurd (omega (arith, within))
   low-filed (pair ∷ pairs) low here = ⊎_elim
       (λ first. ⊎_elim (λ (k, within, is). absurd (omega (arith, within)))
@@ -88,7 +87,7 @@ module _ (high : Name) where
       (λ later. Contains-append_right (if same_name pair.1 high then pair.0 ∷ [] else []) (lows_under pairs high) low (low-filed pairs low later))
       (Contains-append_cases (pair ∷ []) pairs (low, high) here)
 
-  filed-lows : (pairs : List (Name × Name)) → All (λ low. Contains pairs (low, high)) (lows_under pairs high)
+  pub filed-lows : (pairs : List (Name × Name)) → All (λ low. Contains pairs (low, high)) (lows_under pairs high)
   filed-lows [] = All-nil _
   filed-lows (pair ∷ pairs) = All-append (λ low. Contains (pair ∷ pairs) (low, high)) (if same_name pair.1 high then pair.0 ∷ [] else []) (lows_under pairs high)
       (by (same_name pair.1 high) refl)
@@ -99,82 +98,18 @@ module _ (high : Name) where
           (subst (λ name. Contains (pair ∷ pairs) (pair.0, name)) ((bytes_eq-Decides pair.1 high).0 is) (Contains-append_left (pair ∷ []) pairs pair (Contains-push [] pair)))
       by false is = All-nil _
 
--- ---- the search
-
-module _ (pairs : List (Name × Name)) (highs : List Name) where
-  pub searched-none : IsSearched pairs highs 0 (with_names [] highs)
-  searched-none = record {
-    led = all-with (IsLed pairs highs) [] highs (All-nil _)
-        (All-weaker (Contains highs) (IsLed pairs highs) (λ high here. record { high = high; listed = here; chain = none high }) highs (All-contains_itself highs));
-    listed = all-new [] highs;
-    done = λ low high pair (k, within, is). absurd (omega (arith, within));
-  }
-
-  pub searched-more : (at : ℕ) (found new : List Name) (high : Name) → at < length found → high ≡ get_or found at high → new ≡ with_names found (lows_under pairs high)
-      → IsSearched pairs highs at found → IsSearched pairs highs (at + 1) new
-  searched-more at found new high within read is before = subst (IsSearched pairs highs (at + 1)) (sym is) (record {
-    led = all-with (IsLed pairs highs) found (lows_under pairs high) before.led (All-weaker (λ low. Contains pairs (low, high)) (IsLed pairs highs)
-        (λ low here. record { high = above.high; listed = above.listed; chain = step low high above.high here above.chain }) (lows_under pairs high) (filed-lows high pairs));
-    listed = All-weaker (Contains found) (Contains longer) (λ name here. kept found longer name continues here) highs before.listed;
-    done = λ low other pair passed. ⊎_elim
-        (λ earlier. kept found longer low continues (before.done low other pair earlier))
-        (λ now. All-contains (Contains longer) (lows_under pairs other) low (subst (λ one. All (Contains longer) (lows_under pairs one)) now (all-new found (lows_under pairs high))) (low-filed other pairs low pair))
-        (Contains-push_cases (take at found) high other (subst (λ names. Contains names other) front passed));
-  })
-    where
-      longer : List Name
-      longer = with_names found (lows_under pairs high)
-
-      continues : Continues found (with_names found (lows_under pairs high))
-      continues = continues-all found (lows_under pairs high)
-
-      above : IsLed pairs highs high
-      above = subst (IsLed pairs highs) (sym read) (All-get_or (IsLed pairs highs) found at high within before.led)
-
-      front : take (at + 1) (with_names found (lows_under pairs high)) ≡ take at found ++ high ∷ []
-      front = ap (take (at + 1)) continues.is ∙ take-append-le (at + 1) found continues.more (omega (arith, within)) ∙ take_more found at high within ∙ ap (λ one. take at found ++ one ∷ []) (sym read)
-
-  pub searched-all : (count : ℕ) (found : List Name) → length found ≤ count → IsSearched pairs highs count found → IsDownFrom pairs highs found
-  searched-all count found all before = record {
-    led = before.led;
-    all = λ low led. reached led.chain (All-contains (Contains found) highs led.high before.listed led.listed);
-  }
-    where
-      reached : {low high : Name} → Chain pairs low high → Contains found high → Contains found low
-      reached (none kind) here = here
-      reached (step low middle high pair more) here = before.done low middle pair (subst (λ names. Contains names middle) (sym (take_all count found all)) (reached more here))
-
--- ---- what was found is below
-
-same : (a b : Bool) → (a ≡ true → b ≡ true) → (b ≡ true → a ≡ true) → a ≡ b
+pub same : (a b : Bool) → (a ≡ true → b ≡ true) → (b ≡ true → a ≡ true) → a ≡ b
 same true b there back = sym (there refl)
 same false true there back = back refl
 same false false there back = refl
 
-some-passes : {A : Type 0} (test : A → Bool) (xs : List A) (x : A) → Contains xs x → test x ≡ true → list_any test xs ≡ true
+pub some-passes : {A : Type 0} (test : A → Bool) (xs : List A) (x : A) → Contains xs x → test x ≡ true → list_any test xs ≡ true
 some-passes test xs x (k, within, is) passes = list_any_at test xs k x within (ap test is ∙ passes)
-
-below-found : (T : Task) (highs found : List Name) (low : Name) → has_name highs object_type ≡ false → IsDownFrom (declared_pairs T) highs found
-    → has_name found low ≡ list_any (λ high. below T low high) highs
-below-found T highs found low no_top down = same (has_name found low) (list_any (λ high. below T low high) highs)
-    (λ has. let led = All-contains (IsLed (declared_pairs T) highs) found low down.led (contains-has found low has) in
-    some-passes (λ high. below T low high) highs led.high led.listed ((below_is_the_closure T low led.high).1 (inr led.chain)))
-    (λ is_below. let (k, high, within, at, holds) = Any-from_list_any (λ high. below T low high) highs is_below in
-    has-contains found low (down.all low (led high (k, within, at) ((below_is_the_closure T low high).0 holds))))
-  where
-    led : (high : Name) → Contains highs high → (high ≡ object_type) ⊎ Chain (declared_pairs T) low high → IsLed (declared_pairs T) highs low
-    led high here (inl top) = absurd (false≢true (sym no_top ∙ has-contains highs object_type (subst (Contains highs) top here)))
-    led high here (inr chain) = record { high = high; listed = here; chain = chain }
 
 -- every type is below `object`
 pub below-top : (T : Task) (types : List Ref) (low : Name) → has_name (type_names types) object_type ≡ true → is_below_some T types low ≡ true
 below-top T types low has =
     some-passes (λ high. below T low high) (type_names types) object_type (contains-has (type_names types) object_type has) ((below_is_the_closure T low object_type).1 (inl refl))
-
-pub below-listed : (T : Task) (types : List Ref) (found : List Name) (low : Name) → has_name (type_names types) object_type ≡ false → IsDownFrom (declared_pairs T) (names_of types) found
-    → has_name found low ≡ is_below_some T types low
-below-listed T [] found low no_top down = absurd (false≢true (sym no_top ∙ has-contains (object_type ∷ []) object_type (Contains-push [] object_type)))
-below-listed T (first ∷ others) found low no_top down = below-found T (names_of (first ∷ others)) found low no_top down
 
 -- ---- lists of types, of which the empty one stands for `object`
 

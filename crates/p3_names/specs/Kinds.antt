@@ -43,17 +43,6 @@ pub record IsLed (pairs : List (Name × Name)) (highs : List Name) (low : Name) 
   pub listed : Contains highs high
   pub chain : Chain pairs low high
 
--- the types that pairs lead from, and no others
-pub record IsDownFrom (pairs : List (Name × Name)) (highs found : List Name) : Type 0 where
-  pub led : All (IsLed pairs highs) found
-  pub all : (low : Name) → IsLed pairs highs low → Contains found low
-
--- what is declared directly below the first ones was found
-pub record IsSearched (pairs : List (Name × Name)) (highs : List Name) (count : ℕ) (found : List Name) : Type 0 where
-  pub led : All (IsLed pairs highs) found
-  pub listed : All (Contains found) highs
-  pub done : (low high : Name) → Contains pairs (low, high) → Contains (take count found) high → Contains found low
-
 -- the test tells which types are below one of those listed
 abbrev pub IsBelowTest : Task → List Ref → (Name → Bool) → Type 0
 IsBelowTest T types test = (name : Name) → test name ≡ is_below_some T types name

@@ -3,3 +3,7 @@ pub mod Scopes
 pub mod Kinds
 pub mod Objects
 pub mod Keys
+pub mod Walks
+pub mod Nexts
+pub mod Reaches
+pub mod Spans

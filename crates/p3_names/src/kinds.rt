@@ -6,17 +6,20 @@ ghost use Rattle.std.specs.List.{list_any, list_all};
 ghost use Rattle.p3_tree.specs.Names.{same_name, has_name, object_type};
 ghost use Rattle.p3_tree.specs.Types.{declared_pairs, names_of, type_names, is_below_some};
 ghost use Rattle.p3_names.specs.Names.{with_names};
-ghost use Rattle.p3_names.specs.Kinds.{AreFiled, Files, FilesKind, IsDownFrom, IsBelowTest, lows_under};
+ghost use Rattle.p3_names.specs.Kinds.{AreFiled, Files, FilesKind, IsBelowTest, lows_under};
+ghost use Rattle.p3_names.specs.Spans.{AreSpans, IsDownFrom, IsFollowed, is_found, is_in};
+ghost use Rattle.p3_names.specs.Walks.{place_of};
 
+use crate::order::Order;
+use crate::span::{Span, is_spanned};
+use crate::walk::{Filed, Lows};
 use crate::words::Words;
 use crate::{Digest, Key, kind_digest};
 use p3_base::{List, Name, NoMemory};
 use p3_tree::{Kind, Ref, Task};
 use std::alloc::Global;
 use std::collections::HashMap;
-
-/// From each type to those that are declared directly below it.
-type Lows<'t> = HashMap<&'t [u8], List<&'t [u8]>, Key>;
+use std::rc::Rc;
 
 /// A type is declared directly below another.
 fn file<'t>(
@@ -67,13 +70,18 @@ fn filed<'t>(alloc: Global, kinds: &'t [Kind], key: Key) -> Result<Lows<'t>, NoM
     Ok(lows)
 }
 
+/// How many spans of types a search takes.
+const MOST_SPANS: usize = 16;
+
 /// The types that a task declares, each with those directly below it.
 #[derive(Drop)]
 pub struct Kinds<'t> {
     task: &'t Task,
     lows: Lows<'t>,
     digest: Digest,
+    order: Rc<Order<'t>>,
     ghost filed: { AreFiled task.now.domain.kinds (get (λ x y. bytes_eq x.now y.now) lows) },
+    ghost ordered: { order.value.kinds.now ≡ task.now.domain.kinds },
 }
 
 impl<'t> Kinds<'t> {
@@ -81,40 +89,83 @@ impl<'t> Kinds<'t> {
     pub fn of(alloc: Global, task: &'t Task) -> Result<Kinds<'t>, NoMemory>
         ensures { IfOk result (λ kinds. kinds.task.now ≡ task.now) }
     {
-        let digest = kind_digest(task.domain.kinds.items());
-        let lows = filed(alloc, task.domain.kinds.items(), digest.key())?;
-        Ok(Kinds { task, lows, digest })
+        let kinds = task.domain.kinds.items();
+        let digest = kind_digest(kinds);
+        let lows = filed(alloc, kinds, digest.key())?;
+        let filed = Filed {
+            kinds,
+            lows: &lows,
+            key: digest.key(),
+        };
+        let order = Order::of(alloc, &filed)?;
+        Ok(Kinds {
+            task,
+            lows,
+            digest,
+            order: Rc::new(alloc, order)?,
+        })
     }
 
-    /// Which types are below one of the listed ones; no type stands for `object`. Each declared
-    /// pair is looked at once at most.
+    /// Which types are below one of the listed ones; no type stands for `object`. Where those
+    /// below a type stand together they are taken at once, as long as these are few; else each
+    /// declared pair is looked at once at most.
     pub fn below_some(&self, alloc: Global, types: &'t [Ref]) -> Result<Below<'t>, NoMemory>
         ensures task { IfOk result (λ below. below.task.now ≡ self.now.task.now) }
         ensures types { IfOk result (λ below. below.types.now ≡ types.now) }
     {
+        let order = self.order.clone()?;
         if has_object(types) {
-            return Ok(all_types(alloc, self.task, types));
+            return Ok(all_types(alloc, self.task, types, order));
         }
-        let found = self.down_from(alloc, types)?;
+        let Down { found, spans } = self.down_from(alloc, types)?;
         Ok(Below {
             task: self.task,
             types,
             all: false,
             found,
+            spans,
+            order,
         })
     }
 
     /// The types that declared pairs lead from, down from the listed ones.
-    fn down_from(&self, alloc: Global, types: &'t [Ref]) -> Result<Words<'t>, NoMemory>
-        ensures { IfOk result (IsDownFrom (declared_pairs self.now.task.now) (names_of types.now)) }
+    fn down_from(&self, alloc: Global, types: &'t [Ref]) -> Result<Down<'t>, NoMemory>
+        ensures { AreSpans (declared_pairs self.now.task.now)
+            self.now.order.value.names self.now.order.value.spans.items
+            → IfOk result (λ down. IsDownFrom (declared_pairs self.now.task.now)
+            self.now.order.value.names (names_of types.now) down.found down.spans.items) }
     {
         let mut found = listed(alloc, types, self.digest)?;
+        let mut spans = Vec::new(alloc);
         let mut at = 0;
         while at < found.len() {
-            self.add_lows(&mut found, at)?;
+            self.follow(&mut found, &mut spans, at)?;
             at += 1;
         }
-        Ok(found)
+        Ok(Down { found, spans })
+    }
+
+    /// All that is below the type at a place is taken at once, or else what is directly below it is
+    /// found too.
+    fn follow(
+        &self,
+        found: &mut Words<'t>,
+        spans: &mut Vec<Span>,
+        place: usize,
+    ) -> Result<(), NoMemory>
+        requires { place < length found.old }
+        ensures { OnOk result (IsFollowed (declared_pairs self.now.task.now)
+            self.now.order.value.names self.now.order.value.spans.items
+            (slice_index_or found.old place [])
+            found.old spans.old.items found.new spans.new.items) }
+    {
+        match self.order.span_at(found.at(place)) {
+            Some(span) if spans.len() < MOST_SPANS => {
+                spans.push(span)?;
+                Ok(())
+            }
+            _ => self.add_lows(found, place),
+        }
     }
 
     /// What is declared directly below the type at a place is found too.
@@ -165,6 +216,13 @@ fn has_object(types: &[Ref]) -> bool
     types.len() == 0 || lists_object(types)
 }
 
+/// What a search down has found: types one by one, and types that stand together.
+#[derive(Drop)]
+struct Down<'t> {
+    found: Words<'t>,
+    spans: Vec<Span>,
+}
+
 /// The types below some that are listed.
 #[derive(Drop)]
 pub struct Below<'t> {
@@ -172,11 +230,19 @@ pub struct Below<'t> {
     types: &'t [Ref],
     all: bool,
     found: Words<'t>,
-    ghost told: { IsBelowTest task.now types.now (λ name. all || has_name found name) },
+    spans: Vec<Span>,
+    order: Rc<Order<'t>>,
+    ghost told: { IsBelowTest task.now types.now
+        (λ name. all || is_found order.value.names found spans.items name) },
 }
 
 /// Every type is below the listed ones.
-fn all_types<'t>(alloc: Global, task: &'t Task, types: &'t [Ref]) -> Below<'t>
+fn all_types<'t>(
+    alloc: Global,
+    task: &'t Task,
+    types: &'t [Ref],
+    order: Rc<Order<'t>>,
+) -> Below<'t>
     requires { has_name (type_names types.now) object_type ≡ true }
     ensures task { result.task.now ≡ task.now }
     ensures types { result.types.now ≡ types.now }
@@ -186,6 +252,8 @@ fn all_types<'t>(alloc: Global, task: &'t Task, types: &'t [Ref]) -> Below<'t>
         types,
         all: true,
         found: Words::new(alloc, Digest::new().key()),
+        spans: Vec::new(alloc),
+        order,
     }
 }
 
@@ -201,7 +269,23 @@ impl<'t> Below<'t> {
     fn has_word(&self, kind: &[u8]) -> bool
         ensures { result ≡ is_below_some self.now.task.now self.now.types.now kind.now }
     {
-        self.all || self.found.has(kind)
+        self.all || self.is_found(kind)
+    }
+
+    /// Whether the type was found, or is among those that stand together.
+    fn is_found(&self, kind: &[u8]) -> bool
+        ensures { result
+            ≡ is_found self.now.order.value.names self.now.found self.now.spans.items kind.now }
+    {
+        self.found.has(kind) || self.is_spanned(kind)
+    }
+
+    /// Whether the type is among those that stand together.
+    fn is_spanned(&self, kind: &[u8]) -> bool
+        ensures { result ≡ list_any
+            (is_in (place_of self.now.order.value.names kind.now)) self.now.spans.items }
+    {
+        is_spanned(&self.spans, self.order.place(kind))
     }
 
     /// Whether one of these types is below one of the listed ones; no type stands for `object`.

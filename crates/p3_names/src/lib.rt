@@ -6,8 +6,12 @@ mod keys;
 mod kinds;
 mod names;
 mod objects;
+mod order;
+mod reaches;
 mod scope;
+mod span;
 mod type_lists;
+mod walk;
 mod words;
 
 pub use digests::{

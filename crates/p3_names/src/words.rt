@@ -3,6 +3,7 @@
 ghost use Rattle.std.specs.Prelude.{◌≡◌, ◌<◌, [], Some, length, map, slice_get, OnOk};
 ghost use Rattle.p3_tree.specs.Names.{has_name};
 ghost use Rattle.p3_names.specs.Names.{with_name, with_names};
+ghost use Rattle.p3_names.specs.Walks.{place_of};
 
 use crate::Key;
 use indexmap::IndexSet;
@@ -54,6 +55,16 @@ impl<'t> Words<'t> {
         ensures { slice_get self.now place ≡ Some result.now }
     {
         self.keys.as_slice()[place]
+    }
+
+    /// The place of a word, which is their number where it has none.
+    pub(crate) fn place(&self, word: &[u8]) -> usize
+        ensures { result ≡ place_of self.now word.now }
+    {
+        match self.keys.get_index_of(word) {
+            None => self.len(),
+            Some(place) => place,
+        }
     }
 
     /// The word goes last if it is new.
