@@ -208,11 +208,13 @@ pub reached-none : (pairs : List (Name × Name)) (names : List Name) (reaches : 
 reached-none pairs names reaches long = record { long = long; reached = λ k d from upto. absurd (omega (arith, from, upto)) }
 
 pub tops-more : (pairs : List (Name × Name)) (names : List Name) (tops : List ℕ) (top : ℕ) → AreTops pairs names tops → IsTop pairs names (length tops) top → AreTops pairs names (tops ++ top ∷ [])
-tops-more pairs names tops top before is_top = record { each = λ place within. ⊎_elim
-    (λ earlier. subst (IsTop pairs names place) (sym (get_or_append_left tops (top ∷ []) 0 place earlier)) (before.each place earlier))
-    (λ late. let is : length tops ≡ place = omega (arith, late, within, length_push tops top) in
-    subst (IsTop pairs names place) (sym (get_or_push tops top 0 place is)) (subst (λ at. IsTop pairs names at top) is is_top))
-    (cases_lt place (length tops)) }
+tops-more pairs names tops top before is_top = record {
+  each = λ place within. ⊎_elim
+      (λ earlier. subst (IsTop pairs names place) (sym (get_or_append_left tops (top ∷ []) 0 place earlier)) (before.each place earlier))
+      (λ late. let is : length tops ≡ place = omega (arith, late, within, length_push tops top) in
+      subst (IsTop pairs names place) (sym (get_or_push tops top 0 place is)) (subst (λ at. IsTop pairs names at top) is is_top))
+      (cases_lt place (length tops));
+}
 
 get-push : {A : Type 0} (xs : List A) (y x : A) (k : ℕ) → slice_get (xs ++ y ∷ []) k ≡ Some x → (slice_get xs k ≡ Some x) ⊎ ((k ≡ length xs) × (y ≡ x))
 get-push [] y x zero at = inr (refl, Some-injective y x at)
@@ -225,10 +227,12 @@ spans-none pairs names = record { each = λ place span at. absurd (cc) }
 
 pub spans-more : (pairs : List (Name × Name)) (names : List Name) (spans : List (Option Span)) (one : Option Span) → AreSpans pairs names spans
     → IfSome one (λ span. IsSpan pairs names (length spans) span.first span.end) → AreSpans pairs names (spans ++ one ∷ [])
-spans-more pairs names spans one before told = record { each = λ place span at. ⊎_elim
-    (λ here. before.each place span here)
-    (λ (is, same). subst (λ at. IsSpan pairs names at span.first span.end) (sym is) (subst (λ one. IfSome one (λ span. IsSpan pairs names (length spans) span.first span.end)) same told))
-    (get-push spans one (Some span) place at) }
+spans-more pairs names spans one before told = record {
+  each = λ place span at. ⊎_elim
+      (λ here. before.each place span here)
+      (λ (is, same). subst (λ at. IsSpan pairs names at span.first span.end) (sym is) (subst (λ one. IfSome one (λ span. IsSpan pairs names (length spans) span.first span.end)) same told))
+      (get-push spans one (Some span) place at);
+}
 
 pub tops-before : (place : ℕ) (tops more : List ℕ) (top : ℕ) → length tops ≡ place → more ≡ tops ++ top ∷ [] → ((k : ℕ) → k < length tops → get_or tops k 0 ≤ k) → top ≤ place
     → (k : ℕ) → k < length more → get_or more k 0 ≤ k

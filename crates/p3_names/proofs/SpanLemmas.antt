@@ -64,9 +64,11 @@ module _ (pairs : List (Name × Name)) (names highs : List Name) where
   searched-span at found spans high span exact within read before = record {
     led = before.led;
     listed = before.listed;
-    spans_led = All-push (AreLed pairs names highs) spans span before.spans_led (record { each = λ low inside.
-        let between = in-bounds (place_of names low) span inside in
-        record { high = above.high; listed = above.listed; chain = chained (exact.chains high low refl between.0 between.1) above.chain } });
+    spans_led = All-push (AreLed pairs names highs) spans span before.spans_led (record {
+      each = λ low inside.
+          let between = in-bounds (place_of names low) span inside in
+          record { high = above.high; listed = above.listed; chain = chained (exact.chains high low refl between.0 between.1) above.chain };
+    });
     done = λ low other pair passed. ⊎_elim
         (λ earlier. ⊎_elim (λ here. inl here) (λ spanned. inr (spanned-more spans span other spanned)) (before.done low other pair earlier))
         (λ now. inr (subst (IsSpanned pairs names (spans ++ span ∷ [])) now (record {

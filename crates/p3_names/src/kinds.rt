@@ -237,12 +237,7 @@ pub struct Below<'t> {
 }
 
 /// Every type is below the listed ones.
-fn all_types<'t>(
-    alloc: Global,
-    task: &'t Task,
-    types: &'t [Ref],
-    order: Rc<Order<'t>>,
-) -> Below<'t>
+fn all_types<'t>(alloc: Global, task: &'t Task, types: &'t [Ref], order: Rc<Order<'t>>) -> Below<'t>
     requires { has_name (type_names types.now) object_type ≡ true }
     ensures task { result.task.now ≡ task.now }
     ensures types { result.types.now ≡ types.now }

@@ -126,11 +126,7 @@ fn reach_of(filed: &Filed, walk: &Walk, reaches: &[Reach], place: usize) -> Reac
 }
 
 /// What a walk reached from each of its types.
-pub(crate) fn reaches_of(
-    alloc: Global,
-    filed: &Filed,
-    walk: &Walk,
-) -> Result<Vec<Reach>, NoMemory>
+pub(crate) fn reaches_of(alloc: Global, filed: &Filed, walk: &Walk) -> Result<Vec<Reach>, NoMemory>
     requires { IsWalked (filter_map pair_of filed.now.kinds.now)
         walk.now.names walk.now.from.items }
     ensures { IfOk result (λ reaches. AreReached (filter_map pair_of filed.now.kinds.now)

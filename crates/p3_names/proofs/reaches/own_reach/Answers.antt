@@ -19,6 +19,6 @@ returns-in-Some-clause-own c =
     let pairs = filter_map pair_of c.args.filed.now.kinds.now in
     let here : kind_at c.args.names.now c.args.place ≡ c.at.result.now = got-at c.args.names.now c.args.place c.at.result.now [] c.at.ensures in
     let listed : map (λ low. low.now) c.items.result.now ≡ lows_under pairs (kind_at c.args.names.now c.args.place) =
-        ap (map (λ low. low.now)) c.items.ensures ∙ ap words_in c.in-Some.ensures.value ∙ c.args.filed.now.filed c.at.result ∙ ap (lows_under pairs) (sym here) in
+    ap (map (λ low. low.now)) c.items.ensures ∙ ap words_in c.in-Some.ensures.value ∙ c.args.filed.now.filed c.at.result ∙ ap (lows_under pairs) (sym here) in
     subst (λ lows. IsOwn pairs c.args.names.now c.args.place lows c.with_lows.result.least c.with_lows.result.most) listed
     (c.with_lows.ensures.own pairs c.requires.within (lows-listed pairs (kind_at c.args.names.now c.args.place) c.items.result.now listed) (own-none pairs c.args.names.now c.args.place))

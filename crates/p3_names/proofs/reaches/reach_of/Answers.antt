@@ -22,7 +22,7 @@ loop-reach-preserved c =
     let nothing : Reach = record { end = 0; least = 0; most = 0 } in
     let next = get_or c.args.reaches.now reach.end nothing in
     let goes : (reach.end < length from) × (c.args.place ≤ get_or from reach.end 0) × (get_or from reach.end 0 < reach.end) =
-        subst (λ (from : List ℕ). (reach.end < length from) × (c.args.place ≤ get_or from reach.end 0) × (get_or from reach.end 0 < reach.end)) c.deref.ensures.value (c.goes_on.ensures c.loop-reach-test.true) in
+    subst (λ (from : List ℕ). (reach.end < length from) × (c.args.place ≤ get_or from reach.end 0) × (get_or from reach.end 0 < reach.end)) c.deref.ensures.value (c.goes_on.ensures c.loop-reach-test.true) in
     let known = c.requires.known.reached reach.end nothing (omega (arith, c.loop-reach.invariant.after)) (omega (arith, goes.0, c.requires.walked.long)) in
     subst (λ end. IsReached pairs names c.args.place end c.joined-reach.result.least c.joined-reach.result.most) (sym c.joined-reach.ensures.end)
     (reach-joined pairs names c.args.place from reach.end reach.least reach.most next.end next.least next.most c.joined-reach.result.least c.joined-reach.result.most
