@@ -80,6 +80,12 @@ dropped_further (word ∷ words) zero more within none = absurd (cc)
 dropped_further (word ∷ words) (suc place) zero within none = absurd (omega (arith, within))
 dropped_further (word ∷ words) (suc place) (suc more) within none = dropped_further words place more (omega (arith, within)) none
 
+pub others_left : (words others : List Name) (word : Name) (place : ℕ) → drop place words ≡ word ∷ others → drop (suc place) words ≡ others
+others_left [] others word zero is = absurd (cc)
+others_left [] others word (suc place) is = absurd (cc)
+others_left (first ∷ words) others word zero is = cc
+others_left (first ∷ words) others word (suc place) is = others_left words others word place is
+
 -- what is given behind so many words
 pub word_given : (step : Step) (place : ℕ) (old new : Progress) (given : Option (Bor Name)) → words_left old ≡ drop place (step_words step) → IsNextWord old given new → IsWordAt step place given
 word_given step place old new None behind none = sym (past_last (step_words step) place (sym behind ∙ none))
