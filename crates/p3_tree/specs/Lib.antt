@@ -36,4 +36,5 @@ pub mod Tokens
 pub mod Types
 pub mod Uses
 pub mod Validity
+pub mod Watching
 pub mod Worked
