@@ -1,12 +1,8 @@
-use Rattle.std.proofs.Common.{◌≡◌, ◌∙◌, ◌≤◌, ℕ, Option, sym, ap, subst, arith, drop, add-one}
+use Rattle.std.proofs.Common.{◌≡◌, ◌∙◌, ◌≤◌, sym, ap, subst, arith, drop, add-one}
 use Rattle.std.specs.Str.{str_to_ascii_lowercase}
-use denote.Ref.{Bor}
 use Rattle.p3_lexer.specs.Lexing.{left}
-use Rattle.p3_lexer.specs.StepWords.{IsWordAt, step_words, words_left}
+use Rattle.p3_lexer.specs.StepWords.{IsWordAt, words_left}
 use Rattle.p3_lexer.proofs.StepWords.{none_given, others_left, passed, word_given, words_behind}
-use Rattle.p3_tree.specs.PlanTexts.{IsPlanText}
-use Rattle.p3_tree.specs.Tokens.{Token}
-use Rattle.p3_tree.specs.declared.task.Step.{Step}
 use Rattle.p3_plans.proofs.reader.PlanStep.word.Goals as goal
 
 pub returns-in_err-next_word-clause-word : goal.returns-in_err-next_word-clause-word
