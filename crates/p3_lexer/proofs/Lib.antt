@@ -1,3 +1,4 @@
 pub mod TokenLemmas
 pub mod WordLemmas
 pub mod MarkLemmas
+pub mod StepWords

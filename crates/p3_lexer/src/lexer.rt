@@ -1,8 +1,9 @@
 //! The tokens of a text, one after another.
 
-ghost use Rattle.std.specs.Prelude.{◌≡◌, ◌≤◌, ◌<◌, ◌+◌, drop, false, length};
+ghost use Rattle.std.specs.Prelude.{◌≡◌, ◌≤◌, ◌<◌, ◌+◌, drop, false, length, IfSome};
 ghost use Rattle.p3_tree.specs.Tokens.{tokens_from};
 ghost use Rattle.p3_lexer.specs.Lexing.{left, with_next, token_len, Rests, Takes};
+ghost use Rattle.p3_lexer.specs.StepWords.{IsNextWord, IsPartOf};
 
 use crate::place::{gap_end, word_end};
 use std::marker::Model;
@@ -66,6 +67,23 @@ impl<'a> Lexer<'a> {
         let (next, at) = next_from(self.text, self.at);
         self.at = at;
         next
+    }
+
+    /// Gives the next word. Where a parenthesis, the end or a foreign byte comes next it passes that,
+    /// and gives none.
+    pub fn next_word(&mut self) -> Option<&'a [u8]>
+        ensures source { self.new.source ≡ self.old.source }
+        ensures word { IsNextWord self.old result self.new }
+        ensures slice { IfSome result (λ word. IsPartOf self.old.source word.now) }
+    {
+        let Next::Token { text, .. } = self.next() else {
+            return None;
+        };
+        if text == b"(".as_slice() || text == b")".as_slice() {
+            None
+        } else {
+            Some(text)
+        }
     }
 }
 

@@ -1,4 +1,5 @@
 pub mod DraftLemmas
+pub mod LineLemmas
 pub mod PlanLaws
 pub mod ReadLemmas
 pub mod SliceLemmas

@@ -14,7 +14,7 @@ use Rattle.p3_tree.specs.Tokens.{Token, Open, Close, Word, Tokens, tokens_of}
 use Rattle.p3_tree.specs.PlanTexts as texts
 use Rattle.p3_tree.specs.PlanTexts.{Mark, Opens, Closes, Names, mark_of, step_marks, is_plan_word, has_plan_words, step_limit, IsPlanText, offence_of, offence_from, first_of_both, plan_offence}
 use Rattle.p3_plans.specs.Befores.{refusal_by}
-use Rattle.p3_plans.specs.Drafts.{plan_of, draft_before, added, with_argument}
+use Rattle.p3_plans.specs.Drafts.{draft_before, added, with_argument}
 use Rattle.p3_plans.specs.Laws.{HasPlan, StepsBeforeOffences}
 use Rattle.p3_plans.specs.Steps.{steps_from}
 use Rattle.p3_tree.specs.Tokens.{tokens_from}

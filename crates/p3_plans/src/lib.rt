@@ -6,6 +6,7 @@ mod before;
 mod draft;
 mod error;
 mod laws;
+mod line;
 mod offence;
 mod read;
 mod reader;
@@ -15,6 +16,7 @@ pub use error::PlanFail;
 pub use laws::{
     a_plan_where_no_offence, one_plan_at_most, slices_are_texts_of_steps, steps_before_offences,
 };
+pub use line::{LineStep, line_step};
 pub use offence::first_plan_offence;
 pub use read::read_plan;
 pub use reader::{NextStep, PlanReader, PlanStep};

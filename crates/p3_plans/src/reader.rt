@@ -1,8 +1,10 @@
 //! The steps of a plan text, one after another.
 
-ghost use Rattle.std.specs.Prelude.{◌≡◌, ◌≤◌, ◌<◌, ◌+◌, ◌-◌, ℕ, List, take, drop, length, None};
+ghost use Rattle.std.specs.Prelude.{◌≡◌, ◌≤◌, ◌<◌, ◌+◌, ◌-◌, ℕ, List, [], ◌∷◌, take, drop, length, None, IfSome};
 ghost use Rattle.p3_lexer.specs.Lexing as lexing;
-ghost use Rattle.p3_tree.specs.PlanTexts.{Outside, end_offence};
+ghost use Rattle.p3_lexer.specs.StepWords.{IsPartOf, IsWordAt};
+ghost use Rattle.p3_tree.specs.PlanTexts.{IsPlanText, Outside, end_offence};
+ghost use Rattle.p3_tree.specs.declared.task.Step.{Step};
 ghost use Rattle.p3_plans.specs.Befores.{the_before};
 ghost use Rattle.p3_plans.specs.Steps.{Left, left, parts, nothing, with_next, IsBehindGap, Takes, Rests, Ends, stopped_by};
 
@@ -18,6 +20,24 @@ pub struct PlanStep<'a> {
     pub text: &'a [u8],
     /// Where they begin.
     pub offset: u32,
+}
+
+impl<'a> PlanStep<'a> {
+    /// Finds a word of the step: its action's name at place 0, then the arguments, as slices of the
+    /// text. It takes no memory.
+    pub fn word(&self, place: u32) -> Option<&'a [u8]>
+        requires short { length self.now.text.now ≤ 16777216 }
+        ensures word { (step : Step)
+            → IsPlanText self.now.text.now (step ∷ []) → IsWordAt step place result }
+        ensures slice { IfSome result (λ word. IsPartOf self.now.text.now word.now) }
+    {
+        let mut lexer = Lexer::new(self.text);
+        let _open = lexer.next();
+        for _passed in 0..place {
+            lexer.next_word()?;
+        }
+        lexer.next_word()
+    }
 }
 
 /// A step, or why there is none.
