@@ -26,7 +26,7 @@ use crate::product::product_of;
 use crate::request::{Request, asked};
 use crate::status::UNPUT;
 use crate::store::{read_all, write_all};
-use p3_base::{Files, List, Sink, SinkFailed, Word};
+use p3_base::{Files, Sink, SinkFailed, Word};
 use std::alloc::Global;
 
 /// Does what the words ask for, and answers the status of the process.
@@ -120,7 +120,7 @@ fn carried_out<F: Files>(alloc: Global, request: &Request<'_>, files: &mut F) ->
         Err(ending) => return ending,
     };
     match write_all(alloc, files, product.writings.as_slice()) {
-        Ok(()) => Ending::Done(List::from(product.report)),
+        Ok(()) => Ending::Done(product.report),
         Err(ending) => ending,
     }
 }

@@ -3,19 +3,14 @@
 
 mod acceptance;
 mod call;
-mod embedded_report;
 mod embedding;
 mod ending;
 mod evaluation;
+mod found;
 mod laws;
 mod lifting;
-mod plan_report;
 mod product;
-mod quantity;
-mod refusal;
-mod report;
 mod request;
-mod role;
 mod sample_number;
 mod sampling;
 mod status;

@@ -2,6 +2,7 @@
 
 ghost use Rattle.std.specs.Prelude.{◌≡◌, ◌∷◌, [], map, IfOk, IfErr, OnOk};
 ghost use Rattle.p3_tree.specs.Commands.{Evaluate, Lift, inputs, outputs, source_inputs};
+ghost use Rattle.p3_reports.specs.Reports.{report_text};
 ghost use Rattle.p3_cli.specs.Asked.{asked_command, asked_writings};
 ghost use Rattle.p3_cli.specs.Product.{Accepts, Produces, Rejects, texts_in};
 ghost use Rattle.p3_cli.specs.Refusing.{
@@ -21,6 +22,7 @@ use crate::request::{Request, Written};
 use crate::sampling::sample;
 use crate::texts::Texts;
 use crate::translation::translate;
+use p3_reports::Report;
 use std::alloc::Global;
 
 /// The texts that are written, and the report.
@@ -29,7 +31,7 @@ pub(crate) struct Product<'a> {
     /// The outputs with their texts.
     pub(crate) writings: Vec<Written<'a>>,
     /// The report.
-    pub(crate) report: Vec<u8>,
+    pub(crate) report: Report,
 }
 
 /// Carries a request out on the texts that were read.
@@ -45,7 +47,7 @@ pub(crate) fn product_of<'a>(
         ≡ outputs (asked_command request.now)) }
     ensures ok { IfOk result (λ product.
         Produces (asked_command request.now) (map (λ text. text.items) texts.now)
-        (texts_in (asked_writings product.writings.items)) product.report.items) }
+        (texts_in (asked_writings product.writings.items)) (report_text product.report)) }
     ensures accepted { OnOk result
         (Accepts (asked_command request.now) (map (λ text. text.items) texts.now)) }
     ensures err { IfErr result (IsRejectedBy
