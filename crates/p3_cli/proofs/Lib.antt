@@ -7,8 +7,6 @@ pub mod MeaningLemmas
 pub mod NameLemmas
 pub mod NumberLemmas
 pub mod ProductLemmas
-pub mod PutLemmas
-pub mod QuantityLemmas
 pub mod RejectionLemmas
 pub mod ResultLemmas
 pub mod RunLemmas

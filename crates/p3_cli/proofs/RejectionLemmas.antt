@@ -22,6 +22,8 @@ use Rattle.p3_lift.specs.declared.answers.Differ.TheVariants as differ
 use Rattle.p3_lift.specs.declared.answers.LiftFail.{LiftFail}
 use Rattle.p3_lift.specs.declared.answers.LiftFail.TheVariants as fail
 use Rattle.p3_lift.specs.declared.answers.Lifted.{Lifted}
+use Rattle.p3_reports.specs.declared.fault.Fault as named
+use Rattle.p3_reports.specs.declared.refusal.Rejection.{Rejection}
 use Rattle.p3_cli.specs.Ending.{status_of}
 use Rattle.p3_cli.specs.Evaluation.{AreOfPlan, IsInvalidPlan, RejectsPlan, given_plan}
 use Rattle.p3_cli.specs.Lifting.{AreOfLift, RejectsLift, TellsFail, given_lift}
@@ -32,11 +34,11 @@ use Rattle.p3_cli.specs.Store.{Reading, Texts, TooLong, Absent}
 use Rattle.p3_cli.specs.declared.ending.Ending.{Ending}
 use Rattle.p3_cli.specs.declared.ending.Ending.TheVariants as ending
 
-refused_status : (how : Ending) (line : List ℕ) → how ≡ ending.Refused line → status_of how ≡ 2
-refused_status how line is = ap status_of is
+refused_status : (how : Ending) (rejection : Rejection) → how ≡ ending.Refused rejection → status_of how ≡ 2
+refused_status how rejection is = ap status_of is
 
-invalid_status : (how : Ending) (line : List ℕ) → how ≡ ending.Invalid line → status_of how ≡ 1
-invalid_status how line is = ap status_of is
+invalid_status : (how : Ending) (fault : named.Fault) → how ≡ ending.Invalid fault → status_of how ≡ 1
+invalid_status how fault is = ap status_of is
 
 -- a valid plan has no fault
 no_fault : {A : Type 0} (T : Task) (plan : Plan) (fault : Fault) → Valid T plan → first_fault T plan ≡ Some fault → A

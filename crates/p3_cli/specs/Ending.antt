@@ -2,6 +2,10 @@
 use Rattle.std.specs.Prelude.{ℕ, List}
 use Rattle.p3_tree.specs.Reports.Lines.{read_fault_line, write_fault_line, want_of_memory_line, usage_lines}
 use Rattle.p3_tree.specs.Reports.Refusals.{too_long_line}
+use Rattle.p3_tree.specs.Reports.Plans.{fault_line}
+use Rattle.p3_reports.specs.Faults.{fault_of}
+use Rattle.p3_reports.specs.Rejections.{rejection_line}
+use Rattle.p3_reports.specs.Reports.{report_text}
 use Rattle.p3_cli.specs.Status as status
 use Rattle.p3_cli.specs.declared.ending.Ending.{Ending}
 use Rattle.p3_cli.specs.declared.ending.Ending.TheVariants.{Done, Refused, Invalid, TooLong, ReadFailed, WriteFailed, OutOfMemory, Usage}
@@ -9,8 +13,8 @@ use Rattle.p3_cli.specs.declared.ending.Ending.TheVariants.{Done, Refused, Inval
 -- the status, where the lines can be put
 abbrev pub status_of : Ending → ℕ
 status_of (Done report) = status.done
-status_of (Refused text) = status.refused
-status_of (Invalid text) = status.invalid
+status_of (Refused rejection) = status.refused
+status_of (Invalid fault) = status.invalid
 status_of (TooLong role) = status.refused
 status_of (ReadFailed role) = status.unread
 status_of (WriteFailed role) = status.unwritten
@@ -24,9 +28,9 @@ unput_status how = status_of how
 
 -- the lines that are put
 abbrev pub lines_of : Ending → List ℕ
-lines_of (Done report) = report
-lines_of (Refused text) = text
-lines_of (Invalid text) = text
+lines_of (Done report) = report_text report
+lines_of (Refused rejection) = rejection_line rejection
+lines_of (Invalid fault) = fault_line (fault_of fault)
 lines_of (TooLong role) = too_long_line role
 lines_of (ReadFailed role) = read_fault_line role
 lines_of (WriteFailed role) = write_fault_line role

@@ -1,19 +1,13 @@
 -- What `evaluate` makes of the texts of a task and of a plan for it.
-use Rattle.std.specs.Prelude.{ℕ, ◌≡◌, ◌≤◌, ◌⊎◌, List, [], ◌∷◌, ◌++◌, codes, flat_map, length, pos, Some}
-use Rattle.std.specs.Fmt.{decimal}
+use Rattle.std.specs.Prelude.{ℕ, ◌≡◌, ◌≤◌, ◌⊎◌, List, [], ◌∷◌, length, Some}
 use Rattle.p3_base.specs.declared.refusal.Side.TheVariants.{Source}
-use Rattle.p3_tree.specs.Costs.{cost_places}
-use Rattle.p3_tree.specs.Metrics.{cost, violated}
-use Rattle.p3_tree.specs.Names.{Name}
 use Rattle.p3_tree.specs.Plans.{Plan}
 use Rattle.p3_tree.specs.PlanTexts.{IsPlanText, step_limit}
-use Rattle.p3_tree.specs.PreferenceNames.{ordered_names}
 use Rattle.p3_tree.specs.Refusals.First.{AreAccepted, Given}
-use Rattle.p3_tree.specs.Reports.Lines.{entry}
-use Rattle.p3_tree.specs.Reports.Plans.{evaluated_lines, fault_line}
-use Rattle.p3_tree.specs.Reports.Quantities.{shown_quantity}
+use Rattle.p3_tree.specs.Reports.Plans.{evaluated_lines}
 use Rattle.p3_tree.specs.Validity.{Fault, Valid, first_fault}
 use Rattle.p3_tree.specs.declared.task.Task.{Task}
+use Rattle.p3_reports.specs.Faults.{fault_named}
 use Rattle.p3_ground.specs.PlansByNumber.{AreNumbers}
 use Rattle.p3_run.specs.Runs.{Ran}
 use Rattle.p3_cli.specs.Refusing.{AllTexts, IsRefusal, IsRejectedBy, task_texts}
@@ -47,7 +41,7 @@ pub record IsInvalidPlan (d p q : List ℕ) (how : Ending) : Type 0 where
   pub texts : AreOfPlan d p q task plan
   pub fault : Fault
   pub first : first_fault task plan ≡ Some fault
-  pub says : how ≡ Invalid (fault_line fault)
+  pub says : how ≡ Invalid (fault_named fault)
 
 -- the ending says why there is no report: the first refusal of the texts, or the first fault of the plan
 abbrev pub RejectsPlan : AllTexts → Ending → Type 0
@@ -57,16 +51,6 @@ abbrev pub IsRejectedPlan : AllTexts → Ending → Type 0
 IsRejectedPlan texts how = IsRejectedBy (RejectsPlan texts) how
 
 -- ---- of a plan
-
--- the lines of its cost, of the count of a preference name, and of all counts
-abbrev pub cost_line : Task → Plan → List ℕ
-cost_line T plan = entry (codes "cost") (shown_quantity (cost_places T) (pos (cost T plan)))
-
-abbrev pub count_line : Task → Plan → Name → List ℕ
-count_line T plan name = entry (codes "violated " ++ name) (decimal (violated T plan name))
-
-abbrev pub count_lines : Task → Plan → List ℕ
-count_lines T plan = flat_map (count_line T plan) (ordered_names T)
 
 -- it is so of the plan of the steps that a run has done
 abbrev pub OfRun : Task → Ran → (Plan → Type 0) → Type 0
@@ -83,7 +67,7 @@ pub record IsReportOf (T : Task) (report : List ℕ) (plan : Plan) : Type 0 wher
 pub record IsFaultOf (T : Task) (how : Ending) (plan : Plan) : Type 0 where
   pub fault : Fault
   pub first : first_fault T plan ≡ Some fault
-  pub says : how ≡ Invalid (fault_line fault)
+  pub says : how ≡ Invalid (fault_named fault)
 
 -- it is so of the plan that the text spells
 abbrev pub OfText : List ℕ → (Plan → Type 0) → Type 0

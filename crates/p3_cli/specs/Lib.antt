@@ -13,4 +13,3 @@ pub mod Status
 pub mod Store
 pub mod Translation
 pub mod WrittenText
-pub mod Zeros

@@ -4,8 +4,10 @@ use Rattle.p3_base.specs.declared.refusal.Side.TheVariants.{Source, Written}
 use Rattle.p3_tree.specs.Plans.{Plan}
 use Rattle.p3_tree.specs.PlanTexts.{IsPlanText, step_limit}
 use Rattle.p3_tree.specs.Refusals.First.{AreAccepted, Given}
-use Rattle.p3_tree.specs.Reports.Plans.{fault_line, lifted_lines}
-use Rattle.p3_tree.specs.Reports.Refusals.{lifted_fault_line, not_plain_line, numbers_differ_line}
+use Rattle.p3_tree.specs.Reports.Plans.{lifted_lines}
+use Rattle.p3_reports.specs.Faults.{fault_named}
+use Rattle.p3_reports.specs.declared.refusal.Rejection.{Rejection}
+use Rattle.p3_reports.specs.declared.refusal.Rejection.TheVariants.{LiftedFault, NotPlain, NumbersDiffer}
 use Rattle.p3_tree.specs.declared.task.Task.{Task}
 use Rattle.p3_eval.specs.Judged.{fault_in}
 use Rattle.p3_lift.specs.Lifting.{IsLiftFail, IsLifted}
@@ -44,16 +46,16 @@ pub record IsLifting (d p od op q text report : List ℕ) : Type 0 where
 
 -- ---- why nothing is lifted
 
--- the line that says how the lifted plan differs
-abbrev pub differ_text : Differ → List ℕ
-differ_text (Fault told) = lifted_fault_line (fault_line (fault_in told))
-differ_text (Numbers cost loss) = numbers_differ_line cost loss
+-- how the lifted plan differs
+abbrev pub differ_rejection : Differ → Rejection
+differ_rejection (Fault told) = LiftedFault (fault_named (fault_in told))
+differ_rejection (Numbers cost loss) = NumbersDiffer cost loss
 
 -- the ending says why
 abbrev pub TellsFail : LiftFail → Ending → Type 0
-TellsFail fail.NotPlain how = how ≡ Refused not_plain_line
-TellsFail (fail.Invalid told) how = how ≡ Invalid (fault_line (fault_in told))
-TellsFail (fail.Mismatch differ) how = how ≡ Refused (differ_text differ)
+TellsFail fail.NotPlain how = how ≡ Refused NotPlain
+TellsFail (fail.Invalid told) how = how ≡ Invalid (fault_named (fault_in told))
+TellsFail (fail.Mismatch differ) how = how ≡ Refused (differ_rejection differ)
 TellsFail fail.NoMemory how = ⊥
 
 -- the plan is not lifted, and the ending says why

@@ -9,8 +9,9 @@ use Rattle.p3_tree.specs.Grammar.Texts.{Reads}
 use Rattle.p3_tree.specs.PlanTexts.{plan_offence}
 use Rattle.p3_tree.specs.Refusals.First.{AreAccepted, AreReadable, Given, IsFirstOfTexts, IsFirstRefusal, TaskTexts, given_task, halves}
 use Rattle.p3_tree.specs.Refusals.First as first
-use Rattle.p3_tree.specs.Reports.Refusals.{refusal_line}
 use Rattle.p3_tree.specs.declared.task.Task.{Task}
+use Rattle.p3_reports.specs.Rejections.{placed_in}
+use Rattle.p3_reports.specs.declared.refusal.Rejection.TheVariants.{At}
 use Rattle.p3_outline.specs.declared.error.ReadFail.{ReadFail}
 use Rattle.p3_outline.specs.declared.error.ReadFail.TheVariants as fail
 use Rattle.p3_cli.specs.declared.ending.Ending.{Ending}
@@ -96,7 +97,7 @@ IsOfPlan texts refusal = plan_offence texts.plan ≡ Some refusal
 
 -- the ending that says a refusal of a text
 abbrev pub refused_in : List ℕ → Refusal → Ending
-refused_in text refusal = Refused (refusal_line text refusal)
+refused_in text refusal = Refused (At (placed_in text refusal))
 
 -- the ending says a refusal that is shown
 pub record Says (texts : AllTexts) (Shows : Refusal → Type 0) (how : Ending) : Type 0 where
@@ -107,8 +108,8 @@ pub record Says (texts : AllTexts) (Shows : Refusal → Type 0) (how : Ending) :
 -- an ending where nothing is made: what is read is refused or not valid, and so it is said; or memory is wanting
 abbrev pub IsRejectedBy : (Ending → Type 0) → Ending → Type 0
 IsRejectedBy Tells OutOfMemory = Unit {0}
-IsRejectedBy Tells (Refused line) = Tells (Refused line)
-IsRejectedBy Tells (Invalid line) = Tells (Invalid line)
+IsRejectedBy Tells (Refused rejection) = Tells (Refused rejection)
+IsRejectedBy Tells (Invalid fault) = Tells (Invalid fault)
 IsRejectedBy Tells (Done report) = ⊥
 IsRejectedBy Tells (TooLong role) = ⊥
 IsRejectedBy Tells (ReadFailed role) = ⊥

@@ -3,6 +3,7 @@ use Rattle.std.specs.Prelude.{ℕ, ◌≡◌, ◌⊎◌, List, Option, Some, Non
 use Rattle.std.specs.Option.{option_map}
 use Rattle.std.specs.List.{AllByRecursion}
 use Rattle.p3_base.specs.Outside.{FilesSeen, SinkSeen, Store, Rose, IsPartlyPut, bytes_under, with_put}
+use Rattle.p3_reports.specs.Reports.{report_text}
 use Rattle.p3_cli.specs.Ending.{status_of, unput_status, lines_of}
 use Rattle.p3_cli.specs.Product.{Rejects, Accepts, Produces, texts_in}
 use Rattle.p3_tree.specs.Commands.{Command, Output, inputs, outputs}
@@ -33,8 +34,8 @@ pub record IsProduct (told : Option Store) (command : Command) (writings : List 
 -- when an ending of a command comes
 abbrev pub Comes : Command → FilesSeen → FilesSeen → Ending → Type 0
 Comes command old new (ending.Done report) = IfSome old.held (λ store. IsAccepted store command)
-Comes command old new (ending.Refused line) = IfSome old.held (λ store. IsRejectionIn store command (ending.Refused line))
-Comes command old new (ending.Invalid line) = IfSome old.held (λ store. IsRejectionIn store command (ending.Invalid line))
+Comes command old new (ending.Refused rejection) = IfSome old.held (λ store. IsRejectionIn store command (ending.Refused rejection))
+Comes command old new (ending.Invalid fault) = IfSome old.held (λ store. IsRejectionIn store command (ending.Invalid fault))
 Comes command old new (ending.TooLong role) = IfSome old.held (λ store. IsRejectionIn store command (ending.TooLong role))
 Comes command old new (ending.ReadFailed role) = Contains (map (λ input. input.role) (inputs command)) role × Rose old.read_faults new.read_faults
 Comes command old new (ending.WriteFailed role) = Rose old.write_faults new.write_faults × IfSome old.held (λ store. IsAccepted store command)
@@ -44,13 +45,13 @@ Comes command old new ending.Usage = ⊥
 -- what the files hold after an ending of a command: all outputs, a first part of them, or what they held
 abbrev pub Leaves : Command → Option Store → Option Store → Ending → Type 0
 Leaves command old new (ending.Done report) =
-    (writings : List (Output × List ℕ)) × IsProduct old command writings report × (new ≡ holding_all writings old)
+    (writings : List (Output × List ℕ)) × IsProduct old command writings (report_text report) × (new ≡ holding_all writings old)
 Leaves command old new (ending.WriteFailed role) =
     (writings : List (Output × List ℕ)) × (report : List ℕ) × IsProduct old command writings report × IsWrittenUpTo role writings old new
 Leaves command old new ending.OutOfMemory =
     (new ≡ old) ⊎ ((writings : List (Output × List ℕ)) × (report : List ℕ) × IsProduct old command writings report × AreFirstWritten writings old new)
-Leaves command old new (ending.Refused line) = new ≡ old
-Leaves command old new (ending.Invalid line) = new ≡ old
+Leaves command old new (ending.Refused rejection) = new ≡ old
+Leaves command old new (ending.Invalid fault) = new ≡ old
 Leaves command old new (ending.TooLong role) = new ≡ old
 Leaves command old new (ending.ReadFailed role) = new ≡ old
 Leaves command old new ending.Usage = new ≡ old

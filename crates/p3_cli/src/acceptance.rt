@@ -36,24 +36,24 @@ pub(crate) fn spelled_task(alloc: Global, side: Side, texts: &Texts<'_>) -> Resu
 {
     let domain = match read_domain(alloc, side, texts.domain_of(side)) {
         Ok(half) => half,
-        Err(fail) => return Err(not_read(alloc, texts, fail)),
+        Err(fail) => return Err(not_read(texts, fail)),
     };
     let problem = match read_problem(alloc, side, texts.problem_of(side)) {
         Ok(half) => half,
-        Err(fail) => return Err(not_read(alloc, texts, fail)),
+        Err(fail) => return Err(not_read(texts, fail)),
     };
     Ok(Task { domain, problem })
 }
 
 /// Looks through the text of the plan for its first offence.
-pub(crate) fn readable_plan(alloc: Global, texts: &Texts<'_>) -> Result<(), Ending>
+pub(crate) fn readable_plan(texts: &Texts<'_>) -> Result<(), Ending>
     ensures free { OnOk result (plan_offence texts.now.plan.now ≡ None) }
     ensures err { IfErr result
         (IsRefusedFor (all_texts texts.now) (IsOfPlan (all_texts texts.now))) }
 {
     match first_plan_offence(texts.plan) {
         None => Ok(()),
-        Some(refusal) => Err(texts.refused(alloc, &refusal)),
+        Some(refusal) => Err(texts.refused(&refusal)),
     }
 }
 
@@ -90,7 +90,7 @@ pub(crate) fn accepted(
     let checked = checked(alloc, side, texts, task)?;
     match Whole::accept(alloc, checked) {
         Ok(whole) => Ok(whole),
-        Err(WholeFail::Refused(refusal)) => Err(texts.refused(alloc, &refusal)),
+        Err(WholeFail::Refused(refusal)) => Err(texts.refused(&refusal)),
         Err(WholeFail::NoMemory) => Err(Ending::OutOfMemory),
     }
 }
@@ -108,17 +108,17 @@ fn checked(alloc: Global, side: Side, texts: &Texts<'_>, task: Task) -> Result<C
     let Task { domain, problem } = task;
     match check(alloc, side, domain, problem) {
         Ok(checked) => Ok(checked),
-        Err(CheckFail::Refused(refusal)) => Err(texts.refused(alloc, &refusal)),
+        Err(CheckFail::Refused(refusal)) => Err(texts.refused(&refusal)),
         Err(CheckFail::NoMemory) => Err(Ending::OutOfMemory),
     }
 }
 
 /// The ending where a half was not read.
-fn not_read(alloc: Global, texts: &Texts<'_>, fail: ReadFail) -> Ending
+fn not_read(texts: &Texts<'_>, fail: ReadFail) -> Ending
     ensures { EndsAs (all_texts texts.now) fail result }
 {
     match fail {
-        ReadFail::Refused(refusal) => texts.refused(alloc, &refusal),
+        ReadFail::Refused(refusal) => texts.refused(&refusal),
         ReadFail::NoMemory => Ending::OutOfMemory,
     }
 }

@@ -29,7 +29,7 @@ use crate::request::Request;
 use crate::status::UNPUT;
 use crate::store::{read_all, write_all};
 use crate::table::row_of;
-use p3_base::{Files, List, Sink, SinkFailed, Word};
+use p3_base::{Files, Sink, SinkFailed, Word};
 use std::alloc::Global;
 
 /// Does what the words ask for, and answers the status of the process.
@@ -128,7 +128,7 @@ fn carried_out<F: Files>(alloc: Global, request: &Request<'_>, files: &mut F) ->
         Err(_) => return Ending::OutOfMemory,
     };
     match write_all(alloc, files, writings.as_slice()) {
-        Ok(()) => Ending::Done(List::from(product.report)),
+        Ok(()) => Ending::Done(product.report),
         Err(ending) => ending,
     }
 }

@@ -9,6 +9,7 @@ ghost use Rattle.p3_formula.specs.Targets.{Compiled, target_cost};
 ghost use Rattle.p3_ground.specs.PlansByNumber.{names_of};
 ghost use Rattle.p3_plans.specs.Layout.{has_written_words};
 ghost use Rattle.p3_embed.specs.Plans.{IsEmbeddedPlan};
+ghost use Rattle.p3_reports.specs.Reports.{report_text};
 ghost use Rattle.p3_cli.specs.Embedding.{IsEmbedding};
 ghost use Rattle.p3_cli.specs.Evaluation.{IsFaultOf, IsRejectedPlan};
 ghost use Rattle.p3_cli.specs.Refusing.{IsRejectedBy, all_texts};
@@ -17,8 +18,8 @@ ghost use Rattle.p3_cli.specs.WrittenText.{HasPlanLayout};
 
 use crate::Ending;
 use crate::acceptance::plan_of;
-use crate::embedded_report::embedded_report;
 use crate::evaluation::{invalid, judged_task};
+use crate::found::embedded_report;
 use crate::product::Product;
 use crate::texts::Texts;
 use p3_base::NoMemory;
@@ -27,6 +28,7 @@ use p3_embed::{EmbedFail, Embedded};
 use p3_eval::Whole;
 use p3_formula::Target;
 use p3_plans::write_plan;
+use p3_reports::Report;
 use p3_tree::Plan;
 use p3_writer::{write_domain, write_problem};
 use std::alloc::Global;
@@ -41,7 +43,7 @@ pub(crate) struct Embedding {
     /// The plan.
     pub(crate) plan: Vec<u8>,
     /// The report.
-    pub(crate) report: Vec<u8>,
+    pub(crate) report: Report,
 }
 
 impl Embedding {
@@ -49,7 +51,7 @@ impl Embedding {
     pub(crate) fn product(self, alloc: Global) -> Result<Product, NoMemory>
         ensures texts { IfOk result (λ product. map (λ text. text.items) product.texts.items
             ≡ self.domain.items ∷ self.problem.items ∷ self.plan.items ∷ []) }
-        ensures report { IfOk result (λ product. product.report.items ≡ self.report.items) }
+        ensures report { IfOk result (λ product. product.report ≡ self.report) }
     {
         Ok(Product {
             texts: vec![in alloc; self.domain, self.problem, self.plan]?,
@@ -62,7 +64,8 @@ impl Embedding {
 pub(crate) fn embed(alloc: Global, texts: &Texts<'_>) -> Result<Embedding, Ending>
     ensures means { IfOk result (λ made. IsEmbedding
         texts.now.domain.now texts.now.problem.now texts.now.plan.now
-        made.domain.items made.problem.items made.plan.items made.report.items) }
+        made.domain.items made.problem.items made.plan.items
+        (report_text made.report)) }
     ensures layout { IfOk result (λ made. HasLayout texts.now.domain.now texts.now.problem.now
         made.domain.items made.problem.items) }
     ensures lines { IfOk result (λ made. HasPlanLayout made.plan.items) }
@@ -98,7 +101,7 @@ pub(crate) fn embedded(
 {
     match p3_embed::embed(alloc, whole, target, plan) {
         Ok(embedded) => Ok(embedded),
-        Err(EmbedFail::Invalid(fault)) => Err(invalid(alloc, &fault)),
+        Err(EmbedFail::Invalid(fault)) => Err(invalid(&fault)),
         Err(EmbedFail::NoMemory) => Err(Ending::OutOfMemory),
     }
 }
@@ -118,13 +121,13 @@ fn embedding_of(
         AreTextsOf target.now made.domain.items made.problem.items) }
     ensures plan { IfOk result (λ made. IsPlanText made.plan.items embedded.now.plan) }
     ensures lines { IfOk result (λ made. HasPlanLayout made.plan.items) }
-    ensures report { IfOk result (λ made. made.report.items ≡ embedded_lines
+    ensures report { IfOk result (λ made. report_text made.report ≡ embedded_lines
         whole.now.checked.task (length embedded.now.plan) embedded.now.cost) }
 {
     Ok(Embedding {
         domain: write_domain(alloc, target)?,
         problem: write_problem(alloc, target)?,
         plan: write_plan(alloc, &embedded.plan)?,
-        report: embedded_report(alloc, whole, embedded)?,
+        report: Report::Embed(embedded_report(whole, embedded)),
     })
 }

@@ -1,30 +1,24 @@
 //! How a run ends, and what is put then.
 
-ghost use Rattle.std.specs.Prelude.{◌≡◌, ◌++◌, ◌≤◌, OnOk, OnErr};
+ghost use Rattle.std.specs.Prelude.{◌≡◌, ◌≤◌, OnOk, OnErr};
 ghost use Rattle.p3_base.specs.Outside.{IsPartlyPut, Rose, with_put};
-ghost use Rattle.p3_tree.specs.Reports.Lines.{line, role_name};
 
-use crate::role::role_word;
 use crate::status::{DONE, INVALID, OUT_OF_MEMORY, REFUSED, UNREAD, UNWRITTEN, USAGE};
-use p3_base::{List, NoMemory, Role, Sink, SinkFailed};
-
-/// What is put where the words have none of the listed shapes.
-const USAGE_LINES: &[u8] = b"usage: pddl3c compile D P OD OP
-       pddl3c lift D P OD OP PLAN OUT
-       pddl3c embed D P PLAN OD OP OUT
-       pddl3c evaluate D P PLAN
-       pddl3c generate N D P PLAN
-";
+use p3_base::{NoMemory, Role, Sink, SinkFailed};
+use p3_reports::{
+    Fault, Rejection, Report, put_fault, put_no_memory, put_read_fault, put_rejection, put_report,
+    put_too_long, put_usage, put_write_fault,
+};
 
 /// How a run ends.
 #[derive(Debug, Drop)]
 pub enum Ending {
-    /// Everything was done: the lines of the report.
-    Done(List<u8>),
-    /// An input is refused: the line that says why and where.
-    Refused(List<u8>),
-    /// A plan is not valid: the line of its first fault.
-    Invalid(List<u8>),
+    /// Everything was done: what is reported.
+    Done(Report),
+    /// What was read is refused: why and where.
+    Refused(Rejection),
+    /// A plan is not valid: its first fault.
+    Invalid(Fault),
     /// An input has more bytes than the limit.
     TooLong(Role),
     /// An input was not read.
@@ -75,44 +69,14 @@ impl Ending {
         ensures faults_grow { (S.seen out.old).faults ≤ (S.seen out.new).faults }
     {
         match self {
-            Ending::Done(lines) | Ending::Refused(lines) | Ending::Invalid(lines) => {
-                out.put(lines.items())
-            }
-            Ending::TooLong(role) => put_about(out, b"refused 21 file too long: ", *role),
-            Ending::ReadFailed(role) => put_about(out, b"read fault: ", *role),
-            Ending::WriteFailed(role) => put_about(out, b"write fault: ", *role),
-            Ending::OutOfMemory => out.put(b"want of memory\n"),
-            Ending::Usage => out.put(USAGE_LINES),
+            Ending::Done(report) => put_report(report, out),
+            Ending::Refused(rejection) => put_rejection(rejection, out),
+            Ending::Invalid(fault) => put_fault(*fault, out),
+            Ending::TooLong(role) => put_too_long(*role, out),
+            Ending::ReadFailed(role) => put_read_fault(*role, out),
+            Ending::WriteFailed(role) => put_write_fault(*role, out),
+            Ending::OutOfMemory => put_no_memory(out),
+            Ending::Usage => put_usage(out),
         }
-    }
-}
-
-/// Puts a line about a file.
-fn put_about<S: Sink>(out: &mut S, about: &[u8], role: Role) -> Result<(), SinkFailed>
-    ensures ok { OnOk result ((S.seen out.new).written
-        ≡ with_put (about.now ++ line (role_name role)) (S.seen out.old).written) }
-    ensures partly { OnErr result (IsPartlyPut (about.now ++ line (role_name role))
-        (S.seen out.old).written (S.seen out.new).written) }
-    ensures failed { OnErr result (Rose (S.seen out.old).faults (S.seen out.new).faults) }
-    ensures faults_grow { (S.seen out.old).faults ≤ (S.seen out.new).faults }
-{
-    match out.put(about) {
-        Ok(()) => put_line(out, role_word(role).as_bytes()),
-        Err(SinkFailed) => Err(SinkFailed),
-    }
-}
-
-/// Puts a line.
-fn put_line<S: Sink>(out: &mut S, text: &[u8]) -> Result<(), SinkFailed>
-    ensures ok { OnOk result ((S.seen out.new).written
-        ≡ with_put (line text.now) (S.seen out.old).written) }
-    ensures partly { OnErr result
-        (IsPartlyPut (line text.now) (S.seen out.old).written (S.seen out.new).written) }
-    ensures failed { OnErr result (Rose (S.seen out.old).faults (S.seen out.new).faults) }
-    ensures faults_grow { (S.seen out.old).faults ≤ (S.seen out.new).faults }
-{
-    match out.put(text) {
-        Ok(()) => out.put(b"\n"),
-        Err(SinkFailed) => Err(SinkFailed),
     }
 }

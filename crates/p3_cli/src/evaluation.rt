@@ -3,7 +3,8 @@
 ghost use Rattle.std.specs.Prelude.{◌≡◌, ◌≤◌, IfErr, IfOk, None, OnOk, length};
 ghost use Rattle.p3_base.specs.declared.refusal.Side.TheVariants.{Source};
 ghost use Rattle.p3_tree.specs.PlanTexts.{plan_offence};
-ghost use Rattle.p3_tree.specs.Reports.Plans.{fault_line};
+ghost use Rattle.p3_reports.specs.Faults.{fault_named};
+ghost use Rattle.p3_reports.specs.Reports.{report_text};
 ghost use Rattle.p3_eval.specs.Judged.{fault_in};
 ghost use Rattle.p3_cli.specs.Evaluation.{
   IsEvaluation,
@@ -24,18 +25,19 @@ ghost use Rattle.p3_cli.specs.declared.ending.Ending.TheVariants.{Invalid};
 
 use crate::Ending;
 use crate::acceptance::{accepted, readable_plan, spelled_task};
-use crate::plan_report::{evaluated_report, fault_text};
+use crate::found::{evaluated_report, named_fault};
 use crate::texts::Texts;
-use p3_base::{List, Side};
-use p3_eval::{PlanFault, Whole};
-use p3_eval::first_fault;
+use p3_base::Side;
+use p3_eval::{PlanFault, Whole, first_fault};
+use p3_reports::Report;
 use std::alloc::Global;
 
 /// Judges the plan that a text spells, for the task that the two other texts spell: the report of a
 /// valid plan.
-pub(crate) fn evaluate(alloc: Global, texts: &Texts<'_>) -> Result<Vec<u8>, Ending>
+pub(crate) fn evaluate(alloc: Global, texts: &Texts<'_>) -> Result<Report, Ending>
     ensures report { IfOk result (λ report.
-        IsEvaluation texts.now.domain.now texts.now.problem.now texts.now.plan.now report.items) }
+        IsEvaluation texts.now.domain.now texts.now.problem.now texts.now.plan.now
+        (report_text report)) }
     ensures err { IfErr result (IsRejectedPlan (all_texts texts.now)) }
 {
     let whole = judged_task(alloc, texts)?;
@@ -53,7 +55,7 @@ pub(crate) fn judged_task(alloc: Global, texts: &Texts<'_>) -> Result<Whole, End
         (IsRejectedBy (IsRefusal (given_plan (all_texts texts.now)) (all_texts texts.now))) }
 {
     let task = spelled_task(alloc, Side::Source, texts)?;
-    match readable_plan(alloc, texts) {
+    match readable_plan(texts) {
         Ok(()) => accepted(alloc, Side::Source, texts, task),
         Err(ending) => {
             drop(task);
@@ -63,27 +65,24 @@ pub(crate) fn judged_task(alloc: Global, texts: &Texts<'_>) -> Result<Whole, End
 }
 
 /// The report of the plan of a text for an accepted task, where it is valid.
-fn judged(alloc: Global, whole: &Whole, plan: &[u8]) -> Result<Vec<u8>, Ending>
+fn judged(alloc: Global, whole: &Whole, plan: &[u8]) -> Result<Report, Ending>
     requires short { length plan.now ≤ 16777216 }
     requires free { plan_offence plan.now ≡ None }
     ensures report { IfOk result (λ report.
-        OfText plan.now (IsReportOf whole.now.checked.task report.items)) }
+        OfText plan.now (IsReportOf whole.now.checked.task (report_text report))) }
     ensures err { IfErr result
         (IsRejectedBy (λ how. OfText plan.now (IsFaultOf whole.now.checked.task how))) }
 {
     let mut run = whole.begin(alloc)?;
     match first_fault(whole.checked(), &mut run, plan) {
-        None => Ok(evaluated_report(alloc, whole.checked(), &run)?),
-        Some(fault) => Err(invalid(alloc, &fault)),
+        None => Ok(Report::Evaluate(evaluated_report(alloc, whole.checked(), &run)?)),
+        Some(fault) => Err(invalid(&fault)),
     }
 }
 
 /// The ending that says the first fault of a plan.
-pub(crate) fn invalid(alloc: Global, fault: &PlanFault) -> Ending
-    ensures { IsRejectedBy (λ how. how ≡ Invalid (fault_line (fault_in fault.now))) result }
+pub(crate) fn invalid(fault: &PlanFault) -> Ending
+    ensures { IsRejectedBy (λ how. how ≡ Invalid (fault_named (fault_in fault.now))) result }
 {
-    match fault_text(alloc, fault) {
-        Ok(line) => Ending::Invalid(List::from(line)),
-        Err(_) => Ending::OutOfMemory,
-    }
+    Ending::Invalid(named_fault(fault))
 }

@@ -37,12 +37,12 @@ impl<'a> Request<'a> {
 }
 
 /// The files of these roles and names, each with its text, as they are to be written.
-pub(crate) fn writings<'a>(
+pub(crate) fn writings<'n, 't>(
     alloc: Global,
     roles: &[Role],
-    names: &'a [Word],
-    texts: &'a [Vec<u8>],
-) -> Result<Vec<Written<'a>>, NoMemory>
+    names: &'n [Word],
+    texts: &'t [Vec<u8>],
+) -> Result<Vec<Written<'n, 't>>, NoMemory>
     requires roles { length roles.now ≡ length names.now }
     requires texts { length texts.now ≡ length names.now }
     ensures outputs { IfOk result (λ all. map (λ written. written.0) (asked_writings all.items)

@@ -1,6 +1,6 @@
 //! What `lift` makes of the texts of a task, of one that is written for it, and of a plan for that.
 
-ghost use Rattle.std.specs.Prelude.{◌≡◌, ◌≤◌, ◌∷◌, [], IfErr, IfOk, IsTrue, None, OnErr, OnOk, length, map};
+ghost use Rattle.std.specs.Prelude.{◌≡◌, ◌≤◌, ◌∷◌, [], IfErr, IfOk, IsTrue, None, OnOk, length, map};
 ghost use Rattle.std.specs.List.{list_all};
 ghost use Rattle.p3_base.specs.declared.refusal.Side.TheVariants.{Source};
 ghost use Rattle.p3_base.specs.declared.refusal.Side.TheVariants as side;
@@ -8,6 +8,7 @@ ghost use Rattle.p3_tree.specs.Metrics.{value};
 ghost use Rattle.p3_tree.specs.PlanTexts.{IsPlanText, plan_offence};
 ghost use Rattle.p3_tree.specs.Reports.Plans.{lifted_lines};
 ghost use Rattle.p3_plans.specs.Layout.{has_written_words};
+ghost use Rattle.p3_reports.specs.Reports.{report_text};
 ghost use Rattle.p3_cli.specs.Lifting.{IsLifting, RejectsLift, TellsFail, given_lift};
 ghost use Rattle.p3_cli.specs.Refusing.{
   AreAcceptedFor,
@@ -18,18 +19,18 @@ ghost use Rattle.p3_cli.specs.Refusing.{
   task_texts,
 };
 ghost use Rattle.p3_cli.specs.WrittenText.{HasPlanLayout};
-ghost use Rattle.p3_cli.specs.declared.ending.Ending.TheVariants.{OutOfMemory, Refused};
 
 use crate::Ending;
 use crate::acceptance::{accepted, plan_of, readable_plan, spelled_task};
 use crate::evaluation::invalid;
-use crate::plan_report::{differ_line, lifted_report, not_plain_line};
+use crate::found::{differing, lifted_report};
 use crate::product::Product;
 use crate::texts::Texts;
-use p3_base::{List, NoMemory, Side};
+use p3_base::{NoMemory, Side};
 use p3_eval::Whole;
 use p3_lift::{LiftFail, Lifted};
 use p3_plans::write_plan;
+use p3_reports::{Rejection, Report};
 use p3_tree::Task;
 use std::alloc::Global;
 
@@ -39,7 +40,7 @@ pub(crate) struct Lifting {
     /// The plan.
     pub(crate) plan: Vec<u8>,
     /// The report.
-    pub(crate) report: Vec<u8>,
+    pub(crate) report: Report,
 }
 
 impl Lifting {
@@ -47,7 +48,7 @@ impl Lifting {
     pub(crate) fn product(self, alloc: Global) -> Result<Product, NoMemory>
         ensures texts { IfOk result (λ product. map (λ text. text.items) product.texts.items
             ≡ self.plan.items ∷ []) }
-        ensures report { IfOk result (λ product. product.report.items ≡ self.report.items) }
+        ensures report { IfOk result (λ product. product.report ≡ self.report) }
     {
         Ok(Product {
             texts: vec![in alloc; self.plan]?,
@@ -61,7 +62,7 @@ pub(crate) fn lift(alloc: Global, texts: &Texts<'_>) -> Result<Lifting, Ending>
     ensures means { IfOk result (λ made. IsLifting
         texts.now.domain.now texts.now.problem.now
         texts.now.written_domain.now texts.now.written_problem.now texts.now.plan.now
-        made.plan.items made.report.items) }
+        made.plan.items (report_text made.report)) }
     ensures lines { IfOk result (λ made. HasPlanLayout made.plan.items) }
     ensures err { IfErr result (IsRejectedBy (RejectsLift (all_texts texts.now))) }
 {
@@ -69,7 +70,7 @@ pub(crate) fn lift(alloc: Global, texts: &Texts<'_>) -> Result<Lifting, Ending>
     let plan = plan_of(alloc, texts.plan)?;
     let lifted = match p3_lift::lift(alloc, &source, &written, &plan) {
         Ok(lifted) => lifted,
-        Err(fail) => return Err(unlifted(alloc, &fail)),
+        Err(fail) => return Err(unlifted(&fail)),
     };
     let made = lifting_of(alloc, &source, &lifted)?;
     Ok(made)
@@ -108,30 +109,19 @@ fn spelled_tasks(alloc: Global, texts: &Texts<'_>) -> Result<(Task, Task), Endin
 {
     let source = spelled_task(alloc, Side::Source, texts)?;
     let written = spelled_task(alloc, Side::Written, texts)?;
-    readable_plan(alloc, texts)?;
+    readable_plan(texts)?;
     Ok((source, written))
 }
 
 /// The ending that says why a plan is not lifted.
-fn unlifted(alloc: Global, fail: &LiftFail) -> Ending
+fn unlifted(fail: &LiftFail) -> Ending
     ensures { IsRejectedBy (TellsFail fail.now) result }
 {
     match fail {
-        LiftFail::NotPlain => refused_as(not_plain_line(alloc)),
-        LiftFail::Invalid(fault) => invalid(alloc, fault),
-        LiftFail::Mismatch(differ) => refused_as(differ_line(alloc, differ)),
+        LiftFail::NotPlain => Ending::Refused(Rejection::NotPlain),
+        LiftFail::Invalid(fault) => invalid(fault),
+        LiftFail::Mismatch(differ) => Ending::Refused(differing(differ)),
         LiftFail::NoMemory => Ending::OutOfMemory,
-    }
-}
-
-/// The ending that says a refusal by this line.
-fn refused_as(line: Result<Vec<u8>, NoMemory>) -> Ending
-    ensures ok { IfOk line (λ text. result ≡ Refused text.items) }
-    ensures err { OnErr line (result ≡ OutOfMemory) }
-{
-    match line {
-        Ok(line) => Ending::Refused(List::from(line)),
-        Err(NoMemory) => Ending::OutOfMemory,
     }
 }
 
@@ -141,11 +131,11 @@ fn lifting_of(alloc: Global, source: &Whole, lifted: &Lifted) -> Result<Lifting,
     requires metric { lifted.now.metric ≡ value source.now.checked.task lifted.now.plan }
     ensures plan { IfOk result (λ made. IsPlanText made.plan.items lifted.now.plan) }
     ensures lines { IfOk result (λ made. HasPlanLayout made.plan.items) }
-    ensures report { IfOk result (λ made. made.report.items
+    ensures report { IfOk result (λ made. report_text made.report
         ≡ lifted_lines source.now.checked.task lifted.now.plan lifted.now.cost) }
 {
     Ok(Lifting {
         plan: write_plan(alloc, &lifted.plan)?,
-        report: lifted_report(alloc, source.checked(), lifted)?,
+        report: Report::Lift(lifted_report(source.checked(), lifted)),
     })
 }

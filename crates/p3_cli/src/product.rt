@@ -2,6 +2,7 @@
 
 ghost use Rattle.std.specs.Prelude.{◌≡◌, ◌∷◌, [], length, map, IfOk, IfErr, OnOk};
 ghost use Rattle.p3_tree.specs.Commands.{inputs, row, source_task};
+ghost use Rattle.p3_reports.specs.Reports.{report_text};
 ghost use Rattle.p3_cli.specs.Asked.{asked_command};
 ghost use Rattle.p3_cli.specs.Product.{Accepts, Produces, Rejects};
 ghost use Rattle.p3_cli.specs.Refusing.{
@@ -23,6 +24,7 @@ use crate::request::Request;
 use crate::sampling::sample;
 use crate::texts::Texts;
 use crate::translation::translate;
+use p3_reports::Report;
 use std::alloc::Global;
 
 /// The texts that are written, in order, and the report.
@@ -31,7 +33,7 @@ pub(crate) struct Product {
     /// The texts of the outputs.
     pub(crate) texts: Vec<Vec<u8>>,
     /// The report.
-    pub(crate) report: Vec<u8>,
+    pub(crate) report: Report,
 }
 
 /// Carries a request out on the texts that were read.
@@ -46,7 +48,7 @@ pub(crate) fn product_of(
         length product.texts.items ≡ length request.now.writes.now) }
     ensures ok { IfOk result (λ product.
         Produces (asked_command request.now) (map (λ text. text.items) texts.now)
-        (map (λ text. text.items) product.texts.items) product.report.items) }
+        (map (λ text. text.items) product.texts.items) (report_text product.report)) }
     ensures accepted { OnOk result
         (Accepts (asked_command request.now) (map (λ text. text.items) texts.now)) }
     ensures err { IfErr result (IsRejectedBy

@@ -35,11 +35,11 @@ pub(crate) struct Input<'a> {
 
 /// A file that is to be written.
 #[derive(Clone, Copy)]
-pub(crate) struct Written<'a> {
+pub(crate) struct Written<'n, 't> {
     /// What it is.
     pub(crate) role: Role,
     /// Its name.
-    pub(crate) name: &'a Word,
+    pub(crate) name: &'n Word,
     /// Its bytes.
-    pub(crate) text: &'a [u8],
+    pub(crate) text: &'t [u8],
 }

@@ -7,19 +7,21 @@ ghost use Rattle.p3_tree.specs.Samples.{sample_domain, sample_plan, sample_probl
 ghost use Rattle.p3_tree.specs.Validity.{Valid};
 ghost use Rattle.p3_cli.specs.Evaluation.{IsRejectedPlan, RejectsPlan};
 ghost use Rattle.p3_cli.specs.Refusing.{IsRejectedBy, all_texts, with_plan};
+ghost use Rattle.p3_reports.specs.Reports.{report_text};
 ghost use Rattle.p3_cli.specs.Sampling.{IsSampleReport, IsSampling};
 
 use crate::Ending;
 use crate::acceptance::plan_of;
-use crate::embedded_report::sampled_report;
 use crate::embedding::embedded;
 use crate::evaluation::judged_task;
+use crate::found::sampled_report;
 use crate::product::Product;
 use crate::texts::Texts;
 use p3_base::NoMemory;
 use p3_compile::compile;
 use p3_eval::Whole;
 use p3_gen::{Sample, generate};
+use p3_reports::Report;
 use p3_tree::Plan;
 use std::alloc::Global;
 
@@ -29,7 +31,7 @@ pub(crate) struct Sampling {
     /// The sample.
     pub(crate) sample: Sample,
     /// The report.
-    pub(crate) report: Vec<u8>,
+    pub(crate) report: Report,
 }
 
 impl Sampling {
@@ -37,7 +39,7 @@ impl Sampling {
     pub(crate) fn product(self, alloc: Global) -> Result<Product, NoMemory>
         ensures texts { IfOk result (λ product. map (λ text. text.items) product.texts.items
             ≡ self.sample.domain ∷ self.sample.problem ∷ self.sample.plan ∷ []) }
-        ensures report { IfOk result (λ product. product.report.items ≡ self.report.items) }
+        ensures report { IfOk result (λ product. product.report ≡ self.report) }
     {
         Ok(Product {
             texts: vec![in alloc;
@@ -55,7 +57,8 @@ pub(crate) fn sample(alloc: Global, number: u32) -> Result<Sampling, Ending>
     requires some { 1 ≤ number }
     requires few { number ≤ 200 }
     ensures means { IfOk result (λ made. IsSampling number
-        made.sample.domain made.sample.problem made.sample.plan made.report.items) }
+        made.sample.domain made.sample.problem made.sample.plan
+        (report_text made.report)) }
     ensures err { IfErr result (IsRejectedBy
         (RejectsPlan (with_plan sample_domain (sample_problem number) (sample_plan number)))) }
 {
@@ -85,8 +88,8 @@ fn texts_of(sample: &Sample) -> Texts<'_>
 }
 
 /// The report of the task and of the plan that the texts spell.
-fn report_of(alloc: Global, texts: &Texts<'_>) -> Result<Vec<u8>, Ending>
-    ensures means { IfOk result (λ report. IsSampleReport (all_texts texts.now) report.items) }
+fn report_of(alloc: Global, texts: &Texts<'_>) -> Result<Report, Ending>
+    ensures means { IfOk result (λ report. IsSampleReport (all_texts texts.now) (report_text report)) }
     ensures err { IfErr result (IsRejectedPlan (all_texts texts.now)) }
 {
     let whole = judged_task(alloc, texts)?;
@@ -97,8 +100,8 @@ fn report_of(alloc: Global, texts: &Texts<'_>) -> Result<Vec<u8>, Ending>
         Err(ending) => return Err(ending),
     };
     let metric = value_of(alloc, &whole, &plan)?;
-    let report = sampled_report(alloc, &whole, &plan, &embedded, metric)?;
-    Ok(report)
+    let report = sampled_report(&whole, &plan, &embedded, metric);
+    Ok(Report::Generate(report))
 }
 
 /// The value of a valid plan.

@@ -73,7 +73,7 @@ fn read_one<F: Files>(alloc: Global, files: &mut F, input: &Input<'_>) -> Result
 pub(crate) fn write_all<F: Files>(
     alloc: Global,
     files: &mut F,
-    writings: &[Written<'_>],
+    writings: &[Written<'_, '_>],
 ) -> Result<(), Ending>
     ensures ok { OnOk result
         ((F.seen files.new).held

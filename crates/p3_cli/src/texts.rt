@@ -3,9 +3,8 @@
 ghost use Rattle.std.specs.Prelude.{◌≡◌, ◌≤◌, length};
 
 use crate::Ending;
-use crate::refusal::line_of_refusal;
-use p3_base::{List, Refusal, Role, Side};
-use std::alloc::Global;
+use p3_base::{Refusal, Role, Side};
+use p3_reports::{PlacedRefusal, Rejection};
 
 /// The texts that a command has read, by what they are. One that it does not read is empty.
 #[derive(Clone, Copy)]
@@ -70,15 +69,13 @@ impl<'t> Texts<'t> {
     }
 
     /// The ending that says a refusal of one of the texts.
-    pub(crate) fn refused(&self, alloc: Global, refusal: &Refusal) -> Ending
+    pub(crate) fn refused(&self, refusal: &Refusal) -> Ending
         ensures { IsRejectedBy
             (λ how. how
             ≡ refused_in (text_of refusal.now.pos.role (all_texts self.now)) refusal.now)
             result }
     {
-        match line_of_refusal(alloc, self.of(refusal.pos.role), refusal) {
-            Ok(line) => Ending::Refused(List::from(line)),
-            Err(_) => Ending::OutOfMemory,
-        }
+        let placed = PlacedRefusal::of(refusal, self.of(refusal.pos.role));
+        Ending::Refused(Rejection::At(placed))
     }
 }

@@ -2,18 +2,20 @@
 
 ghost use Rattle.std.specs.Prelude.{◌≡◌, ◌∷◌, [], map, IfOk, IfErr};
 ghost use Rattle.p3_tree.specs.Reports.Tasks.{compiled_lines};
+ghost use Rattle.p3_reports.specs.Reports.{report_text};
 ghost use Rattle.p3_cli.specs.Refusing.{IsRefusedTask, all_texts};
 ghost use Rattle.p3_cli.specs.Translation.{CanBeCompiled, HasLayout, IsLaidOut, IsTranslation};
 ghost use Rattle.p3_cli.specs.WrittenText.{HasFaithfulText};
 
 use crate::Ending;
 use crate::acceptance::{accepted, spelled_task};
+use crate::found::compiled_report;
 use crate::product::Product;
-use crate::report::compiled_report;
 use crate::texts::Texts;
 use p3_base::{NoMemory, Side};
 use p3_compile::compile;
 use p3_eval::Whole;
+use p3_reports::Report;
 use p3_writer::{write_domain, write_problem};
 use std::alloc::Global;
 
@@ -25,7 +27,7 @@ pub(crate) struct Translation {
     /// The problem.
     pub(crate) problem: Vec<u8>,
     /// The report.
-    pub(crate) report: Vec<u8>,
+    pub(crate) report: Report,
 }
 
 impl Translation {
@@ -33,7 +35,7 @@ impl Translation {
     pub(crate) fn product(self, alloc: Global) -> Result<Product, NoMemory>
         ensures texts { IfOk result (λ product. map (λ text. text.items) product.texts.items
             ≡ self.domain.items ∷ self.problem.items ∷ []) }
-        ensures report { IfOk result (λ product. product.report.items ≡ self.report.items) }
+        ensures report { IfOk result (λ product. product.report ≡ self.report) }
     {
         Ok(Product {
             texts: vec![in alloc; self.domain, self.problem]?,
@@ -45,7 +47,7 @@ impl Translation {
 /// Translates the task that the two texts spell.
 pub(crate) fn translate(alloc: Global, texts: &Texts<'_>) -> Result<Translation, Ending>
     ensures means { IfOk result (λ made. IsTranslation texts.now.domain.now texts.now.problem.now
-        made.domain.items made.problem.items made.report.items) }
+        made.domain.items made.problem.items (report_text made.report)) }
     ensures layout { IfOk result (λ made. HasLayout texts.now.domain.now texts.now.problem.now
         made.domain.items made.problem.items) }
     ensures err { IfErr result (IsRefusedTask (all_texts texts.now)) }
@@ -64,12 +66,12 @@ fn translation_of(alloc: Global, whole: &Whole) -> Result<Translation, NoMemory>
     ensures layout { IfOk result (λ made.
         IsLaidOut whole.now.checked.task made.domain.items made.problem.items) }
     ensures report { IfOk result (λ made.
-        made.report.items ≡ compiled_lines whole.now.checked.task) }
+        report_text made.report ≡ compiled_lines whole.now.checked.task) }
 {
     let target = compile(alloc, whole.ground_task(), whole.weights())?;
     Ok(Translation {
         domain: write_domain(alloc, &target)?,
         problem: write_problem(alloc, &target)?,
-        report: compiled_report(alloc, whole)?,
+        report: Report::Compile(compiled_report(whole)),
     })
 }

@@ -71,5 +71,6 @@ pub fn code_words(code: Code) -> &'static str
         Code::NotPlain => "19 not plain",
         Code::Mismatch => "20 mismatch",
         Code::FileTooLong => "21 file too long",
+        Code::FlatTooWide => "22 flat too wide",
     }
 }

@@ -2,10 +2,9 @@ use Rattle.std.proofs.Common.{◌≡◌, ◌∙◌, ℕ, List, ap, sym, subst, m
 use Rattle.p3_tree.specs.Commands.{Command, output}
 use Rattle.p3_cli.specs.Product.{Produces}
 use Rattle.p3_cli.specs.Asked.{asked_inputs, asked_command, asked_writings}
+use Rattle.p3_reports.specs.Reports.{report_text}
 use Rattle.p3_cli.specs.Outcome.{WriteFails}
-use Rattle.p3_cli.specs.Run.{Leaves}
 use Rattle.p3_cli.specs.Store.{holding_all}
-use Rattle.p3_cli.specs.declared.ending.Ending.TheVariants.{Done}
 use Rattle.p3_cli.proofs.RunLemmas.{all_accepted, rejected_comes, done_leaves, unwritten_comes, unwritten_leaves}
 use Rattle.p3_cli.proofs.call.carried_out.Goals as goal
 
@@ -43,7 +42,7 @@ returns-clause-leaves g c =
     let new = g.F.Files.seen c.write_all.new.files in
     let fails = subst (λ writings. WriteFails (asked_writings writings) mid.held new.held mid.write_faults new.write_faults c.in-Err-write_all.ending) c.as_slice-4.ensures.value c.in-Err-write_all.ensures.err in
     unwritten_leaves (asked_command c.args.request.now) _ same _ _ are (g.F.Files.seen c.args.files.now).held mid.held new.held (asked_writings c.in-Ok-writings.writings.items)
-    c.in-Ok-product_of.product.report.items _ _ c.in-Err-write_all.ending c.in-Ok-read_all.ensures.ok c.read_all.ensures.held_stays (c.in-Ok-writings.ensures.outputs ∙ ap (λ row. map output (zip row.writes c.args.request.now.writes.now)) c.row_of.ensures)
+    (report_text c.in-Ok-product_of.product.report) _ _ c.in-Err-write_all.ending c.in-Ok-read_all.ensures.ok c.read_all.ensures.held_stays (c.in-Ok-writings.ensures.outputs ∙ ap (λ row. map output (zip row.writes c.args.request.now.writes.now)) c.row_of.ensures)
     (made_of _ _ _ _ _ (c.in-Ok-writings.ensures.texts ∙ ap (map (λ text. text.items)) c.as_slice-3.ensures.value) c.in-Ok-product_of.ensures.ok) fails
 
 pub returns-in-Ok-write_all-clause-leaves : goal.returns-in-Ok-write_all-clause-leaves
@@ -53,6 +52,5 @@ returns-in-Ok-write_all-clause-leaves g c =
     let mid = g.F.Files.seen c.read_all.new.files in
     let new = g.F.Files.seen c.write_all.new.files in
     let is = subst (λ writings. new.held ≡ holding_all (asked_writings writings) mid.held) c.as_slice-4.ensures.value c.in-Ok-write_all.ensures.ok in
-    subst (λ report. Leaves (asked_command c.args.request.now) (g.F.Files.seen c.args.files.now).held new.held (Done report)) (sym c.from.ensures)
-    (done_leaves (asked_command c.args.request.now) _ same _ _ are (g.F.Files.seen c.args.files.now).held mid.held new.held (asked_writings c.in-Ok-writings.writings.items)
-    c.in-Ok-product_of.product.report.items c.in-Ok-read_all.ensures.ok c.read_all.ensures.held_stays (c.in-Ok-writings.ensures.outputs ∙ ap (λ row. map output (zip row.writes c.args.request.now.writes.now)) c.row_of.ensures) (made_of _ _ _ _ _ (c.in-Ok-writings.ensures.texts ∙ ap (map (λ text. text.items)) c.as_slice-3.ensures.value) c.in-Ok-product_of.ensures.ok) is)
+    done_leaves (asked_command c.args.request.now) _ same _ _ are (g.F.Files.seen c.args.files.now).held mid.held new.held (asked_writings c.in-Ok-writings.writings.items)
+    c.in-Ok-product_of.product.report c.in-Ok-read_all.ensures.ok c.read_all.ensures.held_stays (c.in-Ok-writings.ensures.outputs ∙ ap (λ row. map output (zip row.writes c.args.request.now.writes.now)) c.row_of.ensures) (made_of _ _ _ _ _ (c.in-Ok-writings.ensures.texts ∙ ap (map (λ text. text.items)) c.as_slice-3.ensures.value) c.in-Ok-product_of.ensures.ok) is

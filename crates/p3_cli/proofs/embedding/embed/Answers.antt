@@ -1,6 +1,7 @@
 use Rattle.std.proofs.Common.{subst}
 use Rattle.p3_formula.specs.Targets.{Compiled}
 use Rattle.p3_compile.specs.Lean.{IsLean}
+use Rattle.p3_reports.specs.Reports.{report_text}
 use Rattle.p3_cli.specs.Refusing.{all_texts}
 use Rattle.p3_cli.proofs.EmbeddingLemmas.{embedded_words, is_embedded}
 use Rattle.p3_cli.proofs.ProductLemmas.{faulty_plan}
@@ -38,7 +39,7 @@ returns-clause-means c =
       valid = source.ensures.valid;
       embedded =
           is_embedded T G w X whole.ensures.ready compiled plan.plan source.embedded.plan source.embedded.cost source.ensures.plan source.ensures.cost
-          made.made.domain.items made.made.problem.items made.made.plan.items made.made.report.items
+          made.made.domain.items made.made.problem.items made.made.plan.items (report_text made.made.report)
           made.ensures.text.domain_text made.ensures.text.problem_text made.ensures.plan made.ensures.report;
     }
 
