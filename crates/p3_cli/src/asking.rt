@@ -14,11 +14,11 @@ ghost use Rattle.p3_tree.specs.Commands.{
 };
 ghost use Rattle.p3_cli.specs.Asked.{asked_command};
 
-use p3_tree::CommandKind;
 use crate::request::Request;
 use crate::sample_number::sample_number;
 use crate::table::{kind_of, row_of};
 use p3_base::Word;
+use p3_tree::CommandKind;
 
 /// What the words ask for, or `None` where they have none of the listed shapes. It takes no memory.
 pub(crate) fn asked(words: &[Word]) -> Option<Request<'_>>

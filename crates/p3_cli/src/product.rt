@@ -16,7 +16,6 @@ ghost use Rattle.p3_cli.specs.Store.{AreWithin, nameless};
 ghost use Rattle.p3_tree.specs.declared.command.CommandKind.TheVariants.{Evaluate, Lift};
 
 use crate::Ending;
-use p3_tree::CommandKind;
 use crate::embedding::embed;
 use crate::evaluation::evaluate;
 use crate::lifting::lift;
@@ -25,6 +24,7 @@ use crate::sampling::sample;
 use crate::texts::Texts;
 use crate::translation::translate;
 use p3_reports::Report;
+use p3_tree::CommandKind;
 use std::alloc::Global;
 
 /// The texts that are written, in order, and the report.

@@ -3,8 +3,8 @@
 ghost use Rattle.std.specs.Prelude.{◌≡◌, ◌≤◌, length, IsTrue};
 ghost use Rattle.p3_tree.specs.Commands.{row};
 
-use p3_tree::CommandKind;
 use p3_base::{Role, Word};
+use p3_tree::CommandKind;
 
 /// A command with the names of its files.
 #[derive(Clone, Copy)]

@@ -4,8 +4,8 @@ ghost use Rattle.std.specs.Prelude.{◌≡◌};
 ghost use Rattle.p3_tree.specs.Commands as commands;
 ghost use Rattle.p3_cli.specs.Asked.{as_row};
 
-use p3_tree::CommandKind;
 use p3_base::Role;
+use p3_tree::CommandKind;
 
 /// What stands on a command line.
 #[derive(Clone, Copy)]

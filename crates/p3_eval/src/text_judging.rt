@@ -13,8 +13,8 @@ ghost use Rattle.p3_eval.specs.Judging.{
   IsVerdict,
 };
 
-use p3_base::Refusal;
 use crate::{PlanFault, Run, Whole};
+use p3_base::Refusal;
 use p3_plans::{NextStep, PlanReader, first_plan_offence};
 use p3_types::Checked;
 

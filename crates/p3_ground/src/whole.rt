@@ -9,12 +9,11 @@ ghost use Rattle.p3_ground.specs.Whole.{ArePartsOf, IsWhole, HasFewSteps};
 use crate::initial::{initial_cost, places_of};
 use crate::parts::Parts;
 use p3_base::NoMemory;
-use p3_steps::Costs;
 use p3_expansion::{
     Atoms, Statics, Work, hard_constraints, hard_form, initial_bits, soft_constraints,
 };
 use p3_formula::{Bits, GroundTask};
-use p3_steps::steps;
+use p3_steps::{Costs, steps};
 use p3_types::Checked;
 use std::alloc::Global;
 

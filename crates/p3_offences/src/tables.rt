@@ -9,8 +9,8 @@ ghost use Rattle.p3_offences.specs.Tables.{AreCounted, Has, IsNumbered, header_o
 
 use crate::declared_names::{preference_table, type_table};
 use crate::firsts::Firsts;
-use p3_base::{Name, NoMemory};
 use crate::fits::Fits;
+use p3_base::{Name, NoMemory};
 use p3_names::Names;
 use p3_tree::{Header, Task, Typed};
 use std::alloc::Global;

@@ -11,10 +11,10 @@ ghost use Rattle.p3_steps.specs.Steps.{
   count_of_steps,
 };
 
-use crate::made::step_at;
-use p3_base::{List, NoMemory};
 use crate::choices::candidates;
 use crate::costs::Costs;
+use crate::made::step_at;
+use p3_base::{List, NoMemory};
 use p3_expansion::{Statics, Work, choice_count, place_choice};
 use p3_formula::GroundStep;
 use p3_numbers::{NumberedAction, NumberedTask};

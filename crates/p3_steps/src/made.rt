@@ -4,8 +4,8 @@ ghost use Rattle.std.specs.Prelude.{◌≡◌, ◌+◌, ◌≤◌, IfOk};
 ghost use Rattle.p3_numbers.specs.Choices.{choice as objects_of_choice};
 ghost use Rattle.p3_steps.specs.Steps.{MakesStep, planned_step};
 
-use p3_base::{List, NoMemory};
 use crate::costs::Costs;
+use p3_base::{List, NoMemory};
 use p3_expansion::{Statics, Work, changes, hard_form, push_preferences};
 use p3_formula::GroundStep;
 use p3_numbers::{NumberedAction, NumberedTask};
