@@ -1,6 +1,5 @@
 pub mod EmbeddingLemmas
 pub mod FaithfulLaws
-pub mod FileLemmas
 pub mod GroupLemmas
 pub mod HeldLemmas
 pub mod MeaningLemmas
@@ -14,3 +13,4 @@ pub mod SpelledLemmas
 pub mod StoreLemmas
 pub mod TranslationLemmas
 pub mod WordLaws
+pub mod WrittenFiles

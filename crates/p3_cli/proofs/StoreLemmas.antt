@@ -4,14 +4,13 @@ use Rattle.std.specs.Prelude.{Contains, nat_lt, zero, suc}
 use Rattle.std.proofs.lemmas.List.{take_more, take-map, map-append}
 use Rattle.p3_base.specs.Outside.{Store, bytes_under, holding, Rose}
 use Rattle.p3_base.specs.declared.refusal.Role.{Role}
-use Rattle.p3_cli.specs.Asked.{asked_inputs, asked_written, asked_writings}
+use Rattle.p3_cli.specs.Asked.{asked_inputs}
 use Rattle.p3_cli.specs.Outcome.{ReadsAll, ReadFails}
 use Rattle.p3_tree.specs.Commands.{Input, Output}
 use Rattle.p3_cli.specs.Store.{Reading, Texts, TooLong, with_text, reading, reading_on, holding_all}
 use Rattle.p3_cli.specs.declared.ending.Ending.{Ending}
 use Rattle.p3_cli.specs.declared.ending.Ending.TheVariants as ending
 use Rattle.p3_cli.specs.declared.request.Input as code
-use Rattle.p3_cli.specs.declared.request.Written.{Written}
 
 -- the texts in front of what comes of the rest
 abbrev pub in_front : List (List ℕ) → Reading → Reading
@@ -103,17 +102,3 @@ read_fails_here told input rest all texts before mid after (ending.Refused line)
 read_fails_here told input rest all texts before mid after (ending.Invalid line) among grows so_far fails = fails
 read_fails_here told input rest all texts before mid after (ending.WriteFailed role) among grows so_far fails = fails
 read_fails_here told input rest all texts before mid after ending.Usage among grows so_far fails = fails
-
-holding_all-append : (written : List (Output × List ℕ)) (next : Output × List ℕ) (told : Option Store)
-    → holding_all (written ++ next ∷ []) told ≡ holding next.0.name next.1 (holding_all written told)
-holding_all-append [] next told = refl
-holding_all-append (first ∷ written) next told = holding_all-append written next (holding first.0.name first.1 told)
-
--- one more output is written
-pub holding_all-more : (writings : List Written) (i : ℕ) (next : Written) (told : Option Store) → i < length writings → next ≡ get_or writings i next
-    → holding_all (take (i + 1) (asked_writings writings)) told ≡ holding next.name.now next.text.now (holding_all (take i (asked_writings writings)) told)
-holding_all-more writings i next told within is =
-    ap (λ ws. holding_all ws told)
-    (take-map asked_written (i + 1) writings ∙ ap (map asked_written) (take_more writings i next within ∙ ap (λ w. take i writings ++ w ∷ []) (sym is)) ∙ map-append asked_written (take i writings) (next ∷ []))
-    ∙ holding_all-append (map asked_written (take i writings)) (asked_written next) told
-    ∙ ap (λ ws. holding next.name.now next.text.now (holding_all ws told)) (sym (take-map asked_written i writings))

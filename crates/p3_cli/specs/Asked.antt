@@ -3,7 +3,6 @@ use Rattle.std.specs.Prelude.{ℕ, List, map}
 use Rattle.p3_tree.specs.Commands as commands
 use Rattle.p3_cli.specs.declared.request.Input.{Input}
 use Rattle.p3_cli.specs.declared.request.Request.{Request}
-use Rattle.p3_cli.specs.declared.request.Written.{Written}
 use Rattle.p3_cli.specs.declared.table.Row.{Row}
 
 abbrev pub as_row : Row → commands.Row
@@ -17,9 +16,3 @@ asked_input input = record { role = input.role; name = input.name.now; limit = i
 
 abbrev pub asked_inputs : List Input → List commands.Input
 asked_inputs = map asked_input
-
-abbrev pub asked_written : Written → commands.Output × List ℕ
-asked_written written = (record { role = written.role; name = written.name.now }, written.text.now)
-
-abbrev pub asked_writings : List Written → List (commands.Output × List ℕ)
-asked_writings = map asked_written

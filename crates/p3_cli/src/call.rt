@@ -23,7 +23,6 @@ ghost use Rattle.p3_cli.specs.declared.ending.Ending.{Ending};
 
 use crate::Ending;
 use crate::asking::asked;
-use crate::files::writings;
 use crate::product::product_of;
 use crate::request::Request;
 use crate::status::UNPUT;
@@ -123,11 +122,7 @@ fn carried_out<F: Files>(alloc: Global, request: &Request<'_>, files: &mut F) ->
         Err(ending) => return ending,
     };
     let roles = row_of(request.kind).writes;
-    let writings = match writings(alloc, roles, request.writes, product.texts.as_slice()) {
-        Ok(writings) => writings,
-        Err(_) => return Ending::OutOfMemory,
-    };
-    match write_all(alloc, files, writings.as_slice()) {
+    match write_all(alloc, files, roles, request.writes, product.texts.as_slice()) {
         Ok(()) => Ending::Done(product.report),
         Err(ending) => ending,
     }

@@ -1,13 +1,10 @@
-//! The files of a request.
+//! The files that a request reads.
 
-ghost use Rattle.std.specs.Prelude.{◌≡◌, length, map, zip, IfOk};
-ghost use Rattle.p3_tree.specs.Commands.{input, inputs, limit_of, output};
-ghost use Rattle.p3_cli.specs.Product.{texts_in};
-ghost use Rattle.p3_cli.specs.Asked.{texts_in};
-ghost use Rattle.p3_cli.specs.Product.{texts_in};
-ghost use Rattle.p3_cli.specs.Asked.{asked_command, asked_input, asked_inputs, asked_writings};
+ghost use Rattle.std.specs.Prelude.{◌≡◌, IfOk};
+ghost use Rattle.p3_tree.specs.Commands.{input, inputs, limit_of};
+ghost use Rattle.p3_cli.specs.Asked.{asked_command, asked_input, asked_inputs};
 
-use crate::request::{Input, Request, Written};
+use crate::request::{Input, Request};
 use crate::table::row_of;
 use p3_base::{NoMemory, Role, Word};
 use std::alloc::Global;
@@ -34,31 +31,6 @@ impl<'a> Request<'a> {
         }
         Ok(inputs)
     }
-}
-
-/// The files of these roles and names, each with its text, as they are to be written.
-pub(crate) fn writings<'n, 't>(
-    alloc: Global,
-    roles: &[Role],
-    names: &'n [Word],
-    texts: &'t [Vec<u8>],
-) -> Result<Vec<Written<'n, 't>>, NoMemory>
-    requires roles { length roles.now ≡ length names.now }
-    requires texts { length texts.now ≡ length names.now }
-    ensures outputs { IfOk result (λ all. map (λ written. written.0) (asked_writings all.items)
-        ≡ map output (zip roles.now names.now)) }
-    ensures texts { IfOk result (λ all. texts_in (asked_writings all.items)
-        ≡ map (λ text. text.items) texts.now) }
-{
-    let mut writings = Vec::new(alloc);
-    for (place, text) in texts.iter().enumerate() {
-        writings.push(Written {
-            role: roles[place],
-            name: &names[place],
-            text: text.as_slice(),
-        })?;
-    }
-    Ok(writings)
 }
 
 /// A file that is read.

@@ -32,14 +32,3 @@ pub(crate) struct Input<'a> {
     /// How many bytes it may have.
     pub(crate) limit: u32,
 }
-
-/// A file that is to be written.
-#[derive(Clone, Copy)]
-pub(crate) struct Written<'n, 't> {
-    /// What it is.
-    pub(crate) role: Role,
-    /// Its name.
-    pub(crate) name: &'n Word,
-    /// Its bytes.
-    pub(crate) text: &'t [u8],
-}

@@ -2,13 +2,13 @@
 
 ghost use Rattle.std.specs.Prelude.{◌≡◌, ◌≤◌, ◌∷◌, [], length, map, Some, IfOk, IfErr, IfSome, OnOk, IsTrue};
 ghost use Rattle.p3_base.specs.Outside.{IsStored};
-ghost use Rattle.p3_cli.specs.Asked.{asked_input, asked_inputs, asked_writings};
+ghost use Rattle.p3_cli.specs.Asked.{asked_input, asked_inputs};
 ghost use Rattle.p3_cli.specs.Outcome.{ReadsAll, ReadFails, WriteFails};
-ghost use Rattle.p3_cli.specs.Store.{AreStored, AreWithin, holding_all};
+ghost use Rattle.p3_cli.specs.Store.{AreStored, AreWithin, files as files_with, holding_all};
 
 use crate::Ending;
-use crate::request::{Input, Written};
-use p3_base::{Files, ReadFault, WriteFault};
+use crate::request::Input;
+use p3_base::{Files, ReadFault, Role, Word, WriteFault};
 use std::alloc::Global;
 
 /// Reads the inputs in order.
@@ -69,26 +69,30 @@ fn read_one<F: Files>(alloc: Global, files: &mut F, input: &Input<'_>) -> Result
     }
 }
 
-/// Writes the outputs in order.
+/// Writes the texts, in order, to the files of these roles and names.
 pub(crate) fn write_all<F: Files>(
     alloc: Global,
     files: &mut F,
-    writings: &[Written<'_, '_>],
+    roles: &[Role],
+    names: &[Word],
+    texts: &[Vec<u8>],
 ) -> Result<(), Ending>
-    ensures ok { OnOk result
-        ((F.seen files.new).held
-        ≡ holding_all (asked_writings writings.now) (F.seen files.old).held) }
-    ensures err { IfErr result
-        (WriteFails (asked_writings writings.now) (F.seen files.old).held
-        (F.seen files.new).held (F.seen files.old).write_faults
-        (F.seen files.new).write_faults) }
+    requires roles { length roles.now ≡ length names.now }
+    requires texts { length texts.now ≡ length names.now }
+    ensures ok { OnOk result ((F.seen files.new).held ≡ holding_all
+        (files_with roles.now names.now (map (λ text. text.items) texts.now))
+        (F.seen files.old).held) }
+    ensures err { IfErr result (WriteFails
+        (files_with roles.now names.now (map (λ text. text.items) texts.now))
+        (F.seen files.old).held (F.seen files.new).held
+        (F.seen files.old).write_faults (F.seen files.new).write_faults) }
     ensures read_faults_grow { (F.seen files.old).read_faults ≤ (F.seen files.new).read_faults }
     ensures write_faults_grow { (F.seen files.old).write_faults ≤ (F.seen files.new).write_faults }
 {
-    for written in writings {
-        match files.write(alloc, written.name, written.text) {
+    for (place, text) in texts.iter().enumerate() {
+        match files.write(alloc, &names[place], text.as_slice()) {
             Ok(()) => {}
-            Err(WriteFault::Failed) => return Err(Ending::WriteFailed(written.role)),
+            Err(WriteFault::Failed) => return Err(Ending::WriteFailed(roles[place])),
             Err(WriteFault::NoMemory) => return Err(Ending::OutOfMemory),
         }
     }

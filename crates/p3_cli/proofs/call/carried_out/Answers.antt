@@ -1,10 +1,11 @@
-use Rattle.std.proofs.Common.{◌≡◌, ◌∙◌, ℕ, List, ap, sym, subst, map, zip}
+use Rattle.std.proofs.Common.{◌≡◌, ◌∙◌, ℕ, List, ap, sym, subst, length, map, zip}
+use Rattle.std.proofs.lemmas.List.{length-map}
 use Rattle.p3_tree.specs.Commands.{Command, output}
 use Rattle.p3_cli.specs.Product.{Produces}
-use Rattle.p3_cli.specs.Asked.{asked_inputs, asked_command, asked_writings}
+use Rattle.p3_cli.specs.Asked.{asked_inputs, asked_command}
 use Rattle.p3_reports.specs.Reports.{report_text}
-use Rattle.p3_cli.specs.Outcome.{WriteFails}
-use Rattle.p3_cli.specs.Store.{holding_all}
+use Rattle.p3_cli.specs.Store.{files}
+use Rattle.p3_cli.proofs.WrittenFiles.{outputs_of, texts_of}
 use Rattle.p3_cli.proofs.RunLemmas.{all_accepted, rejected_comes, done_leaves, unwritten_comes, unwritten_leaves}
 use Rattle.p3_cli.proofs.call.carried_out.Goals as goal
 
@@ -40,10 +41,14 @@ returns-clause-leaves g c =
     let are = sym (ap (λ xs. map (λ text. text.items) xs) c.as_slice-2.ensures.value) in
     let mid = g.F.Files.seen c.read_all.new.files in
     let new = g.F.Files.seen c.write_all.new.files in
-    let fails = subst (λ writings. WriteFails (asked_writings writings) mid.held new.held mid.write_faults new.write_faults c.in-Err-write_all.ending) c.as_slice-4.ensures.value c.in-Err-write_all.ensures.err in
-    unwritten_leaves (asked_command c.args.request.now) _ same _ _ are (g.F.Files.seen c.args.files.now).held mid.held new.held (asked_writings c.in-Ok-writings.writings.items)
-    (report_text c.in-Ok-product_of.product.report) _ _ c.in-Err-write_all.ending c.in-Ok-read_all.ensures.ok c.read_all.ensures.held_stays (c.in-Ok-writings.ensures.outputs ∙ ap (λ row. map output (zip row.writes c.args.request.now.writes.now)) c.row_of.ensures)
-    (made_of _ _ _ _ _ (c.in-Ok-writings.ensures.texts ∙ ap (map (λ text. text.items)) c.as_slice-3.ensures.value) c.in-Ok-product_of.ensures.ok) fails
+    let request = c.args.request.now in
+    let texts = map (λ text. text.items) c.as_slice-3.result.now in
+    let all_roles = ap (λ row. length row.writes) c.row_of.ensures ∙ sym request.all_writes in
+    let all_texts = length-map c.as_slice-3.result.now (λ text. text.items) ∙ ap length c.as_slice-3.ensures.value ∙ c.in-Ok-product_of.ensures.many in
+    unwritten_leaves (asked_command request) _ same _ _ are (g.F.Files.seen c.args.files.now).held mid.held new.held (files c.row_of.result.writes.now request.writes.now texts)
+    (report_text c.in-Ok-product_of.product.report) _ _ c.in-Err-write_all.ending c.in-Ok-read_all.ensures.ok c.read_all.ensures.held_stays
+    (outputs_of c.row_of.result.writes.now request.writes.now texts all_roles all_texts ∙ ap (λ row. map output (zip row.writes request.writes.now)) c.row_of.ensures)
+    (made_of _ _ _ _ _ (texts_of c.row_of.result.writes.now request.writes.now texts all_roles all_texts ∙ ap (map (λ text. text.items)) c.as_slice-3.ensures.value) c.in-Ok-product_of.ensures.ok) c.in-Err-write_all.ensures.err
 
 pub returns-in-Ok-write_all-clause-leaves : goal.returns-in-Ok-write_all-clause-leaves
 returns-in-Ok-write_all-clause-leaves g c =
@@ -51,6 +56,11 @@ returns-in-Ok-write_all-clause-leaves g c =
     let are = sym (ap (λ xs. map (λ text. text.items) xs) c.as_slice-2.ensures.value) in
     let mid = g.F.Files.seen c.read_all.new.files in
     let new = g.F.Files.seen c.write_all.new.files in
-    let is = subst (λ writings. new.held ≡ holding_all (asked_writings writings) mid.held) c.as_slice-4.ensures.value c.in-Ok-write_all.ensures.ok in
-    done_leaves (asked_command c.args.request.now) _ same _ _ are (g.F.Files.seen c.args.files.now).held mid.held new.held (asked_writings c.in-Ok-writings.writings.items)
-    c.in-Ok-product_of.product.report c.in-Ok-read_all.ensures.ok c.read_all.ensures.held_stays (c.in-Ok-writings.ensures.outputs ∙ ap (λ row. map output (zip row.writes c.args.request.now.writes.now)) c.row_of.ensures) (made_of _ _ _ _ _ (c.in-Ok-writings.ensures.texts ∙ ap (map (λ text. text.items)) c.as_slice-3.ensures.value) c.in-Ok-product_of.ensures.ok) is
+    let request = c.args.request.now in
+    let texts = map (λ text. text.items) c.as_slice-3.result.now in
+    let all_roles = ap (λ row. length row.writes) c.row_of.ensures ∙ sym request.all_writes in
+    let all_texts = length-map c.as_slice-3.result.now (λ text. text.items) ∙ ap length c.as_slice-3.ensures.value ∙ c.in-Ok-product_of.ensures.many in
+    done_leaves (asked_command request) _ same _ _ are (g.F.Files.seen c.args.files.now).held mid.held new.held (files c.row_of.result.writes.now request.writes.now texts)
+    c.in-Ok-product_of.product.report c.in-Ok-read_all.ensures.ok c.read_all.ensures.held_stays
+    (outputs_of c.row_of.result.writes.now request.writes.now texts all_roles all_texts ∙ ap (λ row. map output (zip row.writes request.writes.now)) c.row_of.ensures)
+    (made_of _ _ _ _ _ (texts_of c.row_of.result.writes.now request.writes.now texts all_roles all_texts ∙ ap (map (λ text. text.items)) c.as_slice-3.ensures.value) c.in-Ok-product_of.ensures.ok) c.in-Ok-write_all.ensures.ok
