@@ -1,8 +1,7 @@
 -- What is found is printed as the definitions of lines say.
 use Rattle.std.proofs.Common.{◌≡◌, ◌∙◌, ◌++◌, ◌^◌, ℕ, length}
-use Rattle.std.specs.Prelude.{ℤ, codes, map, pos}
+use Rattle.std.specs.Prelude.{ℤ, codes, pos}
 use Rattle.std.specs.Fmt.{decimal, signed_decimal}
-use Rattle.std.specs.List.{flat_map}
 use Rattle.std.proofs.lemmas.List.Folds.{flat_map-map}
 use Rattle.p3_tree.specs.Costs.{cost_places}
 use Rattle.p3_tree.specs.Metrics.{cost, metric_places, value}
@@ -16,7 +15,6 @@ use Rattle.p3_tree.specs.declared.task.Task.{Task}
 use Rattle.p3_reports.specs.Found.{IsCompileReport, IsEmbedReport, IsEvaluateReport, IsGenerateReport, IsLiftReport, IsQuantity, count_of}
 use Rattle.p3_reports.specs.Parts.{count_text, counts_text, quantity_text}
 use Rattle.p3_reports.specs.Reports.{compile_text, embed_text, evaluate_text, generate_text, lift_text}
-use Rattle.p3_reports.specs.declared.part.NameCount.{NameCount}
 use Rattle.p3_reports.specs.declared.quantity.Quantity.{Quantity}
 use Rattle.p3_reports.specs.declared.report.CompileReport.{CompileReport}
 use Rattle.p3_reports.specs.declared.report.EmbedReport.{EmbedReport}

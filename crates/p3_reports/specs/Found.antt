@@ -1,5 +1,5 @@
 -- That what is found is what the definitions say of tasks and plans.
-use Rattle.std.specs.Prelude.{ℕ, ℤ, pos, ◌≡◌, length, List, map}
+use Rattle.std.specs.Prelude.{ℕ, ℤ, pos, ◌≡◌, length, map}
 use Rattle.p3_tree.specs.Costs.{cost_places}
 use Rattle.p3_tree.specs.Limits.{instance_count, step_count}
 use Rattle.p3_tree.specs.Metrics as metrics
