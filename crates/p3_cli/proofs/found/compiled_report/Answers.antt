@@ -1,9 +1,13 @@
-use Rattle.std.proofs.Common.{◌≡◌, ◌∙◌, None, sym, subst}
+use Rattle.std.proofs.Common.{◌≡◌, ◌∙◌, None, of_z, rules, sym, subst, to_z}
+use Rattle.std.proofs.lemmas.Int.{to_z-of_z}
 use Rattle.std.proofs.lemmas.Slice.Zip.{AllZip-long}
+use mir.Syntax.{w128}
+use mir.Val.{SFits}
 use Rattle.p3_tree.specs.Constraints.{instances}
 use Rattle.p3_tree.specs.Metrics.{metric_places}
 use Rattle.p3_tree.specs.Refusals.Metric.{metric_refusals}
 use Rattle.p3_tree.specs.Refusals.Places.{first_some}
+use Rattle.p3_reports.specs.declared.report.CompileReport.{CompileReport}
 use Rattle.p3_reports.proofs.FoundLaws.{compile_report_is}
 use Rattle.p3_types.specs.declared.checked.Checked.{Checked}
 use Rattle.p3_ground.specs.StandsFor.{SoftStands}
@@ -25,9 +29,16 @@ returns c =
     let w = c.weights-weights.result.now in
     let can : CanBeCompiled T G w =
     subst (λ ground. CanBeCompiled T ground w) (sym c.ground_task-task.ensures) (subst (λ weights. CanBeCompiled T whole.ground_task weights) (sym c.weights-weights.ensures.weights) c.requires) in
-    compile_report_is T _ (record {
+    let fits : SFits w128 w.base = search rules in
+    let report : CompileReport = record {
+      steps = G.step_count;
+      preferences = c.len.result;
+      base = record { places = c.metric_places.result; units = to_z w128 (of_z w128 w.base); few = c.metric_places.ensures.few };
+      direction = w.direction;
+    } in
+    compile_report_is T report (record {
       steps = can.grounding.stands.step_count;
-      preferences = AllZip-long (SoftStands T can.grounding.atoms) (instances T) G.soft can.grounding.stands.soft;
-      base = record { places = c.metric_places.ensures.places ∙ (λ i. metric_places (c.checked.ensures.checked i).task); units = can.weighed.base };
+      preferences = c.len.ensures ∙ AllZip-long (SoftStands T can.grounding.atoms) (instances T) G.soft can.grounding.stands.soft;
+      base = record { places = c.metric_places.ensures.places ∙ (λ i. metric_places (c.checked.ensures.checked i).task); units = to_z-of_z w128 w.base fits ∙ can.weighed.base };
       direction = can.weighed.direction;
     })
