@@ -2,9 +2,9 @@
 
 use crate::{
     EvaluateReport, Fault, Misfit, NameCount, Part, Quantity, put_evaluate_report,
-    put_lifted_fault, put_numbers_differ, put_parts, put_refusal,
+    put_lifted_fault, put_numbers_differ, put_part, put_parts, put_refusal,
 };
-use p3_base::{Code, List, MemSink, Name, Pos, Refusal, Role};
+use p3_base::{Code, List, MemSink, Name, Pos, Refusal, Role, SinkFailed};
 use std::test::Fail;
 
 #[test]
@@ -100,5 +100,19 @@ fn a_scale_of_1_is_not_printed(rt: HostRuntime) -> Result<(), Fail> {
     ];
     assert_eq!(rt; put_parts(&parts, &mut sink), Ok(()));
     assert_eq!(rt; sink.bytes(), b"base 5\nbase 0.5\nscale 10\n".as_slice());
+    Ok(())
+}
+
+#[test]
+fn a_line_longer_than_most_is_put_piece_by_piece(rt: HostRuntime) -> Result<(), Fail> {
+    let alloc = rt.alloc();
+    let name = [b'x'; 300];
+    let part = Part::Violated(&name, 1);
+    let mut sink = MemSink::new(alloc, 312)?;
+    assert_eq!(rt; put_part(&part, &mut sink), Ok(()));
+    assert_eq!(rt; sink.bytes().len(), 312);
+    let mut short = MemSink::new(alloc, 200)?;
+    assert_eq!(rt; put_part(&part, &mut short), Err(SinkFailed));
+    assert_eq!(rt; short.bytes(), b"violated ".as_slice());
     Ok(())
 }
