@@ -16,6 +16,7 @@ use Rattle.p3_formula.specs.Targets.{Compiled, target_cost}
 use Rattle.p3_formula.specs.declared.target.Target.{Target}
 use Rattle.p3_formula.specs.declared.target.Weights.{Weights}
 use Rattle.p3_formula.specs.declared.task.GroundTask.{GroundTask}
+use Rattle.p3_formula.proofs.NamedLaws.{translates, well_named}
 use Rattle.p3_ground.specs.PlansByNumber.{are_bare, names_of}
 use Rattle.p3_plans.specs.Layout.{has_written_words, is_written_word}
 use Rattle.p3_writer.specs.TaskOf.{task_of}
@@ -73,10 +74,10 @@ module _ (T : Task) (G : GroundTask) (w : Weights) (X : Target) (can : CanBeComp
   faithful = compiled_faithful T G w X can.well_formed stands can.linear can.weighed compiled
 
   source : IsSource T (task_of X) p q
-  source = is_source T G w X can.well_formed stands can.linear can.weighed compiled p q is
+  source = is_source T G w X can.well_formed stands can.linear can.weighed compiled.sized (well_named X compiled.named) (translates G w X compiled) p q is
 
   spent : cost ≡ value (task_of X) q
-  spent = costs ∙ sym (source_cost T G w X can.well_formed stands can.linear can.weighed compiled p q is)
+  spent = costs ∙ sym (source_cost T G w X can.well_formed stands can.linear can.weighed compiled.sized (well_named X compiled.named) (translates G w X compiled) p q is)
 
   -- its texts
   pub is_embedded : (od op text report : List ℕ) → IsDomainTextOf od (task_of X).domain → IsProblemTextOf op (task_of X).problem → IsPlanText text q → report ≡ embedded_lines T (length q) cost → IsEmbedded T p od op text report

@@ -18,10 +18,11 @@ use Rattle.p3_tree.specs.declared.task.Task.{Task}
 use Rattle.p3_tree.proofs.OffsetLemmas.{faithful_offset_free}
 use Rattle.p3_tree.proofs.StepNumberLaws.{steps_have_numbers}
 use Rattle.p3_formula.specs.GroundPlans.{GroundPlan, ground_cost, ground_loss}
-use Rattle.p3_formula.specs.Targets.{TargetPlan, TargetValid, Compiled, IsSoundFor, HasOneOrigin, ground_lift, target_cost}
+use Rattle.p3_formula.specs.Targets.{TargetPlan, TargetValid, Compiled, IsSized, IsSoundFor, IsWellNamed, HasOneOrigin, Translates, ground_lift, target_cost}
 use Rattle.p3_formula.specs.declared.target.Target.{Target}
 use Rattle.p3_formula.specs.declared.target.Weights.{Weights}
 use Rattle.p3_formula.specs.declared.task.GroundTask.{GroundTask}
+use Rattle.p3_formula.proofs.NamedLaws.{translates, well_named}
 use Rattle.p3_ground.specs.PlansByNumber.{AreNumbers, are_bare, names_of}
 use Rattle.p3_ground.specs.StandsFor.{StandsFor, StandsBy, SoftStands}
 use Rattle.p3_ground.proofs.Counts.{counts_agree, losses_alike}
@@ -66,7 +67,7 @@ bare_bare (name ∷ names) = bare_bare names
 
 -- ---- the law
 
-module _ (T : Task) (G : GroundTask) (w : Weights) (X : Target) (well : WellFormed T) (stands : StandsFor T G) (linear : IsLinearMetric T) (has : HasWeights T w) (compiled : Compiled G w X) where
+module _ (T : Task) (G : GroundTask) (w : Weights) (X : Target) (well : WellFormed T) (stands : StandsFor T G) (linear : IsLinearMetric T) (has : HasWeights T w) (sized : IsSized X) (named : IsWellNamed X) (translating : Translates G w X) where
   K : HasStepNumbers T
   K = steps_have_numbers T well
 
@@ -77,7 +78,7 @@ module _ (T : Task) (G : GroundTask) (w : Weights) (X : Target) (well : WellForm
   weighed = is_weights T linear (counts_names T well) w has
 
   written : IsWritten X
-  written = is_written X compiled.sized compiled.named
+  written = is_written X sized named
 
   -- what a plan costs above the base
   loss_above : (plan : Plan) (numbers : GroundPlan) → AreNumbers T plan numbers → steps_fit T plan ≡ true → loss T plan ≡ base_loss T +ℤ pos (ground_loss G w numbers)
@@ -103,7 +104,7 @@ module _ (T : Task) (G : GroundTask) (w : Weights) (X : Target) (well : WellForm
     alike = lift_alike T G S.step_count q (ap are_bare (written.bare_steps q valid) ∙ bare_bare names)
 
     is_sound : IsSoundFor G w X names
-    is_sound = compiled.sound names target_valid
+    is_sound = translating.sound names target_valid
 
     lifted_valid : Valid T (lift T q)
     lifted_valid = valid_alike T stands.atoms G S K (lift T q) (ground_lift G names) alike ∙ is_sound.valid
@@ -120,7 +121,7 @@ module _ (T : Task) (G : GroundTask) (w : Weights) (X : Target) (well : WellForm
 
     long : length q ≡ length (lift T q) + 1 + length (instances T) + extra T (lift T q)
     long =
-        sym (length-map q (λ step. step.action)) ∙ compiled.length names target_valid
+        sym (length-map q (λ step. step.action)) ∙ translating.length names target_valid
         ∙ (λ i. AllZip-long (HasNumber T) (lift T q) (ground_lift G names) alike i + 1 + AllZip-long (SoftStands T stands.atoms) (instances T) G.soft S.soft i
         + sym (extras_alike T w has.by_name stands.atoms G S K (lift T q) (ground_lift G names) alike fit) i)
 
@@ -146,7 +147,7 @@ module _ (T : Task) (G : GroundTask) (w : Weights) (X : Target) (well : WellForm
   one_source : (p : Plan) → Valid T p → HasOneSource T (task_of X) p
   one_source p valid =
       let (numbers, are) = has_numbers T K p (valid_fits T p valid) in
-      one_source_by p numbers are (compiled.one_to_one numbers (sym (valid_alike T stands.atoms G S K p numbers are) ∙ valid))
+      one_source_by p numbers are (translating.one_to_one numbers (sym (valid_alike T stands.atoms G S K p numbers are) ∙ valid))
 
   -- ---- a plan that is embedded
 
@@ -179,8 +180,8 @@ module _ (T : Task) (G : GroundTask) (w : Weights) (X : Target) (well : WellForm
     pub source_cost : value (task_of X) q ≡ pos (target_cost X names_in_order)
     source_cost = ap (value (task_of X)) (sym spelled) ∙ written.value names_in_order
 
-  pub compiled_faithful : Faithful T (task_of X)
-  compiled_faithful = record {
+  pub translation_faithful : Faithful T (task_of X)
+  translation_faithful = record {
     well_formed = written.well_formed;
     plain = written.plain;
     variable_free = written.variable_free;
@@ -189,6 +190,10 @@ module _ (T : Task) (G : GroundTask) (w : Weights) (X : Target) (well : WellForm
     one_to_one = one_source;
     length = long;
   }
+
+-- a compiled ground task is one
+pub compiled_faithful : (T : Task) (G : GroundTask) (w : Weights) (X : Target) → WellFormed T → StandsFor T G → IsLinearMetric T → HasWeights T w → Compiled G w X → Faithful T (task_of X)
+compiled_faithful T G w X well stands linear has compiled = translation_faithful T G w X well stands linear has compiled.sized (well_named X compiled.named) (translates G w X compiled)
 
 -- ---- texts
 

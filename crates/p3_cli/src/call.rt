@@ -122,7 +122,13 @@ fn carried_out<F: Files>(alloc: Global, request: &Request<'_>, files: &mut F) ->
         Err(ending) => return ending,
     };
     let roles = row_of(request.kind).writes;
-    match write_all(alloc, files, roles, request.writes, product.texts.as_slice()) {
+    match write_all(
+        alloc,
+        files,
+        roles,
+        request.writes,
+        product.texts.as_slice(),
+    ) {
         Ok(()) => Ending::Done(product.report),
         Err(ending) => ending,
     }

@@ -5,7 +5,7 @@ ghost use Rattle.std.specs.Prelude.{List, ℕ};
 ghost use Rattle.p3_tree.specs.Faithful.{Faithful};
 ghost use Rattle.p3_tree.specs.Offences.{WellFormed};
 ghost use Rattle.p3_tree.specs.declared.task.Task.{Task};
-ghost use Rattle.p3_formula.specs.Targets.{Compiled};
+ghost use Rattle.p3_formula.specs.Targets.{Compiled, IsSized, IsWellNamed, Translates};
 ghost use Rattle.p3_formula.specs.declared.target.Target.{Target};
 ghost use Rattle.p3_formula.specs.declared.target.Weights.{Weights};
 ghost use Rattle.p3_formula.specs.declared.task.GroundTask.{GroundTask};
@@ -19,6 +19,14 @@ ghost use Rattle.p3_cli.specs.WrittenText.{HasFaithfulText};
 pub fn compiled_tasks_are_faithful()
     ensures { (T : Task) (G : GroundTask) (w : Weights) (X : Target) → WellFormed T → StandsFor T G
         → IsLinearMetric T → HasWeights T w → Compiled G w X → Faithful T (task_of X) }
+{}
+
+/// A target whose plans are those of a task's ground task translates the task, whatever its names
+/// are, as long as its texts may have them.
+pub fn translating_targets_are_faithful()
+    ensures { (T : Task) (G : GroundTask) (w : Weights) (X : Target) → WellFormed T → StandsFor T G
+        → IsLinearMetric T → HasWeights T w → IsSized X → IsWellNamed X → Translates G w X
+        → Faithful T (task_of X) }
 {}
 
 /// Two texts of the task that a target is are those of a faithful translation where that task is
