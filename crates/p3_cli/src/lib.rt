@@ -23,13 +23,8 @@ mod translation;
 
 pub use call::run;
 pub use ending::Ending;
-<<<<<<< HEAD
-pub use laws::{compiled_tasks_are_faithful, written_targets_are_faithful_texts};
-pub use p3_eval::{TextVerdict, judge_text};
-=======
 pub use laws::{
     compiled_tasks_are_faithful, translating_targets_are_faithful,
     written_targets_are_faithful_texts,
 };
-pub use p3_judge::{TextVerdict, judge_text};
->>>>>>> 2e9f858 (The law on faithful translations is stated over what it uses of a compiled ground task)
+pub use p3_eval::{TextVerdict, judge_text};
