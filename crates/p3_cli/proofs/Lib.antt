@@ -10,6 +10,7 @@ pub mod RejectionLemmas
 pub mod ResultLemmas
 pub mod RunLemmas
 pub mod SpelledLemmas
+pub mod StatusLemmas
 pub mod StoreLemmas
 pub mod TranslationLemmas
 pub mod WordLaws

@@ -140,7 +140,7 @@ rejects None old new before after status how answers tells = if_none old.held
     if_none (Some store) = λ shown also. absurd also
 rejects (Some command) old new before after status how answers tells = rejects_held old.held command old new before after status how refl answers.0 tells
 
-some_status : (told : Option Store) (command : Command) (status : ℕ) (how : Ending) → status_of how ≡ status → IfSome told (λ store. IsRejectionIn store command how) → IfSome told (IsStatusIn (Some command) status)
+pub some_status : (told : Option Store) (command : Command) (status : ℕ) (how : Ending) → status_of how ≡ status → IfSome told (λ store. IsRejectionIn store command how) → IfSome told (IsStatusIn (Some command) status)
 some_status None command status how is shown = tt
 some_status (Some store) command status how is shown = (how, is, shown)
 

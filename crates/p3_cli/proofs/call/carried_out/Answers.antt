@@ -48,7 +48,7 @@ returns-clause-leaves g c =
     unwritten_leaves (asked_command request) _ same _ _ are (g.F.Files.seen c.args.files.now).held mid.held new.held (files c.row_of.result.writes.now request.writes.now texts)
     (report_text c.in-Ok-product_of.product.report) _ _ c.in-Err-write_all.ending c.in-Ok-read_all.ensures.ok c.read_all.ensures.held_stays
     (outputs_of c.row_of.result.writes.now request.writes.now texts all_roles all_texts ∙ ap (λ row. map output (zip row.writes request.writes.now)) c.row_of.ensures)
-    (made_of _ _ _ _ _ (texts_of c.row_of.result.writes.now request.writes.now texts all_roles all_texts ∙ ap (map (λ text. text.items)) c.as_slice-3.ensures.value) c.in-Ok-product_of.ensures.ok) c.in-Err-write_all.ensures.err
+    (made_of (asked_command request) _ _ _ _ (texts_of c.row_of.result.writes.now request.writes.now texts all_roles all_texts ∙ ap (map (λ text. text.items)) c.as_slice-3.ensures.value) c.in-Ok-product_of.ensures.ok) c.in-Err-write_all.ensures.err
 
 pub returns-in-Ok-write_all-clause-leaves : goal.returns-in-Ok-write_all-clause-leaves
 returns-in-Ok-write_all-clause-leaves g c =
@@ -63,4 +63,4 @@ returns-in-Ok-write_all-clause-leaves g c =
     done_leaves (asked_command request) _ same _ _ are (g.F.Files.seen c.args.files.now).held mid.held new.held (files c.row_of.result.writes.now request.writes.now texts)
     c.in-Ok-product_of.product.report c.in-Ok-read_all.ensures.ok c.read_all.ensures.held_stays
     (outputs_of c.row_of.result.writes.now request.writes.now texts all_roles all_texts ∙ ap (λ row. map output (zip row.writes request.writes.now)) c.row_of.ensures)
-    (made_of _ _ _ _ _ (texts_of c.row_of.result.writes.now request.writes.now texts all_roles all_texts ∙ ap (map (λ text. text.items)) c.as_slice-3.ensures.value) c.in-Ok-product_of.ensures.ok) c.in-Ok-write_all.ensures.ok
+    (made_of (asked_command request) _ _ _ _ (texts_of c.row_of.result.writes.now request.writes.now texts all_roles all_texts ∙ ap (map (λ text. text.items)) c.as_slice-3.ensures.value) c.in-Ok-product_of.ensures.ok) c.in-Ok-write_all.ensures.ok

@@ -1,6 +1,7 @@
 use Rattle.p3_tree.specs.Commands.{command_of}
 use Rattle.p3_cli.proofs.MeaningLemmas.{has_words, done_is_faithful, done_is_laid_out}
 use Rattle.p3_cli.proofs.RunLemmas.{refused, rejects, completes, others_stay}
+use Rattle.p3_cli.proofs.StatusLemmas.{invalid, read_failed, usage, write_failed}
 use Rattle.p3_cli.proofs.call.run.Goals as goal
 
 pub returns-clause-rejects : goal.returns-clause-rejects
@@ -20,3 +21,15 @@ returns-clause-layout g c = done_is_laid_out (command_of c.args.words.now) (has_
 
 pub returns-clause-refused : goal.returns-clause-refused
 returns-clause-refused g c = refused (command_of c.args.words.now) _ _ _ _ _ _ c.ending_of-ending.ensures.answers c.told.ensures
+
+pub returns-clause-usage : goal.returns-clause-usage
+returns-clause-usage g c = usage (command_of c.args.words.now) _ _ _ _ _ _ c.ending_of-ending.ensures.answers c.told.ensures
+
+pub returns-clause-invalid : goal.returns-clause-invalid
+returns-clause-invalid g c = invalid (command_of c.args.words.now) _ _ _ _ _ _ c.ending_of-ending.ensures.answers c.told.ensures
+
+pub returns-clause-read_failed : goal.returns-clause-read_failed
+returns-clause-read_failed g c = read_failed (command_of c.args.words.now) _ _ _ _ _ _ c.ending_of-ending.ensures.answers c.told.ensures
+
+pub returns-clause-write_failed : goal.returns-clause-write_failed
+returns-clause-write_failed g c = write_failed (command_of c.args.words.now) _ _ _ _ _ _ c.ending_of-ending.ensures.answers c.told.ensures
