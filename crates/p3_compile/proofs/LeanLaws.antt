@@ -6,9 +6,9 @@ use Rattle.std.proofs.lemmas.Bool.{and_parts, ltb-true}
 use Rattle.std.proofs.lemmas.Fmt.{decimal_injective}
 use Rattle.std.proofs.lemmas.List.Elements.{All-contains, All-cons, All-nil, Contains-append_cases}
 use Rattle.std.proofs.lemmas.List.Sums.{sum_by-cons}
-use Rattle.p3_base.specs.Copies.{copy_name}
+use Rattle.p3_base.specs.Copies.{Copy, IsNamedFor, IsQuestionOf, Question, copy_name}
 use Rattle.p3_base.specs.Words.{Name, is_digit}
-use Rattle.p3_base.proofs.CopyLemmas.{decimal_digits}
+use Rattle.p3_base.proofs.CopyLemmas.{decimal_digits, question_parts}
 use Rattle.p3_formula.specs.Conditions.{rises}
 use Rattle.p3_formula.specs.Forms.{State}
 use Rattle.p3_formula.specs.Targets.{lifted_number}
@@ -28,7 +28,7 @@ use Rattle.p3_simulation.specs.Gadgets.{AreRising}
 use Rattle.p3_simulation.specs.Watching.{all_modals, modals}
 use Rattle.p3_simulation.proofs.GadgetLaws.{found_step}
 use Rattle.p3_compile.specs.Compiling.{IsEnding, IsFrameOf, target_of}
-use Rattle.p3_compile.specs.Lean.{Answer, BelongsTo, Copy, End, HasFew, IsLean, IsNamedFor, IsOfSteps, IsQuestionOf, Question, busy_modals, is_busy}
+use Rattle.p3_compile.specs.Lean.{BelongsTo, HasFew, IsLean, IsOfSteps, busy_modals, is_busy}
 use Rattle.p3_compile.specs.Stepping.{busy_in}
 use Rattle.p3_compile.specs.Updated.{busy_count}
 use Rattle.p3_compile.specs.declared.stepping.Frame.{Frame}
@@ -53,17 +53,6 @@ cut (d ∷ ds) (e ∷ es) x y r q first second stop halt same =
     let here = first_byte d e (ds ++ x ∷ r) (es ++ y ∷ q) same in
     let later = cut ds es x y r q (and_parts (is_digit d) _ first).1 (and_parts (is_digit e) _ second).1 stop halt (other_bytes d e (ds ++ x ∷ r) (es ++ y ∷ q) same) in
     λ i. here i ∷ later i
-
-record QuestionParts (number : ℕ) (name : Name) : Type 0 where
-  byte : ℕ
-  rest : List ℕ
-  stops : is_digit byte ≡ false
-  is : name ≡ 113 ∷ (decimal number ++ byte ∷ rest)
-
-question_parts : (number : ℕ) (name : Name) → IsQuestionOf number name → QuestionParts number name
-question_parts number name (Answer true place) = record { byte = 121; rest = decimal place; stops = refl; is = refl }
-question_parts number name (Answer false place) = record { byte = 110; rest = decimal place; stops = refl; is = refl }
-question_parts number name End = record { byte = 101; rest = codes "nd"; stops = refl; is = refl }
 
 question_once : (number other : ℕ) (name : Name) → number < 2 ^ 64 → other < 2 ^ 64 → IsQuestionOf number name → IsQuestionOf other name → number ≡ other
 question_once number other name small little one two =
@@ -191,5 +180,15 @@ module _ (G : GroundTask) (weights : Weights) (frame : Frame) (up : rises 0 G.st
         others = λ action member apart. elim (Contains-append_cases actions phase.actions action member) [
           | inl here ↦ let of = of_steps action here in absurd (apart of.step of.own (belongs_to of.step of.own action.name of.is.named))
           | inr there ↦ (of_end action there).always
+        ];
+        each = λ action member. elim (Contains-append_cases actions phase.actions action member) [
+          | inl here ↦
+              let of = of_steps action here in
+              inl (record {
+                step = of.step;
+                own = of.own;
+                is = record { named = of.is.named; few = subst (λ n. HasFew weights.by_name n of.step action) (busy_is of.step) of.is.few };
+              })
+          | inr there ↦ inr (of_end action there).always
         ];
       }

@@ -14,11 +14,12 @@ use Rattle.p3_formula.specs.declared.target.TargetAction.{TargetAction}
 use Rattle.p3_formula.specs.declared.target.Weights.{Weights}
 use Rattle.p3_formula.specs.declared.task.GroundStep.{GroundStep}
 use Rattle.p3_monitors.specs.declared.watching.Monitor.{Monitor}
-use Rattle.p3_precprefs.specs.Questions.{AreAnswers, IsChain, answer_name, end_name}
+use Rattle.p3_base.specs.Copies.{Answer, Copy, End, IsNamedFor, Question, answer_name, end_name}
+use Rattle.p3_precprefs.specs.Questions.{AreAnswers, IsChain}
 use Rattle.p3_precprefs.specs.declared.copies.StepCopy.{StepCopy}
 use Rattle.p3_simulation.specs.Assembled.{AreCopyActions}
 use Rattle.p3_simulation.specs.Naming.{pattern}
-use Rattle.p3_compile.specs.Lean.{Answer, Copy, End, HasFew, IsNamedFor, IsStepAction, Question, chain_changes, is_conditional}
+use Rattle.p3_compile.specs.Lean.{HasFew, IsStepAction, chain_changes, is_conditional}
 use Rattle.p3_compile.specs.Tidied.{AreTidied, NoChange, IsKept, IsLeftOut}
 use Rattle.p3_compile.specs.Updated.{HasChanges, busy_count}
 

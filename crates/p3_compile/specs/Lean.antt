@@ -1,7 +1,7 @@
 -- That a target has few changes: those of a step ride only with the monitors that the step touches.
 use Rattle.std.specs.Prelude.{◌≡◌, ◌⊎◌, ℕ, ◌+◌, ◌*◌, ◌≤◌, nat_lt, Bool, true, false, not, List, length, count_by, if◌then◌else◌, Some, Contains}
 use Rattle.std.specs.List.{All}
-use Rattle.p3_base.specs.Copies.{copy_name}
+use Rattle.p3_base.specs.Copies.{IsNamedFor, IsQuestionOf}
 use Rattle.p3_base.specs.Words.{Name}
 use Rattle.p3_formula.specs.Modals.{touches}
 use Rattle.p3_formula.specs.Simplified.{is_value}
@@ -16,7 +16,6 @@ use Rattle.p3_formula.specs.declared.target.TargetAction.{TargetAction}
 use Rattle.p3_formula.specs.declared.target.Weights.{Weights}
 use Rattle.p3_formula.specs.declared.task.GroundStep.{GroundStep}
 use Rattle.p3_formula.specs.declared.task.GroundTask.{GroundTask}
-use Rattle.p3_precprefs.specs.Questions.{answer_name, end_name}
 use Rattle.p3_simulation.specs.Watching.{all_modals}
 
 -- a constraint on more than the last state, of which the step may change an atom
@@ -46,10 +45,6 @@ pub record HasFew (by_name : List ℕ) (busy : ℕ) (step : GroundStep) (action 
 
 -- ---- which actions belong to a step
 
-pub data IsQuestionOf (number : ℕ) : Name → Type 0 where
-  Answer : (holds : Bool) (place : ℕ) → IsQuestionOf number (answer_name holds number place)
-  End : IsQuestionOf number (end_name number)
-
 -- it counts as the step, or is one of its questions or its end
 abbrev pub BelongsTo : GroundTask → ℕ → Name → Type 0
 BelongsTo G number name = (lifted_number G name ≡ Some number) ⊎ IsQuestionOf number name
@@ -59,19 +54,7 @@ pub record HasStep (G : GroundTask) (number : ℕ) : Type 0 where
   pub own : Contains G.steps step
   pub is : step.number ≡ number
 
--- each action that counts as a step counts as one that is kept; the actions of a step have few changes; and what the others do happens always
-pub record IsLean (G : GroundTask) (weights : Weights) (X : Target) : Type 0 where
-  pub kept : (action : TargetAction) (number : ℕ) → Contains X.actions action → lifted_number G action.name ≡ Some number → HasStep G number
-  pub few : (action : TargetAction) (step : GroundStep) → Contains X.actions action → Contains G.steps step → BelongsTo G step.number action.name → HasFew weights.by_name (busy_modals step.effects (all_modals G)) step action
-  pub others : (action : TargetAction) → Contains X.actions action → ((step : GroundStep) → Contains G.steps step → BelongsTo G step.number action.name → ⊥) → All (λ (change : Change). change.cond ≡ True) action.effects
-
--- ---- the actions as they are made
-
--- an action of the step, by its name
-pub data IsNamedFor (number : ℕ) : Name → Type 0 where
-  Copy : (rest : Name) → IsNamedFor number (copy_name number rest)
-  Question : (name : Name) → IsQuestionOf number name → IsNamedFor number name
-
+-- an action that has the name and the changes of one of the step
 pub record IsStepAction (by_name : List ℕ) (busy : ℕ) (step : GroundStep) (action : TargetAction) : Type 0 where
   pub named : IsNamedFor step.number action.name
   pub few : HasFew by_name busy step action
@@ -81,3 +64,16 @@ pub record IsOfSteps (by_name : List ℕ) (busy : GroundStep → ℕ) (steps : L
   pub step : GroundStep
   pub own : Contains steps step
   pub is : IsStepAction by_name (busy step) step action
+
+-- what it changes happens always
+abbrev pub IsAlways : TargetAction → Type 0
+IsAlways action = All (λ (change : Change). change.cond ≡ True) action.effects
+
+-- ---- lean targets
+
+-- each action that counts as a step counts as one that is kept; the actions of a step have few changes; and what the others do happens always. Each action is one of a kept step, or does what it does always
+pub record IsLean (G : GroundTask) (weights : Weights) (X : Target) : Type 0 where
+  pub kept : (action : TargetAction) (number : ℕ) → Contains X.actions action → lifted_number G action.name ≡ Some number → HasStep G number
+  pub few : (action : TargetAction) (step : GroundStep) → Contains X.actions action → Contains G.steps step → BelongsTo G step.number action.name → HasFew weights.by_name (busy_modals step.effects (all_modals G)) step action
+  pub others : (action : TargetAction) → Contains X.actions action → ((step : GroundStep) → Contains G.steps step → BelongsTo G step.number action.name → ⊥) → IsAlways action
+  pub each : (action : TargetAction) → Contains X.actions action → IsOfSteps weights.by_name (λ step. busy_modals step.effects (all_modals G)) G.steps action ⊎ IsAlways action

@@ -6,8 +6,7 @@ use Rattle.std.specs.Fmt.{decimal}
 use Rattle.std.specs.Str.{str_to_ascii_lowercase}
 use Rattle.std.proofs.lemmas.List.{map-append}
 use Rattle.p3_base.proofs.NameLemmas.{lowered_decimal}
-use Rattle.p3_base.specs.Copies.{copy_prefix}
-use Rattle.p3_precprefs.specs.Questions.{answer_name, end_name}
+use Rattle.p3_base.specs.Copies.{answer_name, copy_prefix, end_name}
 
 -- one letter, a number and a text
 numbered : (letter n : ℕ) (text : List ℕ) → to_ascii_lowercase letter ≡ letter → n < 2 ^ 64 → str_to_ascii_lowercase text ≡ text → str_to_ascii_lowercase (letter ∷ (decimal n ++ text)) ≡ letter ∷ (decimal n ++ text)

@@ -1,7 +1,7 @@
 -- The chain of a wide step: an action that begins, two answers to a question for each of its weighted preferences, and an action that ends. Its own atoms are the running atom, the question atoms from the first one on, and the current atom.
-use Rattle.std.specs.Prelude.{◌≡◌, ◌⊎◌, ℕ, ◌+◌, ◌<◌, ◌≤◌, ◌==◌, nat_le, Bool, true, false, not, ◌&&◌, ◌||◌, List, [], ◌∷◌, ◌++◌, length, sum_by, codes, decimal, Contains, IsTrue}
+use Rattle.std.specs.Prelude.{◌≡◌, ◌⊎◌, ℕ, ◌+◌, ◌<◌, ◌≤◌, ◌==◌, nat_le, Bool, true, false, not, ◌&&◌, ◌||◌, List, [], ◌∷◌, ◌++◌, length, sum_by, Contains, IsTrue}
 use Rattle.std.specs.List.{All, list_all}
-use Rattle.p3_base.specs.Copies.{copy_prefix}
+use Rattle.p3_base.specs.Copies.{answer_name, copy_prefix, end_name}
 use Rattle.p3_base.specs.Words.{Name}
 use Rattle.p3_formula.specs.Conditions.{greatest_width}
 use Rattle.p3_formula.specs.Forms.{State, is_set, truth, has_atoms}
@@ -18,20 +18,6 @@ use Rattle.p3_formula.specs.declared.target.TargetAction.{TargetAction}
 use Rattle.p3_formula.specs.declared.target.Weights.{Weights}
 use Rattle.p3_formula.specs.declared.task.GroundStep.{GroundStep}
 use Rattle.p3_precprefs.specs.Copies.{HasPartsIn, violation}
-
--- ---- names
-
--- `q`, the number of the step, and what follows
-abbrev pub question_name : ℕ → Name → Name
-question_name number rest = codes "q" ++ (decimal number ++ rest)
-
--- `y` or `n`, and the place of the question
-abbrev pub answer_name : Bool → ℕ → ℕ → Name
-answer_name true number place = question_name number (codes "y" ++ decimal place)
-answer_name false number place = question_name number (codes "n" ++ decimal place)
-
-abbrev pub end_name : ℕ → Name
-end_name number = question_name number (codes "end")
 
 -- ---- the actions
 

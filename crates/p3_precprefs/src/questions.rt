@@ -3,6 +3,7 @@
 ghost use Rattle.std.specs.Prelude.{◌≡◌, ◌≤◌, ◌<◌, ◌+◌, ◌^◌, ◌++◌, true, false, length, sum_by, codes, decimal, string_bytes, IfOk, OnOk, IsSome};
 ghost use Rattle.std.specs.List.{list_all};
 ghost use Rattle.std.specs.Str.{str_to_ascii_lowercase};
+ghost use Rattle.p3_base.specs.Copies as named;
 ghost use Rattle.p3_base.specs.Copies.{copy_prefix};
 ghost use Rattle.p3_formula.specs.Conditions.{is_step_below, greatest_width, cost_limit};
 ghost use Rattle.p3_formula.specs.Guards.{AllAreTidy};
@@ -253,26 +254,26 @@ fn begin_text(alloc: Global, number: u32) -> Result<String, NoMemory>
 
 #[tactic(auto, using(crate::proofs::NameLaws::lowered_agree))]
 fn agree_text(alloc: Global, number: u32, place: usize) -> Result<String, NoMemory>
-    ensures text { IfOk result (λ text. string_bytes text ≡ made.answer_name true number place) }
-    ensures lowered { str_to_ascii_lowercase (made.answer_name true number place)
-        ≡ made.answer_name true number place }
+    ensures text { IfOk result (λ text. string_bytes text ≡ named.answer_name true number place) }
+    ensures lowered { str_to_ascii_lowercase (named.answer_name true number place)
+        ≡ named.answer_name true number place }
 {
     Ok(format!(in alloc; "q{number}y{place}")?)
 }
 
 #[tactic(auto, using(crate::proofs::NameLaws::lowered_deny))]
 fn deny_text(alloc: Global, number: u32, place: usize) -> Result<String, NoMemory>
-    ensures text { IfOk result (λ text. string_bytes text ≡ made.answer_name false number place) }
-    ensures lowered { str_to_ascii_lowercase (made.answer_name false number place)
-        ≡ made.answer_name false number place }
+    ensures text { IfOk result (λ text. string_bytes text ≡ named.answer_name false number place) }
+    ensures lowered { str_to_ascii_lowercase (named.answer_name false number place)
+        ≡ named.answer_name false number place }
 {
     Ok(format!(in alloc; "q{number}n{place}")?)
 }
 
 #[tactic(auto, using(crate::proofs::NameLaws::lowered_end))]
 fn end_text(alloc: Global, number: u32) -> Result<String, NoMemory>
-    ensures text { IfOk result (λ text. string_bytes text ≡ made.end_name number) }
-    ensures lowered { str_to_ascii_lowercase (made.end_name number) ≡ made.end_name number }
+    ensures text { IfOk result (λ text. string_bytes text ≡ named.end_name number) }
+    ensures lowered { str_to_ascii_lowercase (named.end_name number) ≡ named.end_name number }
 {
     Ok(format!(in alloc; "q{number}end")?)
 }
@@ -287,7 +288,7 @@ fn begin_name(alloc: Global, number: u32) -> Result<Name, NoMemory>
 
 /// `q`, the number, `y` or `n`, and the place.
 fn answer_name(alloc: Global, number: u32, place: usize, holds: bool) -> Result<Name, NoMemory>
-    ensures { IfOk result (λ name. name ≡ made.answer_name holds number place) }
+    ensures { IfOk result (λ name. name ≡ named.answer_name holds number place) }
 {
     if holds {
         Name::of(alloc, agree_text(alloc, number, place)?.as_bytes())
@@ -298,7 +299,7 @@ fn answer_name(alloc: Global, number: u32, place: usize, holds: bool) -> Result<
 
 /// `q`, the number and `end`.
 fn end_name(alloc: Global, number: u32) -> Result<Name, NoMemory>
-    ensures { IfOk result (λ name. name ≡ made.end_name number) }
+    ensures { IfOk result (λ name. name ≡ named.end_name number) }
 {
     Name::of(alloc, end_text(alloc, number)?.as_bytes())
 }

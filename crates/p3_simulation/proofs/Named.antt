@@ -6,7 +6,7 @@ use Rattle.std.proofs.lemmas.Bool.{and_parts, and_from}
 use Rattle.std.proofs.lemmas.List.{map-append}
 use Rattle.std.proofs.lemmas.List.Elements.{All-head, All-tail}
 use Rattle.std.proofs.lemmas.List.Folds.{list_all-append}
-use Rattle.p3_base.specs.Copies.{copy_name}
+use Rattle.p3_base.specs.Copies.{copy_name, question_name}
 use Rattle.p3_base.specs.Words.{Name, is_lowered, is_name, is_predicate_name}
 use Rattle.p3_formula.specs.Conditions.{IsReady, IsWithinLimits, rises}
 use Rattle.p3_formula.specs.Targets.{IsNamed, action_names, ends_with_c_number}
@@ -23,7 +23,7 @@ use Rattle.p3_endphase.specs.Ends.{AreActions, Settles}
 use Rattle.p3_endphase.specs.declared.phase.SoftEnd.{SoftEnd}
 use Rattle.p3_monitors.specs.declared.watching.Monitor.{Monitor}
 use Rattle.p3_precprefs.specs.Copies.{both_ways, patterns, violated_lists}
-use Rattle.p3_precprefs.specs.Questions.{AreAnswers, question_name}
+use Rattle.p3_precprefs.specs.Questions.{AreAnswers}
 use Rattle.p3_precprefs.specs.declared.copies.StepCopy.{StepCopy}
 use Rattle.p3_simulation.proofs.Assembling.{inside, size_is}
 use Rattle.p3_simulation.proofs.Bounds.{all_weaker}

@@ -7,11 +7,10 @@ use Rattle.std.proofs.lemmas.Bool.Decides.{nat_tests}
 use Rattle.std.proofs.lemmas.Fmt.{decimal_nonempty}
 use Rattle.std.proofs.lemmas.List.Folds.{list_all-append}
 use Rattle.std.proofs.lemmas.Slice.Eq.{bytes_eq-Decides}
-use Rattle.p3_base.specs.Copies.{copy_name}
+use Rattle.p3_base.specs.Copies.{copy_name, question_name}
 use Rattle.p3_base.specs.Words.{Name, has_name, is_digit, is_lowered, is_name, is_predicate_name, reserved_words, total_cost, are_digits}
 use Rattle.p3_base.proofs.CopyLemmas.{decimal_digits}
 use Rattle.p3_formula.specs.Targets.{ends_with_c_number}
-use Rattle.p3_precprefs.specs.Questions.{question_name}
 use Rattle.p3_simulation.proofs.Bounds.{all_weaker}
 use Rattle.p3_simulation.specs.Naming.{numbered, pattern}
 

@@ -5,7 +5,7 @@ use Rattle.std.specs.List.{list_all}
 use Rattle.std.proofs.lemmas.Bool.{and_parts, and_from, cases_eq, eqb-true, leb-true, le-leb, or_cases, or_from, or_left, or_right, eq-eqb, ne_eqb, lt-ltb}
 use Rattle.std.proofs.lemmas.List.Elements.{All-contains, Contains-append_cases}
 use Rattle.std.proofs.lemmas.List.Sums.{sum_by-cons}
-use Rattle.p3_base.specs.Copies.{copy_name, extra_of}
+use Rattle.p3_base.specs.Copies.{copy_name, extra_of, question_name}
 use Rattle.p3_base.specs.Words.{Name}
 use Rattle.p3_formula.specs.Conditions.{is_step_below}
 use Rattle.p3_formula.specs.Forms.{State, is_set, truth}
@@ -21,7 +21,7 @@ use Rattle.p3_formula.specs.declared.task.GroundStep.{GroundStep}
 use Rattle.p3_formula.proofs.NextLaws.{length-after, is_set-unchanged}
 use Rattle.p3_formula.proofs.TurnLaws.{unnamed_above}
 use Rattle.p3_precprefs.specs.Questions as asked
-use Rattle.p3_precprefs.specs.Questions.{IsChain, Returns, Last, More, AreAnswers, question_name, is_own, changes_own}
+use Rattle.p3_precprefs.specs.Questions.{IsChain, Returns, Last, More, AreAnswers, is_own, changes_own}
 use Rattle.p3_precprefs.proofs.ChainLaws.{chain_one_way, chain_no_way, chain_guarded, chain_one_fits, chain_stays_proper}
 use Rattle.p3_precprefs.proofs.ChainAtoms.{chain_changes}
 use Rattle.p3_simulation.proofs.Walks.{head_or_tail, in_none}

@@ -1,6 +1,7 @@
 use Rattle.std.proofs.Common.{◌∙◌, ◌+◌, ◌++◌, ◌∷◌, [], sym, subst}
 use Rattle.p3_formula.specs.Guards.{IsGuardedForm, turned}
-use Rattle.p3_precprefs.specs.Questions.{IsAnswer, answer_name}
+use Rattle.p3_base.specs.Copies.{answer_name}
+use Rattle.p3_precprefs.specs.Questions.{IsAnswer}
 use Rattle.p3_precprefs.proofs.LinkLaws.{linked}
 use Rattle.p3_precprefs.proofs.questions.answer_action.Goals as goal
 

@@ -1,7 +1,8 @@
 use Rattle.std.proofs.Common.{◌∙◌, ◌++◌, ◌∷◌, [], true, refl, sym, subst}
 use Rattle.p3_formula.specs.declared.form.Form.TheVariants.{True}
 use Rattle.p3_formula.specs.Guards.{IsGuardedForm, turned}
-use Rattle.p3_precprefs.specs.Questions.{IsEnd, end_name}
+use Rattle.p3_base.specs.Copies.{end_name}
+use Rattle.p3_precprefs.specs.Questions.{IsEnd}
 use Rattle.p3_precprefs.proofs.LinkLaws.{linked}
 use Rattle.p3_precprefs.proofs.questions.end_action.Goals as goal
 
