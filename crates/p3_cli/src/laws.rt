@@ -17,16 +17,17 @@ ghost use Rattle.p3_cli.specs.WrittenText.{HasFaithfulText};
 
 /// What is compiled for a task is a faithful translation of it.
 pub fn compiled_tasks_are_faithful()
-    ensures { (T : Task) (G : GroundTask) (w : Weights) (X : Target) → WellFormed T → StandsFor T G
-        → IsLinearMetric T → HasWeights T w → Compiled G w X → Faithful T (task_of X) }
+    ensures { (T : Task) (G : GroundTask) (w : Weights) (X : Target) → WellFormed T
+        → StandsFor T G → IsLinearMetric T → HasWeights T w → Compiled G w X
+        → Faithful T (task_of X) }
 {}
 
 /// A target whose plans are those of a task's ground task translates the task, whatever its names
 /// are, as long as its texts may have them.
 pub fn translating_targets_are_faithful()
-    ensures { (T : Task) (G : GroundTask) (w : Weights) (X : Target) → WellFormed T → StandsFor T G
-        → IsLinearMetric T → HasWeights T w → IsSized X → IsWellNamed X → Translates G w X
-        → Faithful T (task_of X) }
+    ensures { (T : Task) (G : GroundTask) (w : Weights) (X : Target) → WellFormed T
+        → StandsFor T G → IsLinearMetric T → HasWeights T w → IsSized X → IsWellNamed X
+        → Translates G w X → Faithful T (task_of X) }
 {}
 
 /// Two texts of the task that a target is are those of a faithful translation where that task is

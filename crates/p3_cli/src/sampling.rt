@@ -89,7 +89,8 @@ fn texts_of(sample: &Sample) -> Texts<'_>
 
 /// The report of the task and of the plan that the texts spell.
 fn report_of(alloc: Global, texts: &Texts<'_>) -> Result<Report, Ending>
-    ensures means { IfOk result (λ report. IsSampleReport (all_texts texts.now) (report_text report)) }
+    ensures means { IfOk result (λ report.
+        IsSampleReport (all_texts texts.now) (report_text report)) }
     ensures err { IfErr result (IsRejectedPlan (all_texts texts.now)) }
 {
     let whole = judged_task(alloc, texts)?;

@@ -50,7 +50,7 @@ use Rattle.p3_expansion.proofs.NextLemmas.{all-at, changes-make-next, changes-ar
 use Rattle.p3_expansion.proofs.StaticLemmas.{tell-statics}
 use Rattle.p3_expansion.proofs.TaskLemmas.{known, no-variables}
 use Rattle.p3_ground.specs.Expanded.{facts_of, AreExpanded, IsStepAt, IsStepExpanded, OfExpanded, FactsDiffer, HardConstraintsStand, SoftConstraintsStand, GoalStands, StepsStand, StepsAreFew}
-use Rattle.p3_ground.specs.Mentions.{is_under_when, literals_by, step_literals}
+use Rattle.p3_tree.specs.Mentions.{is_under_when, literals_by, step_literals}
 use Rattle.p3_ground.specs.Sparse.{is_atom_of, is_conditional, HasFewChanges}
 use Rattle.p3_ground.specs.StandsFor.{Matched, HasTruthOf, ModalStands, HardStands, PrefStands, SoftStands, can_begin, ChangesStand, IsMadeOf}
 use Rattle.p3_ground.proofs.StepParts.{step-env, step-known, step-begins}

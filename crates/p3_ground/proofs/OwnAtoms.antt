@@ -52,7 +52,7 @@ use Rattle.p3_expansion.proofs.NextLemmas.{own-facts}
 use Rattle.p3_expansion.proofs.TaskLemmas.{no-variables}
 use Rattle.p3_tree.proofs.OnceLemmas.{map_at}
 use Rattle.p3_ground.specs.Expanded.{facts_of, AreExpanded, OfExpanded, HardAtomsAreOwn, SoftAtomsAreOwn}
-use Rattle.p3_ground.specs.Mentions.{formula_atoms, formula_atoms_layer, operator_atoms}
+use Rattle.p3_tree.specs.Mentions.{formula_atoms, formula_atoms_layer, operator_atoms}
 use Rattle.p3_ground.specs.Sparse.{is_atom_of, HasOwnAtoms, PartsHaveOwnAtoms}
 
 module _ (T : Task) (N : Numbers) (ties : IsNumbering T N) where

@@ -45,7 +45,7 @@ use Rattle.p3_expansion.proofs.StaticLemmas.{tell-statics, start-told}
 use Rattle.p3_steps.specs.Possible as possible
 use Rattle.p3_steps.specs.Possible.{is_chosen, are_chosen, joined_atoms, joined_atoms_layer, goal_joined_atoms, goal_joined_layer, may_begin}
 use Rattle.p3_steps.proofs.PossibleLaws.{goal-possible}
-use Rattle.p3_ground.specs.Mentions.{conjuncts_by}
+use Rattle.p3_tree.specs.Mentions.{conjuncts_by}
 use Rattle.p3_ground.specs.Sparse.{is_possible}
 use Rattle.p3_ground.specs.StepParts.{IsKnownWhole, OfSteps, WantsWhatIsPossible}
 use Rattle.p3_ground.proofs.StepParts.{step-env, step-known}

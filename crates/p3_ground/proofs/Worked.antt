@@ -22,7 +22,7 @@ use Rattle.p3_formula.proofs.NextLaws.{length-after, is_set-after}
 use Rattle.p3_formula.proofs.Worked.{computes}
 use Rattle.p3_reach.specs.May.{may}
 use Rattle.p3_ground.specs.StandsFor.{Matched, AreDifferent, IsMadeOf, StepStands, StandsBy, LeavesOutOnlyUnfit}
-use Rattle.p3_ground.specs.Mentions.{formula_atoms}
+use Rattle.p3_tree.specs.Mentions.{formula_atoms}
 use Rattle.p3_ground.specs.Sparse.{HasFewChanges, IsGroundingOf, MayFit, Sparse, StepsHaveFewChanges, StepsHavePossibleConjuncts}
 use Rattle.p3_ground.specs.Worked.{only_step, smallest}
 

@@ -1,5 +1,4 @@
 pub mod StandsFor
-pub mod Mentions
 pub mod Sparse
 pub mod Pruned
 pub mod PlansByNumber

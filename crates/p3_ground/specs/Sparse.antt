@@ -21,7 +21,7 @@ use Rattle.p3_formula.specs.declared.task.GroundTask.{GroundTask}
 use Rattle.p3_reach.specs.May.{may_hold}
 use Rattle.p3_reach.specs.Closed.{IsClosed}
 use Rattle.p3_ground.specs.StandsFor.{StandsBy}
-use Rattle.p3_ground.specs.Mentions.{operator_atoms, step_literals, is_under_when, step_conjuncts}
+use Rattle.p3_tree.specs.Mentions.{operator_atoms, step_literals, is_under_when, step_conjuncts}
 
 -- the atom of that number is one of those
 abbrev pub is_atom_of : List Fact → List Fact → ℕ → Bool

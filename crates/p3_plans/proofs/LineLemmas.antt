@@ -10,6 +10,7 @@ use Rattle.p3_tree.specs.PlanTexts.{Outside, Named, IsPlanText, Mark, Opens, Clo
 use Rattle.p3_tree.specs.Tokens.{Token, Open, Close, Word, tokens_of}
 use Rattle.p3_tree.specs.Watching.{LineText, Empty, OneStep, Offends, earlier_by, line_by, line_offence, line_text, open_behind, second_step, step_in, word_of}
 use Rattle.p3_tree.specs.declared.task.Step.{Step}
+use Rattle.p3_tree.proofs.LineLaws.{one_step_plan}
 use Rattle.p3_plans.specs.Laws.{AreTextsOf, HasPlan, all_of}
 use Rattle.p3_plans.specs.Lines.{IsLineStep}
 use Rattle.p3_plans.specs.Steps.{IsSlice, Left, StepText, nothing, steps_from, unless_offence, with_next}
@@ -18,87 +19,6 @@ use Rattle.p3_plans.specs.declared.reader.NextStep.TheVariants as next
 use Rattle.p3_plans.specs.declared.reader.PlanStep.{PlanStep}
 use Rattle.p3_plans.proofs.PlanLaws.{a_plan_where_no_offence}
 use Rattle.p3_plans.proofs.SliceLemmas.{slices_are_texts_of_steps}
-
--- ---- the step of a line, by its marks
-
-abbrev name_in : Mark → Option Name
-name_in Opens = None
-name_in Closes = None
-name_in (Names word) = Some word
-
-abbrev open_mark : List Mark → Bool
-open_mark [] = false
-open_mark (Opens ∷ marks) = true
-open_mark (Closes ∷ marks) = open_mark marks
-open_mark (Names word ∷ marks) = open_mark marks
-
-abbrev second_mark : List Mark → Bool
-second_mark [] = false
-second_mark (Opens ∷ marks) = second_mark marks
-second_mark (Closes ∷ marks) = open_mark marks
-second_mark (Names word ∷ marks) = second_mark marks
-
-abbrev step_of_marks : List Mark → Option Step
-step_of_marks (Opens ∷ Names name ∷ marks) = Some (record { action = name; args = filter_map name_in marks })
-step_of_marks marks = None
-
-abbrev step_there : LineText → Option Step
-step_there (Offends offence) = None
-step_there Empty = None
-step_there (OneStep place own) = Some own
-
-words_by_marks : (tokens : List Token) → filter_map word_of tokens ≡ filter_map name_in (map mark_of tokens)
-words_by_marks [] = refl
-words_by_marks (Open at ∷ tokens) = words_by_marks tokens
-words_by_marks (Close at ∷ tokens) = words_by_marks tokens
-words_by_marks (Word at text ∷ tokens) = ap (λ rest. text ∷ rest) (words_by_marks tokens)
-
-no_open : (tokens : List Token) → open_behind tokens ≡ None → open_mark (map mark_of tokens) ≡ false
-no_open [] e = refl
-no_open (Open at ∷ tokens) e = absurd (cc)
-no_open (Close at ∷ tokens) e = no_open tokens e
-no_open (Word at text ∷ tokens) e = no_open tokens e
-
-no_second : (tokens : List Token) → second_step tokens ≡ None → second_mark (map mark_of tokens) ≡ false
-no_second [] e = refl
-no_second (Open at ∷ tokens) e = no_second tokens e
-no_second (Close at ∷ tokens) e = no_open tokens e
-no_second (Word at text ∷ tokens) e = no_second tokens e
-
-step_by_marks : (tokens : List Token) (at : ℕ) (step : Step) → step_in tokens ≡ OneStep at step → step_of_marks (map mark_of tokens) ≡ Some step
-step_by_marks [] at step e = absurd (cc)
-step_by_marks (Close place ∷ tokens) at step e = absurd (cc)
-step_by_marks (Word place text ∷ tokens) at step e = absurd (cc)
-step_by_marks (Open place ∷ []) at step e = absurd (cc)
-step_by_marks (Open place ∷ Open next ∷ tokens) at step e = absurd (cc)
-step_by_marks (Open place ∷ Close next ∷ tokens) at step e = absurd (cc)
-step_by_marks (Open place ∷ Word next name ∷ tokens) at step e =
-    ap (λ words. Some (record { action = name; args = words })) (sym (words_by_marks tokens)) ∙ ap step_there e
-
--- a step's arguments, and behind them whatever comes
-args_there : (args : List Name) → filter_map name_in (map Names args ++ Closes ∷ []) ≡ args
-args_there [] = refl
-args_there (arg ∷ args) = ap (λ rest. arg ∷ rest) (args_there args)
-
-second_there : (args : List Name) (marks : List Mark) → second_mark (map Names args ++ Closes ∷ Opens ∷ marks) ≡ true
-second_there [] marks = refl
-second_there (arg ∷ args) marks = second_there args marks
-
-append_more : (args : List Name) (marks : List Mark) → (map Names args ++ Closes ∷ []) ++ marks ≡ map Names args ++ Closes ∷ marks
-append_more [] marks = refl
-append_more (arg ∷ args) marks = ap (λ rest. Names arg ∷ rest) (append_more args marks)
-
-by_marks : (plan : Plan) (step : Step) → second_mark (flat_map step_marks plan) ≡ false → step_of_marks (flat_map step_marks plan) ≡ Some step → plan ≡ step ∷ []
-by_marks [] step none is = absurd (cc)
-by_marks (own ∷ []) step none is =
-    let e : Some (record { action = own.action; args = own.args }) ≡ Some step = ap (λ words. Some (record { action = own.action; args = words })) (sym (ap (filter_map name_in) (append_more own.args []) ∙ args_there own.args)) ∙ is in
-    let same : own ≡ step = cc in λ i. same i ∷ []
-by_marks (own ∷ other ∷ plan) step none is = absurd (true≢false (sym (ap second_mark (append_more own.args _) ∙ second_there own.args _) ∙ none))
-
--- where the tokens of a text are those of a plan, and it has one step, the plan is that step
-pub one_step_plan : (bytes : List ℕ) (plan : Plan) (at : ℕ) (step : Step) → IsPlanText bytes plan → second_step (tokens_of bytes).tokens ≡ None → step_in (tokens_of bytes).tokens ≡ OneStep at step → plan ≡ step ∷ []
-one_step_plan bytes plan at step is none one =
-    by_marks plan step (ap second_mark (sym is.marks) ∙ no_second (tokens_of bytes).tokens none) (ap step_of_marks (sym is.marks) ∙ step_by_marks (tokens_of bytes).tokens at step one)
 
 -- ---- the first offence
 

@@ -254,7 +254,8 @@ fn begin_text(alloc: Global, number: u32) -> Result<String, NoMemory>
 
 #[tactic(auto, using(crate::proofs::NameLaws::lowered_agree))]
 fn agree_text(alloc: Global, number: u32, place: usize) -> Result<String, NoMemory>
-    ensures text { IfOk result (λ text. string_bytes text ≡ named.answer_name true number place) }
+    ensures text { IfOk result (λ text.
+        string_bytes text ≡ named.answer_name true number place) }
     ensures lowered { str_to_ascii_lowercase (named.answer_name true number place)
         ≡ named.answer_name true number place }
 {
@@ -263,7 +264,8 @@ fn agree_text(alloc: Global, number: u32, place: usize) -> Result<String, NoMemo
 
 #[tactic(auto, using(crate::proofs::NameLaws::lowered_deny))]
 fn deny_text(alloc: Global, number: u32, place: usize) -> Result<String, NoMemory>
-    ensures text { IfOk result (λ text. string_bytes text ≡ named.answer_name false number place) }
+    ensures text { IfOk result (λ text.
+        string_bytes text ≡ named.answer_name false number place) }
     ensures lowered { str_to_ascii_lowercase (named.answer_name false number place)
         ≡ named.answer_name false number place }
 {

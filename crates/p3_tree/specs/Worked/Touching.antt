@@ -33,7 +33,7 @@ conds_of_steps d p = option_map (λ T. map (conds T) (steps T)) (task_of_texts d
 abbrev pub refused_at : List ℕ → List ℕ → ℕ → Option (List ℕ)
 refused_at d p place = option_map (λ (action : Action). refusal_line d (refusal_at_word FlatTooWide role.Domain action.name)) (option_and_then (λ (T : Task). slice_get T.domain.actions place) (task_of_texts d p))
 
--- row 8's domain, with a constraint that both actions may touch, one over the last state, and one of a preference that a alone does
+-- two conditional effects and two deletes, with a constraint that both actions may touch, one over the last state, and one of a preference that a alone does
 abbrev pub watched_domain : List ℕ
 watched_domain = text_of ("(define (domain d) (:predicates (p) (x) (y) (z))" ∷ "(:action a :effect (and (when (x) (not (p))) (when (y) (p))))" ∷ "(:action b :effect (and (not (x)) (not (y)))))" ∷ [])
 
