@@ -11,5 +11,6 @@ pub mod Run
 pub mod Sampling
 pub mod Status
 pub mod Store
+pub mod Sure
 pub mod Translation
 pub mod WrittenText

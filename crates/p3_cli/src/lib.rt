@@ -17,6 +17,7 @@ mod sample_number;
 mod sampling;
 mod status;
 mod store;
+mod sure;
 mod table;
 mod texts;
 mod translation;
@@ -28,3 +29,4 @@ pub use laws::{
     written_targets_are_faithful_texts,
 };
 pub use p3_eval::{TextVerdict, judge_text};
+pub use sure::run_sure;

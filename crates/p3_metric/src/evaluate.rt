@@ -79,12 +79,7 @@ impl<'t> Evaluator<'t> {
             Num::TotalCost(at) => Ok(self.cost(*at)),
             Num::Violated(name) => self.violated(name),
             Num::Neg(at, part) => self.negation(*at, part.get()),
-            Num::Sub(at, first, second) => {
-                let minuend = self.evaluate(first.get())?;
-                let subtrahend = self.evaluate(second.get())?;
-                let measured = minus(self.alloc, minuend, subtrahend)?;
-                accepted(measured, self.too_large(*at))
-            }
+            Num::Sub(at, first, second) => self.difference(*at, first.get(), second.get()),
             Num::Sum(at, parts) => self.sum(*at, parts.items()),
             Num::Product(at, parts) => self.product(*at, parts.items()),
         }
@@ -107,6 +102,7 @@ impl<'t> Evaluator<'t> {
     }
 
     /// The form of a count.
+    #[inline(never)]
     fn violated(&self, name: &'t Ref) -> Result<Linear<'t>, MetricFail>
         ensures form { IfOk result (IsEvaluated self.now.task.now (num.Violated name.now)) }
         ensures fails { IfErr result
@@ -117,6 +113,7 @@ impl<'t> Evaluator<'t> {
     }
 
     /// The form of a negation.
+    #[inline(never)]
     #[cycle(evaluate)]
     fn negation(&self, at: u32, part: &'t Num) -> Result<Linear<'t>, MetricFail>
         requires { IsFit self.now.task.now (num.Neg at part.now) }
@@ -129,7 +126,30 @@ impl<'t> Evaluator<'t> {
         accepted(measured, self.too_large(at))
     }
 
+    /// The form of a difference.
+    #[inline(never)]
+    #[cycle(evaluate)]
+    fn difference(
+        &self,
+        at: u32,
+        first: &'t Num,
+        second: &'t Num,
+    ) -> Result<Linear<'t>, MetricFail>
+        requires { IsFit self.now.task.now (num.Sub at first.now second.now) }
+        ensures form { IfOk result
+            (IsEvaluated self.now.task.now (num.Sub at first.now second.now)) }
+        ensures fails { IfErr result
+            (IsFailure self.now.task.now self.now.role
+            (operations (num.Sub at first.now second.now))) }
+    {
+        let minuend = self.evaluate(first)?;
+        let subtrahend = self.evaluate(second)?;
+        let measured = minus(self.alloc, minuend, subtrahend)?;
+        accepted(measured, self.too_large(at))
+    }
+
     /// The form of a sum.
+    #[inline(never)]
     #[cycle(evaluate)]
     fn sum(&self, at: u32, parts: &'t [Num]) -> Result<Linear<'t>, MetricFail>
         requires { IsFit self.now.task.now (num.Sum at parts.now) }
@@ -147,6 +167,7 @@ impl<'t> Evaluator<'t> {
     }
 
     /// The form of a product.
+    #[inline(never)]
     #[cycle(evaluate)]
     fn product(&self, at: u32, parts: &'t [Num]) -> Result<Linear<'t>, MetricFail>
         requires { IsFit self.now.task.now (num.Product at parts.now) }

@@ -4,6 +4,7 @@
 
 use p3_base::{NoMemory, RealFiles, RealSink, Word};
 use p3_cli::run;
+use p3_reports::put_no_memory;
 use std::alloc::Global;
 use std::env::{Env, FillError};
 use std::process::ExitCode;
@@ -16,11 +17,13 @@ const OUT_OF_MEMORY: u8 = 5;
 
 fn main(rt: HostRuntime) -> ExitCode {
     let alloc = rt.alloc();
+    let mut out = RealSink::new(&rt);
     let Ok(words) = words(&rt, alloc) else {
+        // The status says it where the line is not put.
+        let _ = put_no_memory(&mut out);
         return ExitCode::from(OUT_OF_MEMORY);
     };
     let mut files = RealFiles::new(&rt);
-    let mut out = RealSink::new(&rt);
     ExitCode::from(run(alloc, words.as_slice(), &mut files, &mut out))
 }
 

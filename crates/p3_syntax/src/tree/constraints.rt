@@ -51,6 +51,7 @@ fn modal_by(alloc: Global, word: &[u8], behind: Parts<'_, '_>) -> Result<Modal, 
 }
 
 /// An operator over the visited states.
+#[inline(never)]
 pub fn modal(alloc: Global, view: View<'_, '_>) -> Result<Modal, Fault>
     ensures { Gives (λ tree. tree) result (modal_place (expression_of view.entry)) }
 {
@@ -59,6 +60,7 @@ pub fn modal(alloc: Global, view: View<'_, '_>) -> Result<Modal, Fault>
 }
 
 /// The constraints of parts.
+#[inline(never)]
 #[cycle(constraint_at)]
 fn constraints(
     alloc: Global,
@@ -76,6 +78,7 @@ fn constraints(
     Ok(found)
 }
 
+#[inline(never)]
 #[cycle(constraint_at)]
 #[tactic(auto, using(crate::proofs::ConstraintLemmas::each_listed))]
 fn each_form(alloc: Global, may_be_soft: bool, behind: Parts<'_, '_>) -> Result<Constraint, Fault>
@@ -87,6 +90,7 @@ fn each_form(alloc: Global, may_be_soft: bool, behind: Parts<'_, '_>) -> Result<
     Ok(Constraint::Each(variables, Boxed::new(alloc, body)?))
 }
 
+#[inline(never)]
 #[cycle(constraint_at)]
 #[tactic(auto, using(crate::proofs::ConstraintLemmas::preference_listed))]
 fn preference_form(

@@ -28,6 +28,7 @@ pub struct NamedBody<'o, 'a> {
 }
 
 /// What is preferred, behind its name where it has one.
+#[inline(never)]
 pub fn named<'o, 'a>(alloc: Global, mut parts: Parts<'o, 'a>) -> Result<NamedBody<'o, 'a>, Fault>
     ensures named { Gives the_named result (preferred Some (expressions_of parts.entry)) }
     ensures less { IfOk result (λ found.
@@ -50,6 +51,7 @@ pub fn named<'o, 'a>(alloc: Global, mut parts: Parts<'o, 'a>) -> Result<NamedBod
 }
 
 /// The goals of parts.
+#[inline(never)]
 #[cycle(goal)]
 fn goals(alloc: Global, parts: Parts<'_, '_>) -> Result<List<PreGoal>, Fault>
     ensures { Gives (λ trees. trees) result (each_at goal_place (expressions_of parts.entry)) }
@@ -62,6 +64,7 @@ fn goals(alloc: Global, parts: Parts<'_, '_>) -> Result<List<PreGoal>, Fault>
     Ok(fitted(found))
 }
 
+#[inline(never)]
 #[cycle(goal)]
 #[tactic(auto, using(crate::proofs::GoalLemmas::each_listed))]
 fn each_form(alloc: Global, behind: Parts<'_, '_>) -> Result<PreGoal, Fault>
