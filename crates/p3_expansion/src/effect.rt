@@ -167,6 +167,14 @@ fn push_each(
     Ok(())
 }
 
+/// How many parts the effect has at least.
+fn part_count(effect: &NumberedEffect) -> usize {
+    match effect {
+        NumberedEffect::All(parts) => parts.len(),
+        _ => 1,
+    }
+}
+
 /// The changes of an effect at the objects in the slots, in a list that may have room for more.
 fn made_changes(
     numbers: &Numbers,
@@ -183,7 +191,7 @@ fn made_changes(
         number,
         is_free: true,
     };
-    let mut made = List::new(work.alloc);
+    let mut made = List::from(Vec::with_capacity(work.alloc, part_count(effect))?);
     push_changes(numbers, statics, work, slots, guard, effect, &mut made)?;
     Ok(made)
 }

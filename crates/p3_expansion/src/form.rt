@@ -13,7 +13,7 @@ use crate::condition::condition_node;
 use crate::goal::hard_node;
 use crate::{Statics, Work};
 use p3_base::NoMemory;
-use p3_formula::{Form, simplify};
+use p3_formula::{Form, tidied};
 use p3_numbers::{Condition, Goal, Numbers};
 
 /// The tidy form of a number.
@@ -27,7 +27,7 @@ pub(crate) fn form_at(work: &Work, number: usize) -> Result<Form, NoMemory>
         → IfOk result (λ form. form ≡ constant_of true) }
 {
     let form = work.table.form(work.alloc, number)?;
-    let simple = simplify(work.alloc, &form)?;
+    let simple = tidied(work.alloc, form)?;
     Ok(simple)
 }
 

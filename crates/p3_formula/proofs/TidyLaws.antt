@@ -1,9 +1,10 @@
 -- Simplified forms are tidy.
-use Rattle.std.proofs.Common.{◌≡◌, ◌∙◌, ℕ, suc, Bool, true, false, not, ◌||◌, nat_le, List, [], ◌∷◌, ◌++◌, length, map, refl, ap, arith}
+use Rattle.std.proofs.Common.{◌≡◌, ◌∙◌, ℕ, suc, Bool, true, false, not, ◌&&◌, ◌||◌, nat_le, List, [], ◌∷◌, ◌++◌, length, map, refl, ap, arith}
 use Rattle.std.proofs.Math.Bool.{or-true}
 use Rattle.std.proofs.lemmas.Bool.{and_parts, and_from}
 use Rattle.std.proofs.lemmas.Bool.Decides.{nat_tests}
 use Rattle.std.specs.List.{list_all}
+use Rattle.std.proofs.lemmas.List.{length-map}
 use Rattle.std.proofs.lemmas.List.Folds.{list_all-map, list_all-append}
 use mathlib.Core.Former.{Count}
 use denote.Hole.Carrier.{hidden}
@@ -22,6 +23,58 @@ look-And parts = ap look_of_parts (fold_parts look_layer parts)
 look-Or : (parts : List Form) → look (Or parts) ≡ look_of_parts (map look parts)
 unfolding look
 look-Or parts = ap look_of_parts (fold_parts look_layer parts)
+
+-- what a form is as a part, for each kind of form
+pub fits-True : is_tidy_part True ≡ false
+unfolding look
+fits-True = refl
+
+pub fits-False : is_tidy_part False ≡ false
+unfolding look
+fits-False = refl
+
+pub fits-Atom : (atom : ℕ) → is_tidy_part (Atom atom) ≡ true
+unfolding look
+fits-Atom atom = refl
+
+pub fits-Not : (part : Form) → is_tidy_part (Not part) ≡ (is_tidy_part part && not (look part).negation)
+unfolding look hidden-the_row-Form-0 hidden
+fits-Not part = refl
+
+fits_parts : (parts : List Form) → (look_of_parts (map look parts)).fits ≡ (nat_le 2 (length parts) && list_all is_tidy_part parts)
+fits_parts parts = λ i. nat_le 2 (length-map parts look i) && list_all-map (λ part. part.fits) look parts i
+
+pub fits-And : (parts : List Form) → is_tidy_part (And parts) ≡ (nat_le 2 (length parts) && list_all is_tidy_part parts)
+fits-And parts = ap (λ l. l.fits) (look-And parts) ∙ fits_parts parts
+
+pub fits-Or : (parts : List Form) → is_tidy_part (Or parts) ≡ (nat_le 2 (length parts) && list_all is_tidy_part parts)
+fits-Or parts = ap (λ l. l.fits) (look-Or parts) ∙ fits_parts parts
+
+pub negation-True : (look True).negation ≡ false
+unfolding look
+negation-True = refl
+
+pub negation-False : (look False).negation ≡ false
+unfolding look
+negation-False = refl
+
+pub negation-Atom : (atom : ℕ) → (look (Atom atom)).negation ≡ false
+unfolding look
+negation-Atom atom = refl
+
+pub negation-Not : (part : Form) → (look (Not part)).negation ≡ true
+unfolding look hidden-the_row-Form-0 hidden
+negation-Not part = refl
+
+pub negation-And : (parts : List Form) → (look (And parts)).negation ≡ false
+unfolding look
+negation-And parts = refl
+
+pub negation-Or : (parts : List Form) → (look (Or parts)).negation ≡ false
+unfolding look
+negation-Or parts = refl
+
+pub ruleset look_laws = (fits-True, fits-False, fits-Atom, fits-Not, fits-And, fits-Or, negation-True, negation-False, negation-Atom, negation-Not, negation-And, negation-Or)
 
 two_or_more : (n : ℕ) → nat_le 2 (suc (suc n)) ≡ true
 two_or_more n = grind (arith, nat_tests)

@@ -11,16 +11,12 @@ use Rattle.p3_base.proofs.TrajectoryLemmas.{each-more, some-more, came-more, awa
 use Rattle.p3_formula.specs.GroundSat.{holds_at, ground_sat}
 use Rattle.p3_formula.specs.declared.form.Form.{Form}
 use Rattle.p3_formula.specs.declared.modal.GroundModal.{GroundModal}
-use Rattle.p3_formula.specs.declared.modal.GroundModal.TheVariants.{AtEnd, Always, Sometime, AtMostOnce, SometimeAfter, SometimeBefore}
+use Rattle.p3_formula.specs.declared.modal.GroundModal.TheVariants.{AtEnd, AtMostOnce, SometimeAfter, SometimeBefore}
 use Rattle.p3_formula.specs.Kept.{watched, atom_count}
 
 pub length-watched : (W : List State) (modal : GroundModal) → length (watched W modal) ≡ atom_count modal
 length-watched W (AtEnd f) = refl
-length-watched W (Always f) = refl
-length-watched W (Sometime f) = refl
-length-watched W (AtMostOnce f) = refl
-length-watched W (SometimeAfter f g) = refl
-length-watched W (SometimeBefore f g) = refl
+length-watched W _ = refl
 
 pub ruleset watched_laws = (length-watched)
 

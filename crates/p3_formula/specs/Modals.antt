@@ -1,6 +1,7 @@
 -- The forms of a trajectory constraint, and the atoms that stand in them.
-use Rattle.std.specs.Prelude.{◌≡◌, ℕ, nat_lt, Bool, true, not, List, [], ◌∷◌, sum_by, IsTrue}
+use Rattle.std.specs.Prelude.{◌≡◌, ℕ, nat_lt, Bool, true, false, not, List, [], ◌∷◌, Option, None, Some, sum_by, IsTrue}
 use Rattle.std.specs.List.{list_any, list_all}
+use denote.Ref.{Bor}
 use Rattle.p3_formula.specs.Forms.{State, is_set, has_atoms, is_other, nodes}
 use Rattle.p3_formula.specs.declared.form.Change.{Change}
 use Rattle.p3_formula.specs.declared.form.Form.{Form}
@@ -14,6 +15,16 @@ forms_of (Sometime f) = f ∷ []
 forms_of (AtMostOnce f) = f ∷ []
 forms_of (SometimeAfter f g) = f ∷ g ∷ []
 forms_of (SometimeBefore f g) = f ∷ g ∷ []
+
+-- the formulas behind the first, as they are lent
+abbrev pub seconds : Option (Bor Form) → List Form
+seconds None = []
+seconds (Some form) = form.now ∷ []
+
+-- the last state alone counts
+abbrev pub is_at_end : GroundModal → Bool
+is_at_end (AtEnd f) = true
+is_at_end _ = false
 
 -- each atom of its forms is one of those
 abbrev pub modal_has : (ℕ → Bool) → GroundModal → Bool

@@ -13,15 +13,23 @@ pub fn guarded(alloc: Global, guards: &[usize], condition: &Form) -> Result<Form
     ensures { IfOk result (made.IsGuardedForm guards.now condition.now) }
 {
     let simple = simplify(alloc, condition)?;
-    let kept = atoms(alloc, guards)?;
+    let kept = atoms(alloc, guards, part_count(&simple))?;
     with_last(kept, simple)
 }
 
-/// Each atom as a form, with room for one form more.
-fn atoms(alloc: Global, atoms: &[usize]) -> Result<Vec<Form>, NoMemory>
+/// How many parts the form has as a part of a conjunction.
+fn part_count(form: &Form) -> usize {
+    match form {
+        Form::And(parts) => parts.len(),
+        _ => 1,
+    }
+}
+
+/// Each atom as a form, with room for some forms more.
+fn atoms(alloc: Global, atoms: &[usize], more: usize) -> Result<Vec<Form>, NoMemory>
     ensures { IfOk result (λ forms. forms.items ≡ map Form.Atom atoms.now) }
 {
-    let mut forms = Vec::with_capacity(alloc, atoms.len().saturating_add(1))?;
+    let mut forms = Vec::with_capacity(alloc, atoms.len().saturating_add(more))?;
     for atom in atoms {
         forms.push(Form::Atom(*atom))?;
     }

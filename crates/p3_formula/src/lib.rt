@@ -17,6 +17,7 @@ mod simpler;
 mod table;
 mod target;
 mod task;
+mod tidy;
 
 pub use atoms::is_free_of;
 pub use bits::Bits;
@@ -27,10 +28,10 @@ pub use guards::{guarded, turned};
 pub use laws::{
     alike_changes_make_the_same_state, copies_count_as_their_step, states_agree_after_changes,
 };
-pub use modal::{GroundModal, GroundPref, GroundSoft};
+pub use modal::{Forms, GroundModal, GroundPref, GroundSoft};
 pub use node::Node;
 pub use same::same_form;
-pub use simpler::{negate, simplify};
+pub use simpler::{negate, simplify, tidied};
 pub use table::Table;
 pub use target::{Target, TargetAction, Weights};
 pub use task::{GroundStep, GroundTask};

@@ -1,5 +1,8 @@
 //! Ground trajectory constraints and preferences.
 
+ghost use Rattle.std.specs.Prelude.{◌≡◌, ◌∷◌};
+ghost use Rattle.p3_formula.specs.Modals.{forms_of, is_at_end, seconds};
+
 use crate::Form;
 use p3_base::List;
 
@@ -18,6 +21,44 @@ pub enum GroundModal {
     SometimeAfter(Form, Form),
     /// Where the first holds, the second held before.
     SometimeBefore(Form, Form),
+}
+
+/// The formulas of a modal operator.
+#[derive(Clone, Copy, Debug, Drop)]
+pub struct Forms<'a> {
+    /// The first.
+    pub first: &'a Form,
+    /// The second, where the operator has two.
+    pub second: Option<&'a Form>,
+}
+
+impl GroundModal {
+    /// Lends the formulas.
+    pub fn forms(&self) -> Forms<'_>
+        ensures { forms_of self.now ≡ result.first.now ∷ seconds result.second }
+    {
+        match self {
+            GroundModal::AtEnd(form)
+            | GroundModal::Always(form)
+            | GroundModal::Sometime(form)
+            | GroundModal::AtMostOnce(form) => Forms {
+                first: form,
+                second: None,
+            },
+            GroundModal::SometimeAfter(first, second)
+            | GroundModal::SometimeBefore(first, second) => Forms {
+                first,
+                second: Some(second),
+            },
+        }
+    }
+
+    /// Tells whether the last state alone counts.
+    pub fn is_at_end(&self) -> bool
+        ensures { result ≡ is_at_end self.now }
+    {
+        matches!(self, GroundModal::AtEnd(_))
+    }
 }
 
 /// A preference of a step's precondition.

@@ -7,6 +7,7 @@ ghost use Rattle.p3_formula.specs.Simplified as made;
 
 use crate::Form;
 use crate::copy::copied;
+use crate::tidy::is_tidy;
 use p3_base::{List, NoMemory};
 use std::alloc::Global;
 
@@ -32,6 +33,20 @@ pub fn simplify(alloc: Global, form: &Form) -> Result<Form, NoMemory>
     ensures stays { form.now ≡ Form.True → IfOk result (λ simple. simple ≡ Form.True) }
 {
     simplified(alloc, form)
+}
+
+/// Makes what `simplify` makes of a form. A tidy form stays as it is.
+pub fn tidied(alloc: Global, form: Form) -> Result<Form, NoMemory>
+    ensures truth { IfOk result (λ simple. HasSameTruth simple form) }
+    ensures tidy { IfOk result (λ simple. IsTrue (is_tidy simple)) }
+    ensures size { IfOk result (λ simple. nodes simple ≤ nodes form) }
+    ensures atoms { IfOk result (λ simple. HasAtomsOf simple form) }
+    ensures stays { form ≡ Form.True → IfOk result (λ simple. simple ≡ Form.True) }
+{
+    if is_tidy(&form) {
+        return Ok(form);
+    }
+    simplify(alloc, &form)
 }
 
 /// The opposite, with no negation of a constant or of a negation.

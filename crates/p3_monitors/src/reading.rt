@@ -9,13 +9,10 @@ use p3_formula::{GroundModal, is_free_of};
 pub(crate) fn reads(modal: &GroundModal, atom: usize) -> bool
     ensures { result ≡ is_read modal.now atom }
 {
-    match modal {
-        GroundModal::AtEnd(form)
-        | GroundModal::Always(form)
-        | GroundModal::Sometime(form)
-        | GroundModal::AtMostOnce(form) => !is_free_of(form, atom),
-        GroundModal::SometimeAfter(first, second) | GroundModal::SometimeBefore(first, second) => {
-            !is_free_of(first, atom) || !is_free_of(second, atom)
-        }
-    }
+    let forms = modal.forms();
+    let in_second = match forms.second {
+        Some(form) => !is_free_of(form, atom),
+        None => false,
+    };
+    in_second || !is_free_of(forms.first, atom)
 }

@@ -18,19 +18,19 @@ fn change(cond: Form, atom: usize, add: bool) -> Change
 fn one(alloc: Global, first: Change) -> Result<Effects, NoMemory>
     ensures { IfOk result (λ effects. effects ≡ first ∷ []) }
 {
-    let mut effects = List::new(alloc);
+    let mut effects = Vec::with_capacity(alloc, 1)?;
     effects.push(first)?;
-    Ok(effects)
+    Ok(List::from(effects))
 }
 
 /// Two changes.
 fn two(alloc: Global, first: Change, second: Change) -> Result<Effects, NoMemory>
     ensures { IfOk result (λ effects. effects ≡ first ∷ second ∷ []) }
 {
-    let mut effects = List::new(alloc);
+    let mut effects = Vec::with_capacity(alloc, 2)?;
     effects.push(first)?;
     effects.push(second)?;
-    Ok(effects)
+    Ok(List::from(effects))
 }
 
 /// It has held in every state: no more where it does not hold after the step.

@@ -13,8 +13,8 @@ use Rattle.p3_formula.specs.declared.form.Form.{Form}
 use Rattle.p3_formula.specs.declared.form.Form.TheVariants.{True, False, Atom, Not, Not', And', Or'}
 use Rattle.p3_formula.proofs.FormLemmas.{truth-Not, truth-And, has_atoms-Not, has_atoms-And, has_atoms-Or, nodes-Atom, nodes-Not, nodes-And, nodes-Or}
 use Rattle.p3_formula.proofs.TruthLaws.{joined_truth}
-use Rattle.p3_regress.specs.Regressed.{is_changed, conditions, stays, with_kept, changed, atom_after, atom_growth}
-use Rattle.p3_regress.proofs.ConditionLemmas.{any_conditions, all_conditions, no_conditions, weight, weight_conditions}
+use Rattle.p3_regress.specs.Regressed.{is_changed, is_of, is_sure, conditions, stays, with_kept, changed, atom_after, atom_growth}
+use Rattle.p3_regress.proofs.ConditionLemmas.{any_conditions, all_conditions, no_conditions, none_such, weight, weight_conditions}
 
 or-mono : (a b c d : Bool) → (a ≡ true → c ≡ true) → (b ≡ true → d ≡ true) → (a || b) ≡ true → (c || d) ≡ true
 or-mono true b c d f g h = ap (λ x. x || d) (f refl)
@@ -74,6 +74,22 @@ pub atom_after_same : (effects : List Change) (atom : ℕ) → is_changed effect
 atom_after_same effects atom h =
     ap (λ adds. changed atom adds (conditions false atom [] effects)) (no_conditions true atom [] effects h)
     ∙ ap (changed atom []) (no_conditions false atom [] effects h)
+
+-- where some change sets the atom whatever holds, it is set
+pub sure_added : (effects : List Change) (atom : ℕ) → list_any (is_sure true atom) effects ≡ true → atom_after effects atom ≡ True
+sure_added effects atom sure =
+    ap (λ b. if b then True else joined false (with_kept atom (conditions true atom [] effects) (conditions false atom [] effects))) (any_conditions (is_value true) true atom [] effects ∙ sure)
+
+-- nothing keeps the atom where it is cleared whatever holds
+none_kept : (atom : ℕ) (deletes : List Form) → list_any (is_value true) deletes ≡ true → with_kept atom [] deletes ≡ []
+none_kept atom [] h = absurd (cc)
+none_kept atom (first ∷ rest) h = ap (λ b. if b then [] else ([] ++ stays atom (first ∷ rest) ∷ [])) h
+
+-- where some change clears it whatever holds and none sets it, it is not set
+pub sure_cleared : (effects : List Change) (atom : ℕ) → list_any (is_sure false atom) effects ≡ true → list_any (is_of true atom) effects ≡ false → atom_after effects atom ≡ False
+sure_cleared effects atom sure none =
+    ap (λ adds. changed atom adds (conditions false atom [] effects)) (none_such true atom [] effects none)
+    ∙ ap (joined false) (none_kept atom (conditions false atom [] effects) (any_conditions (is_value true) false atom [] effects ∙ sure))
 
 module _ (allowed : ℕ → Bool) (atom : ℕ) (may : allowed atom ≡ true) where
   joined_atoms : (parts : List Form) → list_all (has_atoms allowed) parts ≡ true → has_atoms allowed (joined false parts) ≡ true

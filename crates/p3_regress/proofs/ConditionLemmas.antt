@@ -41,6 +41,13 @@ none_more : {A : Type 0} (a b : Bool) (first second : A) → a ≡ false → (if
 none_more false b first second e = refl
 none_more true b first second e = absurd (cc)
 
+-- where no change sets the atom, or none clears it, there is no condition for that
+pub none_such : (add : Bool) (atom : ℕ) (kept : List Form) (changes : List Change) → list_any (is_of add atom) changes ≡ false → conditions add atom kept changes ≡ kept
+none_such add atom kept [] h = refl
+none_such add atom kept (change ∷ rest) h =
+    ap (λ b. conditions add atom (if b then (kept ++ change.cond ∷ []) else kept) rest) (or_parts (is_of add atom change) _ h).0
+    ∙ none_such add atom kept rest (or_parts (is_of add atom change) _ h).1
+
 -- an atom that no change names has no conditions
 pub no_conditions : (add : Bool) (atom : ℕ) (kept : List Form) (changes : List Change) → is_changed changes atom ≡ false → conditions add atom kept changes ≡ kept
 no_conditions add atom kept [] h = refl

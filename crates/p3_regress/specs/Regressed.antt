@@ -47,6 +47,10 @@ growth effects form = fold_form (growth_layer effects) form
 abbrev pub is_of : Bool → ℕ → Change → Bool
 is_of add atom change = (change.atom == atom) && (if add then change.add else not change.add)
 
+-- it does so whatever holds
+abbrev pub is_sure : Bool → ℕ → Change → Bool
+is_sure add atom change = is_of add atom change && is_value true change.cond
+
 -- the conditions kept so far, and those of such changes to come
 abbrev pub conditions : Bool → ℕ → List Form → List Change → List Form
 conditions add atom kept [] = kept

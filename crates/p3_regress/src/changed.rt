@@ -1,6 +1,6 @@
 //! An atom after the changes of a step.
 
-ghost use Rattle.std.specs.Prelude.{◌≡◌, IfOk, [], true, false};
+ghost use Rattle.std.specs.Prelude.{◌≡◌, IfOk, IfSome, [], true, false};
 ghost use Rattle.std.specs.List.{list_any};
 ghost use Rattle.p3_formula.specs.Simplified.{joined, is_value};
 ghost use Rattle.p3_regress.specs.Regressed as made;
@@ -107,10 +107,55 @@ fn changed(
     Ok(either(with_kept(alloc, atom, adds, deletes)?))
 }
 
+/// Whether some change sets the atom, or else whether some clears it.
+fn is_named(changes: &[&Change], atom: usize, add: bool) -> bool
+    ensures { result ≡ list_any (made.is_of add atom) (lent changes.now) }
+{
+    for change in changes {
+        if is_of(change, atom, add) {
+            return true;
+        }
+    }
+    false
+}
+
+/// Whether some change sets the atom, or else whether some clears it, whatever holds.
+fn is_sure(changes: &[&Change], atom: usize, add: bool) -> bool
+    ensures { result ≡ list_any (made.is_sure add atom) (lent changes.now) }
+{
+    for change in changes {
+        if is_of(change, atom, add) && is_true(&change.cond) {
+            return true;
+        }
+    }
+    false
+}
+
+/// When the atom is set after the step, where that needs no condition: it is set or cleared whatever
+/// holds, or no change names it.
+fn sure_after(changes: &[&Change], atom: usize) -> Option<Form>
+    ensures { IfSome result (λ form. form ≡ made.atom_after (lent changes.now) atom) }
+{
+    if changes.is_empty() {
+        Some(Form::Atom(atom))
+    } else if is_sure(changes, atom, true) {
+        Some(Form::True)
+    } else if is_named(changes, atom, true) {
+        None
+    } else if is_sure(changes, atom, false) {
+        Some(Form::False)
+    } else {
+        None
+    }
+}
+
 /// When the atom is set after the step.
 pub(crate) fn atom_after(alloc: Global, changes: &[&Change], atom: usize) -> Result<Form, NoMemory>
     ensures { IfOk result (λ form. form ≡ made.atom_after (lent changes.now) atom) }
 {
+    if let Some(form) = sure_after(changes, atom) {
+        return Ok(form);
+    }
     let adds = conditions(alloc, changes, atom, true)?;
     let deletes = conditions(alloc, changes, atom, false)?;
     changed(alloc, atom, adds, deletes)

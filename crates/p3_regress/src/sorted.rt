@@ -13,7 +13,7 @@ use std::alloc::Global;
 fn all_lent<'e>(alloc: Global, changes: &'e [Change]) -> Result<Vec<&'e Change>, NoMemory>
     ensures { IfOk result (λ all. lent all.items ≡ changes.now) }
 {
-    let mut all = Vec::new(alloc);
+    let mut all = Vec::with_capacity(alloc, changes.len())?;
     for change in changes {
         all.push(change)?;
     }
