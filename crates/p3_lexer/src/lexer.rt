@@ -1,7 +1,9 @@
 //! The tokens of a text, one after another.
 
 ghost use Rattle.std.specs.Prelude.{◌≡◌, ◌≤◌, ◌<◌, ◌+◌, drop, false, length, IfSome};
+ghost use Rattle.p3_base.specs.declared.refusal.Side.TheVariants.{Written};
 ghost use Rattle.p3_tree.specs.Tokens.{tokens_from};
+ghost use Rattle.p3_tree.specs.Sides.{byte_limit};
 ghost use Rattle.p3_lexer.specs.Lexing.{left, with_next, token_len, Rests, Takes};
 ghost use Rattle.p3_lexer.specs.StepWords.{IsNextWord, IsPartOf};
 
@@ -33,6 +35,8 @@ pub struct Lexer<'a> {
 
 impl<'a> Model for Lexer<'a> {
     ghost use Rattle.std.specs.Prelude.{◌≤◌, length};
+    ghost use Rattle.p3_base.specs.declared.refusal.Side.TheVariants.{Written};
+    ghost use Rattle.p3_tree.specs.Sides.{byte_limit};
     ghost use Rattle.p3_lexer.specs.Lexing.{Progress, progress_code};
 
     ghost Value = { Progress };
@@ -41,13 +45,14 @@ impl<'a> Model for Lexer<'a> {
 
     ghost view = { λ lexer. record { source = lexer.text.now; at = lexer.at } };
 
-    ghost invariant = { λ lexer. (lexer.at ≤ length lexer.text.now) × (length lexer.text.now ≤ 268435456) };
+    ghost invariant = { λ lexer. (lexer.at ≤ length lexer.text.now)
+        × (length lexer.text.now ≤ byte_limit Written) };
 }
 
 impl<'a> Lexer<'a> {
     /// Begins at the start of the text.
     pub fn new(text: &'a [u8]) -> Lexer<'a>
-        requires short { length text.now ≤ 268435456 }
+        requires short { length text.now ≤ byte_limit Written }
         ensures starts { result ≡ record { source = text.now; at = 0 } }
     {
         Lexer { text, at: 0 }
@@ -90,7 +95,7 @@ impl<'a> Lexer<'a> {
 /// The next token from a place on, and the place behind it.
 fn next_from(text: &[u8], at: usize) -> (Next<'_>, usize)
     requires within { at ≤ length text.now }
-    requires short { length text.now ≤ 268435456 }
+    requires short { length text.now ≤ byte_limit Written }
     ensures within { result.1 ≤ length text.now }
     ensures tokens { tokens_from false at (drop at text.now)
         ≡ with_next result.0 (tokens_from false result.1 (drop result.1 text.now)) }

@@ -1,7 +1,9 @@
 //! The first scan of a text: foreign bytes, parentheses that do not fit, and lists too deep.
 
-ghost use Rattle.std.specs.Prelude.{◌≡◌, ◌≤◌, ◌<◌, length};
+ghost use Rattle.std.specs.Prelude.{◌≡◌, ◌≤◌, ◌<◌, ◌+◌, ◌^◌, length};
+ghost use Rattle.p3_base.specs.declared.refusal.Side.TheVariants.{Written};
 ghost use Rattle.p3_tree.specs.Refusals.Places.{refusal_at};
+ghost use Rattle.p3_tree.specs.Sides.{byte_limit};
 ghost use Rattle.p3_lexer.specs.Lexing.{token_of};
 ghost use Rattle.p3_outline.specs.Balances.{deep_at, closed_at, word_at, inside, with_token, depth, at_end, balance_refusal};
 
@@ -74,7 +76,7 @@ fn inside(
     offset: u32,
     text: &[u8],
 ) -> Scan
-    requires few { lists < 4294967295 }
+    requires few { lists + 1 < 2 ^ 32 }
     ensures { result ≡ inside role limit lists deep (token_of offset text.now) }
 {
     if text == b"(".as_slice() {
@@ -89,8 +91,8 @@ fn inside(
 /// One token more.
 #[tactic(auto, using(p3_lexer::proofs::MarkLemmas::refusal_of_token))]
 fn with_token(role: Role, limit: u32, scan: Scan, offset: u32, text: &[u8]) -> Scan
-    requires few { depth scan < 4294967295 }
-    requires short { length text.now ≤ 268435456 }
+    requires few { depth scan + 1 < 2 ^ 32 }
+    requires short { length text.now ≤ byte_limit Written }
     ensures { result ≡ with_token role limit scan (token_of offset text.now) }
 {
     match scan {
@@ -129,7 +131,7 @@ fn with_node(count: usize, text: &[u8]) -> usize
 /// The first refusal of a text's bytes and parentheses, and how many words and lists it has, for
 /// the room of its nodes.
 pub(crate) fn first_refusal(role: Role, limit: u32, text: &[u8]) -> (Option<Refusal>, usize)
-    requires { length text.now ≤ 268435456 }
+    requires { length text.now ≤ byte_limit Written }
     ensures { result.0 ≡ balance_refusal role limit text.now }
 {
     let mut scan = Scan::Inside(0, None);

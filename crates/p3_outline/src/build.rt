@@ -3,7 +3,9 @@
 ghost use Rattle.std.specs.Prelude.{◌≡◌, ◌≤◌, ◌<◌, ◌+◌, ◌∷◌, [], length, IfOk, IfSome, Some, None};
 ghost use Rattle.std.specs.Option.{option_map};
 ghost use Rattle.std.specs.Str.{str_to_ascii_lowercase};
+ghost use Rattle.p3_base.specs.declared.refusal.Side.TheVariants.{Written};
 ghost use Rattle.p3_tree.specs.Expressions.{expression_of_text};
+ghost use Rattle.p3_tree.specs.Sides.{byte_limit};
 ghost use Rattle.p3_lexer.specs.Lexing.{token_of};
 ghost use Rattle.p3_outline.specs.Builds.{the_built, is_done, opened, closed, with_word, with_token};
 ghost use Rattle.p3_outline.specs.Nodes.{expressions_in};
@@ -39,7 +41,7 @@ fn is_done(building: &Building) -> bool
 /// A list opens, where the limit allows it.
 #[tactic(auto, using(crate::proofs::BuildLemmas::reversed_length))]
 fn opened(limit: usize, building: Building, at: u32) -> Result<Option<Building>, NoMemory>
-    requires few { length building.nodes.items ≤ 268435456 }
+    requires few { length building.nodes.items ≤ byte_limit Written }
     ensures { IfOk result (λ next.
         option_map the_built next ≡ opened limit at (the_built building)) }
 {
@@ -58,7 +60,7 @@ fn opened(limit: usize, building: Building, at: u32) -> Result<Option<Building>,
 
 /// The innermost list closes, and the nodes behind its own are below it.
 fn closed(building: Building) -> Option<Building>
-    requires few { length building.nodes.items ≤ 268435456 }
+    requires few { length building.nodes.items ≤ byte_limit Written }
     ensures { option_map the_built result ≡ closed (the_built building) }
 {
     let Building {
@@ -90,8 +92,8 @@ fn with_token(
     offset: u32,
     text: &[u8],
 ) -> Result<Option<Building>, NoMemory>
-    requires few { length building.nodes.items ≤ 268435456 }
-    requires short { length text.now ≤ 268435456 }
+    requires few { length building.nodes.items ≤ byte_limit Written }
+    requires short { length text.now ≤ byte_limit Written }
     ensures { IfOk result (λ next.
         option_map the_built next
         ≡ with_token limit (the_built building) (token_of offset text.now)) }
@@ -115,7 +117,7 @@ pub(crate) fn build(
     limit: usize,
     room: usize,
 ) -> Result<Option<Vec<Node>>, NoMemory>
-    requires { length text.now ≤ 268435456 }
+    requires { length text.now ≤ byte_limit Written }
     ensures { IfOk result (λ found.
         option_map (λ nodes. expressions_in text.now nodes.items) found
         ≡ option_map (λ e. e ∷ []) (expression_of_text limit text.now)) }

@@ -1,6 +1,6 @@
 //! Constructs that are left out by name, wherever they stand.
 
-ghost use Rattle.std.specs.Prelude.{◌≡◌, ◌<◌, ◌&&◌, length, false, if◌then◌else◌, [], Some, None, IfSome};
+ghost use Rattle.std.specs.Prelude.{◌≡◌, ◌<◌, ◌^◌, ◌&&◌, length, false, if◌then◌else◌, [], Some, None, IfSome};
 ghost use Rattle.std.specs.List.{list_any};
 ghost use Rattle.std.specs.Option.{option_map};
 ghost use Rattle.std.specs.Str.{str_to_ascii_lowercase};
@@ -102,7 +102,7 @@ fn is_condition(word: &[u8]) -> bool
 /// The word that a view is.
 fn word_of<'a>(view: View<'_, 'a>) -> Option<TextWord<'a>>
     ensures word { option_map the_word result ≡ word_place (expression_of view.entry) }
-    ensures short { IfSome result (λ word. length word.text.now < 4294967296) }
+    ensures short { IfSome result (λ word. length word.text.now < 2 ^ 32) }
 {
     let text = view.word()?;
     let at = view.offset();
@@ -112,7 +112,7 @@ fn word_of<'a>(view: View<'_, 'a>) -> Option<TextWord<'a>>
 /// The word at the head of a list.
 fn head_of<'a>(view: View<'_, 'a>) -> Option<TextWord<'a>>
     ensures head { option_map the_word result ≡ head_of (expression_of view.entry) }
-    ensures short { IfSome result (λ word. length word.text.now < 4294967296) }
+    ensures short { IfSome result (λ word. length word.text.now < 2 ^ 32) }
 {
     word_of(view.parts().next()?)
 }
@@ -145,7 +145,7 @@ fn with_no_head(around: Around) -> Around
 
 /// The earlier one of what was found and a word, where the test passes.
 fn least_if(test: bool, least: Option<Found>, word: TextWord<'_>) -> Option<Found>
-    requires short { length word.text.now < 4294967296 }
+    requires short { length word.text.now < 2 ^ 32 }
     ensures { result ≡ least_with least (word_when test (the_word word.entry)) }
 {
     if !test {
@@ -164,7 +164,7 @@ fn least_if(test: bool, least: Option<Found>, word: TextWord<'_>) -> Option<Foun
 /// By its head alone.
 #[tactic(auto, using(crate::proofs::ConstructLemmas::least_append))]
 fn head_shown(around: Around, head: TextWord<'_>, least: Option<Found>) -> Option<Found>
-    requires short { length head.text.now < 4294967296 }
+    requires short { length head.text.now < 2 ^ 32 }
     ensures { result ≡ least_with least (head_shown around (the_word head.entry)) }
 {
     let text = head.text;
@@ -274,7 +274,7 @@ fn place_shown(
     behind: Parts<'_, '_>,
     least: Option<Found>,
 ) -> Option<Found>
-    requires short { length head.text.now < 4294967296 }
+    requires short { length head.text.now < 2 ^ 32 }
     ensures { result
         ≡ least_with least
         (place_shown around (the_word head.entry) (expressions_of behind.entry)) }
@@ -297,7 +297,7 @@ fn shown(
     behind: Parts<'_, '_>,
     least: Option<Found>,
 ) -> Option<Found>
-    requires short { length head.text.now < 4294967296 }
+    requires short { length head.text.now < 2 ^ 32 }
     ensures { FindsShown around least (the_word head.entry) (expressions_of behind.entry) result }
 {
     let least = head_shown(around, head, least);

@@ -2,7 +2,9 @@
 
 ghost use Rattle.std.specs.Prelude.{◌≡◌, ◌≢◌, ◌≤◌, length};
 ghost use Rattle.p3_base.specs.declared.refusal.Role.TheVariants.{Plan};
+ghost use Rattle.p3_base.specs.declared.refusal.Side.TheVariants.{Written};
 ghost use Rattle.p3_tree.specs.Refusals.Texts.{text_refusal};
+ghost use Rattle.p3_tree.specs.Sides.{byte_limit};
 ghost use Rattle.p3_places.specs.Found.{side_of, half_of};
 ghost use Rattle.p3_outline.specs.Nodes.{root_of};
 ghost use Rattle.p3_outline.specs.Outlines.{IsOutline};
@@ -15,7 +17,7 @@ use p3_base::{Refusal, Role};
 
 /// The first word of a construct that is left out by name, or else the first number too long.
 fn first_left_out(role: Role, outline: &Outline<'_>, text: &[u8]) -> Option<Refusal>
-    requires short { length text.now ≤ 268435456 }
+    requires short { length text.now ≤ byte_limit Written }
     ensures { result ≡ left_out_refusal role text.now (root_of outline.now) }
 {
     match first_construct(role, outline.root()) {
@@ -28,7 +30,7 @@ fn first_left_out(role: Role, outline: &Outline<'_>, text: &[u8]) -> Option<Refu
 /// construct that is left out by name, or else the first number too long.
 pub fn first_shown(role: Role, outline: &Outline<'_>, text: &[u8]) -> Option<Refusal>
     requires of_a_task { role ≢ Plan }
-    requires short { length text.now ≤ 268435456 }
+    requires short { length text.now ≤ byte_limit Written }
     requires outline { IsOutline role text.now outline.now }
     ensures { result ≡ text_refusal (side_of role) (half_of role) text.now }
 {

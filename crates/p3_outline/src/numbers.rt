@@ -5,9 +5,10 @@ ghost use Rattle.std.specs.Char.{to_ascii_lowercase};
 ghost use Rattle.std.specs.List.{list_all, prefix_len};
 ghost use Rattle.std.specs.Str.{str_to_ascii_lowercase};
 ghost use Rattle.p3_base.specs.Words.{is_digit};
+ghost use Rattle.p3_base.specs.declared.refusal.Side.TheVariants.{Written};
 ghost use Rattle.p3_tree.specs.Decimals.{are_digits, at_point, is_decimal};
 ghost use Rattle.p3_tree.specs.Refusals.Texts.{is_too_long, long_number};
-ghost use Rattle.p3_tree.specs.Sides.{digit_limit, place_limit};
+ghost use Rattle.p3_tree.specs.Sides.{digit_limit, place_limit, byte_limit};
 ghost use Rattle.p3_lexer.specs.Lexing.{token_of};
 ghost use Rattle.p3_places.specs.Found.{side_of};
 ghost use Rattle.p3_outline.specs.Numbers.{is_no_point, the_parts, are_decimal, digit_count, has_places_above, number_refusal};
@@ -157,7 +158,7 @@ fn is_too_long(role: Role, word: &[u8]) -> bool
 
 /// The refusal of a token that is a number too long.
 fn long_number(role: Role, offset: u32, text: &[u8]) -> Option<Refusal>
-    requires short { length text.now ≤ 268435456 }
+    requires short { length text.now ≤ byte_limit Written }
     ensures { result ≡ long_number (side_of role) role (token_of offset text.now) }
 {
     if text != b"(".as_slice() && text != b")".as_slice() && is_too_long(role, text) {
@@ -173,7 +174,7 @@ fn long_number(role: Role, offset: u32, text: &[u8]) -> Option<Refusal>
 
 /// The first number of a text that is too long.
 pub(crate) fn first_long_number(role: Role, text: &[u8]) -> Option<Refusal>
-    requires short { length text.now ≤ 268435456 }
+    requires short { length text.now ≤ byte_limit Written }
     ensures { result ≡ number_refusal role text.now }
 {
     let mut lexer = Lexer::new(text);

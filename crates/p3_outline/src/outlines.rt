@@ -2,7 +2,8 @@
 
 ghost use Rattle.std.specs.Prelude.{◌≡◌, ◌≢◌, ◌≤◌, length, IfOk, IfErr, Some};
 ghost use Rattle.p3_base.specs.declared.refusal.Role.TheVariants.{Plan};
-ghost use Rattle.p3_tree.specs.Sides.{level_limit};
+ghost use Rattle.p3_base.specs.declared.refusal.Side.TheVariants.{Written};
+ghost use Rattle.p3_tree.specs.Sides.{level_limit, byte_limit};
 ghost use Rattle.p3_tree.specs.Refusals.Texts.{text_refusal};
 ghost use Rattle.p3_places.specs.Found.{side_of, half_of};
 ghost use Rattle.p3_outline.specs.Balances.{outline_refusal};
@@ -31,7 +32,7 @@ fn level_limit(role: Role) -> u32
 #[tactic(auto, using(crate::proofs::SoundLemmas::first_shown))]
 pub fn outline<'a>(alloc: Global, role: Role, text: &'a [u8]) -> Result<Outline<'a>, ReadFail>
     requires of_a_task { role ≢ Plan }
-    requires short { length text.now ≤ 268435456 }
+    requires short { length text.now ≤ byte_limit Written }
     ensures outline { IfOk result (λ outline. IsOutline role text.now outline) }
     ensures refused { IfErr result (λ fail.
         IfRefused fail (λ refusal. outline_refusal role text.now ≡ Some refusal)) }

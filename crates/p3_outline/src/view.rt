@@ -1,6 +1,6 @@
 //! Views of an outline, which copy no byte of the text.
 
-ghost use Rattle.std.specs.Prelude.{◌≡◌, ◌≤◌, ◌<◌, ◌+◌, ◌∷◌, [], length, take, drop, MatchOption, IfSome};
+ghost use Rattle.std.specs.Prelude.{◌≡◌, ◌≤◌, ◌<◌, ◌^◌, ◌+◌, ◌∷◌, [], length, take, drop, MatchOption, IfSome};
 ghost use Rattle.p3_outline.specs.Nodes.{slice_of, below_of, expression_of, expressions_of, expressions_in, root_of, offset_of, elements, IsWordOf, IsList};
 
 /// A node of an outline. A list is followed by the nodes below it.
@@ -160,7 +160,7 @@ impl<'o, 'a> View<'o, 'a> {
         ensures slice { IfSome result (λ word.
             word.now ≡ slice_of self.now.text.now (offset_of (expression_of self.now))
             (length word.now)) }
-        ensures short { IfSome result (λ word. length word.now < 4294967296) }
+        ensures short { IfSome result (λ word. length word.now < 2 ^ 32) }
     {
         match self.node {
             Node::Word { at, len } => Some(slice_of(self.text, at as usize, len as usize)),

@@ -4,7 +4,9 @@ ghost use Rattle.std.specs.Prelude.{◌≡◌, ◌≢◌, ◌≤◌, ◌∷◌, 
 ghost use Rattle.std.specs.Option.{option_map};
 ghost use Rattle.std.specs.Str.{str_to_ascii_lowercase};
 ghost use Rattle.p3_base.specs.declared.refusal.Role.TheVariants.{Plan};
+ghost use Rattle.p3_base.specs.declared.refusal.Side.TheVariants.{Written};
 ghost use Rattle.p3_tree.specs.PlanTexts as marks;
+ghost use Rattle.p3_tree.specs.Sides.{byte_limit};
 ghost use Rattle.p3_places.specs.Machine.{step};
 ghost use Rattle.p3_places.specs.Places.{grammar_table, start};
 ghost use Rattle.p3_places.specs.Walks.{the_stack, mark_in, place_of, fault_of};
@@ -91,7 +93,7 @@ fn first_fault(
     place: Place,
     text: &[u8],
 ) -> Result<Option<Refusal>, NoMemory>
-    requires { length text.now ≤ 268435456 }
+    requires { length text.now ≤ byte_limit Written }
     ensures { IfOk result (λ found. found ≡ fault_of role place text.now) }
 {
     let mut walk = begun(alloc, place);
@@ -128,7 +130,7 @@ fn place_of(role: Role) -> Place
 #[tactic(auto, using(crate::proofs::Faults::finds))]
 pub fn first_malformed(alloc: Global, role: Role, text: &[u8]) -> Result<Option<Refusal>, NoMemory>
     requires of_a_task { role ≢ Plan }
-    requires short { length text.now ≤ 268435456 }
+    requires short { length text.now ≤ byte_limit Written }
     ensures finds { IfOk result (λ found. Finds role text.now found) }
 {
     first_fault(alloc, role, place_of(role), text)

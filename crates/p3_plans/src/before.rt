@@ -4,6 +4,7 @@ ghost use Rattle.std.specs.Prelude.{◌≡◌, ◌≤◌, ◌≢◌, length, cod
 ghost use Rattle.std.specs.Str.{str_to_ascii_lowercase};
 ghost use Rattle.p3_lexer.specs.Lexing.{token_of};
 ghost use Rattle.p3_tree.specs.PlanTexts as texts;
+ghost use Rattle.p3_tree.specs.Sides.{plan_byte_limit};
 ghost use Rattle.p3_plans.specs.declared.before.Before.TheVariants as before;
 ghost use Rattle.p3_plans.specs.Befores.{Leads, begin_of};
 
@@ -58,7 +59,7 @@ fn is_plan_word(word: &[u8]) -> bool
 
 /// Outside steps, a step may begin.
 fn begun(steps: u32, offset: u32, text: &[u8]) -> Result<Before, Refusal>
-    requires short { length text.now ≤ 16777216 }
+    requires short { length text.now ≤ plan_byte_limit }
     ensures { Leads (before.Outside steps) (token_of offset text.now) result }
 {
     if text == b"(".as_slice() {
@@ -79,7 +80,7 @@ fn begun(steps: u32, offset: u32, text: &[u8]) -> Result<Before, Refusal>
 
 /// In a step, a name or an argument may stand.
 fn named(steps: u32, begin: u32, offset: u32, text: &[u8]) -> Result<Before, Refusal>
-    requires short { length text.now ≤ 16777216 }
+    requires short { length text.now ≤ plan_byte_limit }
     ensures first { Leads (before.Begun steps begin) (token_of offset text.now) result }
     ensures later { text.now ≢ codes ")"
         → Leads (before.Named steps begin) (token_of offset text.now) result }
@@ -95,7 +96,7 @@ fn named(steps: u32, begin: u32, offset: u32, text: &[u8]) -> Result<Before, Ref
 
 /// What stands behind one more token, or its refusal.
 pub(crate) fn advanced(before: Before, offset: u32, text: &[u8]) -> Result<Before, Refusal>
-    requires short { length text.now ≤ 16777216 }
+    requires short { length text.now ≤ plan_byte_limit }
     ensures { Leads before (token_of offset text.now) result }
 {
     match before {

@@ -2,6 +2,8 @@
 
 ghost use Rattle.std.specs.Prelude.{◌≡◌, ◌≤◌, ◌++◌, ◌∷◌, ℕ, [], length, IfOk};
 ghost use Rattle.std.specs.Str.{str_to_ascii_lowercase};
+ghost use Rattle.p3_tree.specs.Sides.{plan_byte_limit};
+ghost use Rattle.p3_tree.specs.PlanTexts.{step_limit};
 ghost use Rattle.p3_lexer.specs.Lexing.{token_of};
 ghost use Rattle.p3_plans.specs.Befores.{the_before};
 ghost use Rattle.p3_plans.specs.declared.draft.Draft.TheVariants as draft;
@@ -23,7 +25,7 @@ pub(crate) enum Draft {
 
 /// What stands before the next token.
 fn before_of(draft: &Draft) -> Before
-    requires few { length (plan_of draft.now) ≤ 1000000 }
+    requires few { length (plan_of draft.now) ≤ step_limit }
     ensures { the_before result ≡ draft_before draft.now }
 {
     match draft {
@@ -89,8 +91,8 @@ fn with_word(alloc: Global, draft: Draft, word: &[u8]) -> Result<Draft, NoMemory
 
 /// One more token, or its refusal.
 pub(crate) fn add(alloc: Global, draft: Draft, offset: u32, word: &[u8]) -> Result<Draft, PlanFail>
-    requires short { length word.now ≤ 16777216 }
-    requires few { length (plan_of draft) ≤ 1000000 }
+    requires short { length word.now ≤ plan_byte_limit }
+    requires few { length (plan_of draft) ≤ step_limit }
     ensures { Adds draft (token_of offset word.now) result }
 {
     if let Err(refusal) = advanced(before_of(&draft), offset, word) {

@@ -3,6 +3,7 @@
 ghost use Rattle.std.specs.Prelude.{◌≡◌, ◌≤◌, length, Some};
 ghost use Rattle.p3_tree.specs.Tokens.{tokens_of};
 ghost use Rattle.p3_tree.specs.Watching as watching;
+ghost use Rattle.p3_tree.specs.Sides.{plan_byte_limit};
 ghost use Rattle.p3_plans.specs.Lines.{IsLineStep};
 
 use crate::before::refusal;
@@ -24,7 +25,7 @@ pub enum LineStep<'a> {
 
 /// Finds the step of a line, or its first offence. It takes no memory.
 pub fn line_step(line: &[u8]) -> LineStep<'_>
-    requires short { length line.now ≤ 16777216 }
+    requires short { length line.now ≤ plan_byte_limit }
     ensures { IsLineStep line.now (watching.line_text line.now) result }
 {
     if let Some(refusal) = first_line_offence(line) {
@@ -40,7 +41,7 @@ pub fn line_step(line: &[u8]) -> LineStep<'_>
 
 /// Finds the first offence of a line: one of a plan text, or the `(` of a second step.
 fn first_line_offence(line: &[u8]) -> Option<Refusal>
-    requires short { length line.now ≤ 16777216 }
+    requires short { length line.now ≤ plan_byte_limit }
     ensures { result ≡ watching.line_offence line.now }
 {
     let offence = first_plan_offence(line);
@@ -68,7 +69,7 @@ fn earlier(offence: Option<Refusal>, place: u32) -> Refusal
 
 /// Finds the first `(` behind the first `)`.
 fn second_step(line: &[u8]) -> Option<u32>
-    requires short { length line.now ≤ 16777216 }
+    requires short { length line.now ≤ plan_byte_limit }
     ensures { result ≡ watching.second_step (tokens_of line.now).tokens }
 {
     let mut lexer = Lexer::new(line);

@@ -2,13 +2,14 @@
 
 ghost use Rattle.std.specs.Prelude.{◌≡◌, ◌≤◌, length};
 ghost use Rattle.p3_tree.specs.PlanTexts.{plan_offence};
+ghost use Rattle.p3_tree.specs.Sides.{plan_byte_limit};
 
 use crate::reader::{NextStep, PlanReader};
 use p3_base::Refusal;
 
 /// The first offence of a plan text, where it has one. It takes no memory.
 pub fn first_plan_offence(text: &[u8]) -> Option<Refusal>
-    requires short { length text.now ≤ 16777216 }
+    requires short { length text.now ≤ plan_byte_limit }
     ensures { result ≡ plan_offence text.now }
 {
     let mut reader = PlanReader::new(text);

@@ -2,7 +2,8 @@
 
 ghost use Rattle.std.specs.Prelude.{◌≡◌, ◌≤◌, length, IfOk, IfErr, IsTrue, Some, None};
 ghost use Rattle.std.specs.List.{list_all};
-ghost use Rattle.p3_tree.specs.PlanTexts.{IsPlanText, plan_offence};
+ghost use Rattle.p3_tree.specs.PlanTexts.{IsPlanText, plan_offence, step_limit};
+ghost use Rattle.p3_tree.specs.Sides.{plan_byte_limit};
 ghost use Rattle.p3_plans.specs.Drafts.{IfRefused};
 ghost use Rattle.p3_plans.specs.Layout as layout;
 
@@ -16,9 +17,9 @@ use std::alloc::Global;
 
 /// The plan of a text.
 pub fn read_plan(alloc: Global, text: &[u8]) -> Result<Plan, PlanFail>
-    requires short { length text.now ≤ 16777216 }
+    requires short { length text.now ≤ plan_byte_limit }
     ensures read { IfOk result (λ plan. IsPlanText text.now plan) }
-    ensures few { IfOk result (λ plan. length plan ≤ 1000000) }
+    ensures few { IfOk result (λ plan. length plan ≤ step_limit) }
     // What is read can be written.
     ensures writable { IfOk result (λ plan. IsTrue (list_all layout.has_written_words plan)) }
     // A text with an offence has no plan.

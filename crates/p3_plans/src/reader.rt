@@ -5,6 +5,7 @@ ghost use Rattle.p3_lexer.specs.Lexing as lexing;
 ghost use Rattle.p3_lexer.specs.StepWords.{IsPartOf, IsWordAt};
 ghost use Rattle.p3_tree.specs.PlanTexts.{IsPlanText, Outside, end_offence};
 ghost use Rattle.p3_tree.specs.declared.task.Step.{Step};
+ghost use Rattle.p3_tree.specs.Sides.{plan_byte_limit};
 ghost use Rattle.p3_plans.specs.Befores.{the_before};
 ghost use Rattle.p3_plans.specs.Steps.{Left, left, parts, nothing, with_next, IsBehindGap, Takes, Rests, Ends, stopped_by};
 
@@ -26,7 +27,7 @@ impl<'a> PlanStep<'a> {
     /// Finds a word of the step: its action's name at place 0, then the arguments, as slices of the
     /// text. It takes no memory.
     pub fn word(&self, place: u32) -> Option<&'a [u8]>
-        requires short { length self.now.text.now ≤ 16777216 }
+        requires short { length self.now.text.now ≤ plan_byte_limit }
         ensures word { (step : Step)
             → IsPlanText self.now.text.now (step ∷ []) → IsWordAt step place result }
         ensures slice { IfSome result (λ word. IsPartOf self.now.text.now word.now) }
@@ -62,6 +63,7 @@ pub struct PlanReader<'a> {
 
 impl<'a> Model for PlanReader<'a> {
     ghost use Rattle.std.specs.Prelude.{◌≡◌, ◌≤◌, length};
+    ghost use Rattle.p3_tree.specs.Sides.{plan_byte_limit};
     ghost use Rattle.p3_plans.specs.Steps.{Progress};
 
     ghost Value = { Progress };
@@ -74,13 +76,14 @@ impl<'a> Model for PlanReader<'a> {
           reader.stopped;
     } };
 
-    ghost invariant = { λ reader. (reader.lexer.source ≡ reader.text.now) × (length reader.text.now ≤ 16777216) };
+    ghost invariant = { λ reader. (reader.lexer.source ≡ reader.text.now)
+        × (length reader.text.now ≤ plan_byte_limit) };
 }
 
 impl<'a> PlanReader<'a> {
     /// Begins at the start of the text.
     pub fn new(text: &'a [u8]) -> PlanReader<'a>
-        requires short { length text.now ≤ 16777216 }
+        requires short { length text.now ≤ plan_byte_limit }
         ensures starts { result ≡ record { source = text.now; at = 0; given = 0; stopped = None } }
     {
         PlanReader {
@@ -128,7 +131,7 @@ fn stop(next: NextStep<'_>) -> Option<Refusal>
 /// The next step behind so many steps, and how many then were begun.
 fn next_step<'a>(text: &'a [u8], lexer: &mut Lexer<'a>, given: u32) -> (NextStep<'a>, u32)
     requires source { lexer.old.source ≡ text.now }
-    requires short { length text.now ≤ 16777216 }
+    requires short { length text.now ≤ plan_byte_limit }
     ensures source { lexer.new.source ≡ text.now }
     ensures steps { parts text.now (Outside given) 0 (lexing.left lexer.old)
         ≡ with_next result.0 (parts text.now (Outside result.1) 0 (lexing.left lexer.new)) }
@@ -174,7 +177,7 @@ fn step_at(text: &[u8], begin: u32, close: u32) -> PlanStep<'_>
 
 /// At the end of the text, inside a step or not.
 fn end_of(text: &[u8], before: Before) -> NextStep<'_>
-    requires short { length text.now ≤ 16777216 }
+    requires short { length text.now ≤ plan_byte_limit }
     ensures offence { (later : Left)
         → with_next result later ≡ nothing (end_offence (length text.now) (the_before before)) }
     ensures slice { (source : List ℕ) (end : ℕ) → Takes source result end }
