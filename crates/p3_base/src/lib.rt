@@ -18,6 +18,7 @@ mod shelf;
 mod showing;
 mod sink;
 mod sure;
+mod too_large;
 
 pub use boxed::Boxed;
 pub use copied::{copied_step, number_of, owning_step};
@@ -34,3 +35,4 @@ pub use refusal::{Code, Direction, Pos, Refusal, Role, Side};
 pub use showing::{Reason, Showing, Subject};
 pub use sink::Sink;
 pub use sure::{SureFiles, SureSink};
+pub use too_large::{TooLarge, as_number};

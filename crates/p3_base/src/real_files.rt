@@ -1,6 +1,6 @@
 //! The files of the machine.
 
-ghost use Rattle.std.specs.Prelude.{◌≡◌, ◌+◌, ◌≤◌, ◌<◌, [], None, false, length, IfOk, OnOk, IsErrOf, ◌≢◌, Err};
+ghost use Rattle.std.specs.Prelude.{◌≡◌, ◌+◌, ◌≤◌, ◌<◌, ◌^◌, [], None, false, length, IfOk, OnOk, IsErrOf, ◌≢◌, Err};
 ghost use Rattle.std.specs.Io.KnownBytes.{Appends, Consumes, IsAtEnd};
 ghost use Rattle.p3_base.specs.Outside.{IsTaken};
 
@@ -94,7 +94,7 @@ fn read_file<R: rt::Files>(
     into: &mut Vec<u8>,
 ) -> Result<(), ReadFault>
     requires empty { into.old.items ≡ [] }
-    requires limited { limit < 4294967296 }
+    requires limited { limit < 2 ^ 32 }
     ensures within_limit { OnOk result (length into.new.items ≤ limit) }
     ensures too_long { IsErrOf result ReadFault.TooLong → length into.new.items ≡ limit + 1 }
 {
@@ -115,7 +115,7 @@ fn read_all<T: Read>(
     into: &mut Vec<u8>,
 ) -> Result<(), ReadFault>
     requires empty { into.old.items ≡ [] }
-    requires limited { limit < 4294967296 }
+    requires limited { limit < 2 ^ 32 }
     ensures within_limit { OnOk result (length into.new.items ≤ limit) }
     ensures too_long { IsErrOf result ReadFault.TooLong → length into.new.items ≡ limit + 1 }
     // Where the source tells its bytes, these are the first of them, and all where they are enough.

@@ -3,6 +3,7 @@
 ghost use Rattle.std.specs.Prelude.{◌≡◌, ◌≤◌, IfOk, IfErr, OnOk, None, length};
 ghost use Rattle.p3_tree.specs.Offences.{WellFormed};
 ghost use Rattle.p3_tree.specs.PlanTexts.{IsPlanText, plan_offence, step_limit};
+ghost use Rattle.p3_tree.specs.Sides.{plan_byte_limit};
 ghost use Rattle.p3_cli.specs.Refusing.{
   AreAcceptedFor,
   EndsAs,
@@ -59,7 +60,7 @@ pub(crate) fn readable_plan(texts: &Texts<'_>) -> Result<(), Ending>
 
 /// The plan of a text that has no offence.
 pub(crate) fn plan_of(alloc: Global, text: &[u8]) -> Result<Plan, NoMemory>
-    requires short { length text.now ≤ 16777216 }
+    requires short { length text.now ≤ plan_byte_limit }
     requires free { plan_offence text.now ≡ None }
     ensures spelled { IfOk result (IsPlanText text.now) }
     ensures few { IfOk result (λ plan. length plan ≤ step_limit) }

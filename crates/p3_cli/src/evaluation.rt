@@ -3,6 +3,7 @@
 ghost use Rattle.std.specs.Prelude.{◌≡◌, ◌≤◌, IfErr, IfOk, None, OnOk, length};
 ghost use Rattle.p3_base.specs.declared.refusal.Side.TheVariants.{Source};
 ghost use Rattle.p3_tree.specs.PlanTexts.{plan_offence};
+ghost use Rattle.p3_tree.specs.Sides.{plan_byte_limit};
 ghost use Rattle.p3_reports.specs.Faults.{fault_named};
 ghost use Rattle.p3_reports.specs.Reports.{report_text};
 ghost use Rattle.p3_eval.specs.Judged.{fault_in};
@@ -66,7 +67,7 @@ pub(crate) fn judged_task(alloc: Global, texts: &Texts<'_>) -> Result<Whole, End
 
 /// The report of the plan of a text for an accepted task, where it is valid.
 fn judged(alloc: Global, whole: &Whole, plan: &[u8]) -> Result<Report, Ending>
-    requires short { length plan.now ≤ 16777216 }
+    requires short { length plan.now ≤ plan_byte_limit }
     requires free { plan_offence plan.now ≡ None }
     ensures report { IfOk result (λ report.
         OfText plan.now (IsReportOf whole.now.checked.task (report_text report))) }

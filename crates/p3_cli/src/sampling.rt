@@ -1,9 +1,11 @@
 //! What `generate` makes.
 
 ghost use Rattle.std.specs.Prelude.{◌≡◌, ◌≤◌, ◌∷◌, [], IfErr, IfOk, length, map};
+ghost use Rattle.p3_base.specs.declared.refusal.Side.TheVariants.{Source};
 ghost use Rattle.p3_tree.specs.Metrics.{value};
 ghost use Rattle.p3_tree.specs.PlanTexts.{step_limit};
 ghost use Rattle.p3_tree.specs.Samples.{sample_domain, sample_plan, sample_problem};
+ghost use Rattle.p3_tree.specs.Sides.{byte_limit, plan_byte_limit};
 ghost use Rattle.p3_tree.specs.Validity.{Valid};
 ghost use Rattle.p3_cli.specs.Evaluation.{IsRejectedPlan, RejectsPlan};
 ghost use Rattle.p3_cli.specs.Refusing.{IsRejectedBy, all_texts, with_plan};
@@ -72,9 +74,9 @@ pub(crate) fn sample(alloc: Global, number: u32) -> Result<Sampling, Ending>
 
 /// The texts of a sample, as those of a task and of a plan for it.
 fn texts_of(sample: &Sample) -> Texts<'_>
-    requires domain { length sample.now.domain ≤ 16777216 }
-    requires problem { length sample.now.problem ≤ 16777216 }
-    requires plan { length sample.now.plan ≤ 16777216 }
+    requires domain { length sample.now.domain ≤ byte_limit Source }
+    requires problem { length sample.now.problem ≤ byte_limit Source }
+    requires plan { length sample.now.plan ≤ plan_byte_limit }
     ensures { all_texts result
         ≡ with_plan sample.now.domain sample.now.problem sample.now.plan }
 {

@@ -1,6 +1,8 @@
 //! The texts that a command has read, and the ending that says a refusal of them.
 
 ghost use Rattle.std.specs.Prelude.{◌≡◌, ◌≤◌, length};
+ghost use Rattle.p3_base.specs.declared.refusal.Side.TheVariants.{Source, Written};
+ghost use Rattle.p3_tree.specs.Sides.{byte_limit, plan_byte_limit};
 
 use crate::Ending;
 use p3_base::{Refusal, Role, Side};
@@ -14,15 +16,14 @@ pub(crate) struct Texts<'t> {
     pub(crate) written_domain: &'t [u8],
     pub(crate) written_problem: &'t [u8],
     pub(crate) plan: &'t [u8],
-    pub ghost domain_short: { length domain.now ≤ 16777216 },
-    pub ghost problem_short: { length problem.now ≤ 16777216 },
-    pub ghost written_domain_short: { length written_domain.now ≤ 268435456 },
-    pub ghost written_problem_short: { length written_problem.now ≤ 268435456 },
-    pub ghost plan_short: { length plan.now ≤ 16777216 },
+    pub ghost domain_short: { length domain.now ≤ byte_limit Source },
+    pub ghost problem_short: { length problem.now ≤ byte_limit Source },
+    pub ghost written_domain_short: { length written_domain.now ≤ byte_limit Written },
+    pub ghost written_problem_short: { length written_problem.now ≤ byte_limit Written },
+    pub ghost plan_short: { length plan.now ≤ plan_byte_limit },
 }
 
 impl<'t> Texts<'t> {
-    ghost use Rattle.p3_tree.specs.Sides.{byte_limit};
     ghost use Rattle.p3_cli.specs.Refusing.{
       IsRejectedBy,
       all_texts,
@@ -57,7 +58,7 @@ impl<'t> Texts<'t> {
     /// The text of the file that a role names.
     fn of(&self, role: Role) -> &'t [u8]
         ensures text { result.now ≡ text_of role (all_texts self.now) }
-        ensures short { length result.now ≤ 268435456 }
+        ensures short { length result.now ≤ byte_limit Written }
     {
         match role {
             Role::Domain => self.domain,

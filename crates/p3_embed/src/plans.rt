@@ -5,6 +5,7 @@ ghost use Rattle.std.specs.List.{All};
 ghost use Rattle.p3_tree.specs.Limits.{step_count};
 ghost use Rattle.p3_tree.specs.StepNumbers.{IsOwn};
 ghost use Rattle.p3_tree.specs.Validity.{first_fault};
+ghost use Rattle.p3_tree.specs.Sides.{step_count_limit};
 ghost use Rattle.p3_formula.specs.Targets.{Compiled, target_cost};
 ghost use Rattle.p3_ground.specs.PlansByNumber.{AreNumbers, are_bare, names_of};
 ghost use Rattle.p3_run.specs.Runs.{most_steps};
@@ -81,7 +82,7 @@ fn first_fault(alloc: Global, task: &Whole, plan: &[Step]) -> Result<Option<Plan
 
 /// The numbers of steps of the task.
 fn numbers_of(alloc: Global, task: &Checked, plan: &[Step]) -> Result<Vec<u32>, NoMemory>
-    requires few { step_count task.now.task ≤ 20000000 }
+    requires few { step_count task.now.task ≤ step_count_limit }
     requires own { All (IsOwn task.now.task) plan.now }
     ensures { IfOk result (λ numbers. AreNumbers task.now.task plan.now numbers.items) }
 {

@@ -41,7 +41,7 @@ use Rattle.p3_eval.proofs.ReadyLaws.{accepted_is_ready}
 use Rattle.p3_eval.proofs.RefusalLaws.{each_none, no_metric, small_effect, small_precondition}
 use Rattle.p3_eval.proofs.SizeLaws.{cheap_action, few_prefs}
 
-greatest_size : (side : Side) → size_limit side ≤ 50000000
+greatest_size : (side : Side) → size_limit side ≤ size_limit Written
 greatest_size Source = omega arith
 greatest_size Written = omega arith
 

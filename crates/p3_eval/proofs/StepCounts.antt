@@ -12,6 +12,7 @@ use Rattle.p3_tree.specs.Refusals.Counts.{passes_at, size_refusals, too_many_ste
 use Rattle.p3_tree.specs.Refusals.First.{task_refusal}
 use Rattle.p3_tree.specs.declared.task.Action.{Action}
 use Rattle.p3_tree.specs.declared.task.Task.{Task}
+use Rattle.p3_tree.specs.Sides.{step_count_limit}
 use Rattle.p3_limits.proofs.PreferenceLaws.{length-bind}
 use Rattle.p3_eval.proofs.RefusalLaws.{each_none, no_size, unmapped}
 
@@ -36,6 +37,6 @@ module _ (T : Task) where
           let others = rest none in
           omega (arith, within, others, count_is action, length-append (steps_of T action) (flat_map (steps_of T) actions))
 
-pub few_steps : (side : Side) (T : Task) → WellFormed T → task_refusal side T ≡ None → step_count T ≤ 20000000
+pub few_steps : (side : Side) (T : Task) → WellFormed T → task_refusal side T ≡ None → step_count T ≤ step_count_limit
 unfolding steps
-few_steps side T well none = few_from T 20000000 T.domain.actions (unmapped _ _ (each_none (size_refusals side T) (no_size side T well none) 0 (too_many_steps side T) refl))
+few_steps side T well none = few_from T step_count_limit T.domain.actions (unmapped _ _ (each_none (size_refusals side T) (no_size side T well none) 0 (too_many_steps side T) refl))

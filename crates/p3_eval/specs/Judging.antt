@@ -8,6 +8,7 @@ use Rattle.p3_tree.specs.StepNumbers.{HasNumber}
 use Rattle.p3_tree.specs.Validity.{first_fault}
 use Rattle.p3_tree.specs.declared.task.Step.{Step}
 use Rattle.p3_tree.specs.declared.task.Task.{Task}
+use Rattle.p3_tree.specs.Sides.{step_count_limit}
 use Rattle.p3_plans.specs.Laws.{AreTextsOf}
 use Rattle.p3_plans.specs.Steps.{Left}
 use Rattle.p3_eval.specs.Judged.{HasItsStep, fault_in}
@@ -24,7 +25,7 @@ use Rattle.p3_eval.specs.declared.text_judging.TextVerdict.TheVariants.{Refused,
 -- the run is of the task, and few enough are its steps
 pub record IsRunOf (T : Task) (ran : Ran) : Type 0 where
   pub together : BelongTogether T ran.task ran.weights
-  pub few : step_count T ≤ 20000000
+  pub few : step_count T ≤ step_count_limit
 
 -- the text is that of one step
 pub record HasStep (text : List ℕ) : Type 0 where

@@ -2,6 +2,7 @@
 
 ghost use Rattle.std.specs.Prelude.{◌≡◌, ◌<◌, ◌≤◌, [], length, None, IfSome};
 ghost use Rattle.p3_tree.specs.PlanTexts.{plan_offence};
+ghost use Rattle.p3_tree.specs.Sides.{plan_byte_limit};
 ghost use Rattle.p3_eval.specs.Judged.{HasItsStep};
 ghost use Rattle.p3_run.specs.Runs.{most_steps};
 ghost use Rattle.p3_eval.specs.Judging.{
@@ -34,7 +35,7 @@ pub enum TextVerdict {
 pub fn judge_text(whole: &Whole, run: &mut Run<'_>, text: &[u8]) -> TextVerdict
     requires of { IsRunOf whole.now.checked.task run.old }
     requires begins { run.old.plan ≡ [] }
-    requires short { length text.now ≤ 16777216 }
+    requires short { length text.now ≤ plan_byte_limit }
     ensures verdict { IsVerdict whole.now.checked.task text.now run.new result }
     ensures of { IsRunOf whole.now.checked.task run.new }
 {
@@ -52,7 +53,7 @@ pub fn judge_text(whole: &Whole, run: &mut Run<'_>, text: &[u8]) -> TextVerdict
 pub fn first_fault(checked: &Checked, run: &mut Run<'_>, text: &[u8]) -> Option<PlanFault>
     requires of { IsRunOf checked.now.task run.old }
     requires begins { run.old.plan ≡ [] }
-    requires short { length text.now ≤ 16777216 }
+    requires short { length text.now ≤ plan_byte_limit }
     requires free { plan_offence text.now ≡ None }
     ensures fault { IsFirstFault checked.now.task text.now result }
     ensures placed { IfSome result HasItsStep }
@@ -77,7 +78,7 @@ pub fn first_fault(checked: &Checked, run: &mut Run<'_>, text: &[u8]) -> Option<
 fn step_fault(checked: &Checked, run: &mut Run<'_>, text: &[u8]) -> Option<PlanFault>
     requires of { IsRunOf checked.now.task run.old }
     requires room { length run.old.plan < most_steps }
-    requires short { length text.now ≤ 16777216 }
+    requires short { length text.now ≤ plan_byte_limit }
     requires spelled { HasStep text.now }
     ensures goes { GoesOn checked.now.task run.old run.new text.now result }
     ensures placed { IfSome result HasItsStep }

@@ -3,6 +3,7 @@
 ghost use Rattle.std.specs.Prelude.{◌≡◌, ◌≤◌, None, IfOk, IfErr, OnOk, IsTrue};
 ghost use Rattle.p3_tree.specs.Limits.{step_count};
 ghost use Rattle.p3_tree.specs.Refusals.First.{task_refusal};
+ghost use Rattle.p3_tree.specs.Sides.{step_count_limit};
 ghost use Rattle.p3_formula.specs.Conditions.{IsReady};
 ghost use Rattle.p3_ground.specs.Sparse.{IsGroundingOf};
 ghost use Rattle.p3_metric.specs.Weighed.{HasWeights, IsLinearMetric};
@@ -77,7 +78,7 @@ impl Whole {
     pub fn checked(&self) -> &Checked
         ensures checked { result.now ≡ self.now.checked }
         ensures accepted { task_refusal self.now.checked.side self.now.checked.task ≡ None }
-        ensures few { step_count self.now.checked.task ≤ 20000000 }
+        ensures few { step_count self.now.checked.task ≤ step_count_limit }
     {
         &self.checked
     }

@@ -51,7 +51,7 @@ fn equality_node(
 
 /// The node of a condition at the objects in the slots. What no step changes is decided at once.
 #[cycle(expand)]
-pub fn condition_node(
+pub(crate) fn condition_node(
     numbers: &Numbers,
     statics: &Statics,
     work: &mut Work,

@@ -80,7 +80,7 @@ fn push_operator(
 /// Puts the operators of a constraint at the objects in the slots behind those made, in order: all
 /// of them, or else those outside preferences.
 #[cycle(operators)]
-pub fn push_operators(
+pub(crate) fn push_operators(
     numbers: &Numbers,
     statics: &Statics,
     work: &mut Work,

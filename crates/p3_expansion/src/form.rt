@@ -33,7 +33,7 @@ pub(crate) fn form_at(work: &Work, number: usize) -> Result<Form, NoMemory>
 
 /// The tidy form of a condition at the objects in the slots.
 #[tactic(auto, using(crate::proofs::ExpansionLemmas::form_laws))]
-pub fn condition_form(
+pub(crate) fn condition_form(
     numbers: &Numbers,
     statics: &Statics,
     work: &mut Work,

@@ -14,7 +14,7 @@ use p3_numbers::{Goal, Numbers};
 
 /// The node of the hard part of a goal at the objects in the slots.
 #[cycle(hard)]
-pub fn hard_node(
+pub(crate) fn hard_node(
     numbers: &Numbers,
     statics: &Statics,
     work: &mut Work,

@@ -44,7 +44,7 @@ fn push_instance(
 
 /// Puts the preferences of a constraint at the objects in the slots behind those made, in order.
 #[cycle(instances)]
-pub fn push_instances(
+pub(crate) fn push_instances(
     numbers: &Numbers,
     statics: &Statics,
     work: &mut Work,
@@ -150,7 +150,7 @@ fn push_at_end(
 
 /// Puts the preferences of a goal, which speak of the last state, at the objects in the slots behind
 /// those made, in order.
-pub fn push_goal_instances(
+pub(crate) fn push_goal_instances(
     numbers: &Numbers,
     statics: &Statics,
     work: &mut Work,

@@ -20,12 +20,8 @@ mod work;
 
 pub use atoms::Atoms;
 pub use choices::{choice_count, object_at, objects_of, place_choice};
-pub use condition::condition_node;
-pub use constraint::push_operators;
 pub use effect::changes;
-pub use form::{condition_form, hard_form};
-pub use goal::hard_node;
-pub use instance::{push_goal_instances, push_instances};
+pub use form::hard_form;
 pub use laws::{
     changes_stand_for_the_effect, expanded_goals_mean_their_goals, the_start_is_told,
     well_formed_tasks_read_names, what_stands_is_bounded,

@@ -20,6 +20,7 @@ use Rattle.p3_tree.specs.declared.task.Action.{Action}
 use Rattle.p3_tree.specs.declared.task.Task.{Task}
 use Rattle.p3_tree.specs.declared.term.Ref.{Ref}
 use Rattle.p3_tree.specs.declared.term.Typed.{Typed}
+use Rattle.p3_tree.specs.Sides.{step_count_limit}
 use Rattle.p3_formula.specs.Conditions.{HasAtomsBelow, rises}
 use Rattle.p3_formula.specs.Forms as forms
 use Rattle.p3_formula.specs.declared.task.GroundStep.{GroundStep}
@@ -64,6 +65,7 @@ use Rattle.p3_ground.specs.declared.parts.Parts.{Parts}
 use Rattle.p3_ground.proofs.GroundingLaws.{leaves-out-what-never-begins, is-grounding}
 use Rattle.p3_ground.proofs.PutTogether.{what-is-put-together-stands}
 use Rattle.p3_ground.proofs.PlannedSteps.{planned-steps-are-all, planned-steps-read-names, steps-are-counted}
+use Rattle.p3_types.specs.FirstSteps.{too_many}
 
 -- ---- the limit on steps
 
@@ -121,11 +123,11 @@ module _ (T : Task) (N : Numbers) (ties : IsNumbering T N) where
 -- a task that passes no limit has few steps
 pub few-steps : (T : Task) (X : NumberedTask) (side : Side) → WellFormed T → IsNumberedTask T X → first_some (size_refusals side T) ≡ None → HasFewSteps X
 few-steps T X side well is none =
-    let here : passes_at (λ (action : Action). binding_count T action.params) 20000000 T.domain.actions ≡ None = no-map _ _ (none-first _ _ none) in
+    let here : passes_at (λ (action : Action). binding_count T action.params) step_count_limit T.domain.actions ≡ None = no-map _ _ (none-first _ _ none) in
     let count : count_of_steps X.numbers X.actions ≡ sum_of (λ (action : Action). binding_count T action.params) T.domain.actions =
     ap (count_of_steps X.numbers) is.actions ∙ counts-are T X.numbers is.numbering T.domain.actions (task-known T X.numbers well is.covers).actions
     in
-    omega (arith, count, passes-none (λ (action : Action). binding_count T action.params) 20000000 T.domain.actions here)
+    omega (arith, count, passes-none (λ (action : Action). binding_count T action.params) step_count_limit T.domain.actions here)
 
 -- short numbers have few places
 pub few_places_of : (side : Side) (T : Task) → IsTrue (has_short_numbers side T) → cost_places T ≤ 6
@@ -161,12 +163,12 @@ module _ (T : Task) (X : NumberedTask) (S : Statics) (places : ℕ) (well : Well
 
 -- ---- the whole
 
-min-within : (count : ℕ) → count ≤ 20000000 → min count 20000001 ≡ count
+min-within : (count : ℕ) → count ≤ step_count_limit → min count too_many ≡ count
 min-within count few = omega (arith, few)
 
 -- with the numbers of the task they make up a ground task of all steps that may begin
 pub whole-is : (T : Task) (X : NumberedTask) (S : Statics) (places : ℕ) (atoms : List GroundAtom) (parts : Parts) (G : GroundTask) → HasFewSteps X → places ≡ cost_places T → ArePartsOf T X S places atoms parts
-    → G.atoms ≡ parts.atoms → G.initial ≡ start_bits S atoms → G.initial_cost ≡ initial_cost T → G.step_count ≡ min (length (steps T)) 20000001
+    → G.atoms ≡ parts.atoms → G.initial ≡ start_bits S atoms → G.initial_cost ≡ initial_cost T → G.step_count ≡ min (length (steps T)) too_many
     → G.steps ≡ parts.steps → G.goal ≡ parts.goal → G.hard ≡ parts.hard → G.soft ≡ parts.soft → G.names ≡ length (ordered_names T) → IsWhole T X G
 whole-is T X S places atoms parts G few units are count initial cost steps_count steps_are goal_is hard_are soft_are names =
     let ex = are.expanded in
@@ -174,7 +176,7 @@ whole-is T X S places atoms parts G few units are count initial cost steps_count
     subst (λ made. StepsAreMade X S (cost_places T) atoms (planned_steps X S) made) (sym steps_are) (subst (λ n. StepsAreMade X S n atoms (planned_steps X S) parts.steps) units are.steps)
     in
     let all : AreAllThatMayBegin T X S atoms G.steps = planned-steps-are-all T X S atoms ex G.steps made in
-    let counted : length (steps T) ≤ 20000000 = omega (arith, few, steps-are-counted T X ex.well ex.numbered) in
+    let counted : length (steps T) ≤ step_count_limit = omega (arith, few, steps-are-counted T X ex.well ex.numbered) in
     let numbers : G.step_count ≡ length (steps T) = steps_count ∙ min-within (length (steps T)) counted in
     record {
       statics = S;

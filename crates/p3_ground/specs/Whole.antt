@@ -5,6 +5,7 @@ use Rattle.p3_base.specs.declared.refusal.Side.{Side}
 use Rattle.p3_tree.specs.Refusals.Counts.{size_refusals}
 use Rattle.p3_tree.specs.Refusals.Places.{first_some}
 use Rattle.p3_tree.specs.declared.task.Task.{Task}
+use Rattle.p3_tree.specs.Sides.{step_count_limit}
 use Rattle.p3_formula.specs.declared.task.GroundTask.{GroundTask}
 use Rattle.p3_numbers.specs.declared.task.NumberedTask.{NumberedTask}
 use Rattle.p3_steps.specs.Steps.{StepsAreMade, count_of_steps, planned_steps}
@@ -32,7 +33,7 @@ IsFailOf side T NoMemory = Unit {0}
 
 -- the steps of the task can be numbered
 abbrev pub HasFewSteps : NumberedTask → Type 0
-HasFewSteps X = count_of_steps X.numbers X.actions ≤ 20000000
+HasFewSteps X = count_of_steps X.numbers X.actions ≤ step_count_limit
 
 -- the expanded parts of a task stand for those of its numbered trees
 pub record ArePartsOf (T : Task) (X : NumberedTask) (S : Statics) (places : ℕ) (atoms : List GroundAtom) (parts : Parts) : Type 0 where

@@ -4,6 +4,7 @@ ghost use Rattle.std.specs.Prelude.{◌≡◌, ◌≤◌, [], ◌++◌, IfOk, On
 ghost use Rattle.std.specs.List.{cons_option};
 ghost use Rattle.p3_tree.specs.Lifting.{lift, lifted_step};
 ghost use Rattle.p3_tree.specs.Limits.{step_count as count_of_steps};
+ghost use Rattle.p3_tree.specs.Sides.{step_count_limit};
 
 use crate::names::counted_step;
 use p3_base::{List, NoMemory};
@@ -13,7 +14,7 @@ use std::alloc::Global;
 
 /// The step as which a written step counts, if it does.
 fn lifted_step(alloc: Global, task: &Checked, written: &Step) -> Result<Option<Step>, NoMemory>
-    requires few { count_of_steps task.now.task ≤ 20000000 }
+    requires few { count_of_steps task.now.task ≤ step_count_limit }
     ensures { IfOk result (λ step. step ≡ lifted_step task.now.task written.now) }
 {
     match counted_step(task, written) {
@@ -38,7 +39,7 @@ fn push_step(plan: &mut Plan, step: Option<Step>) -> Result<(), NoMemory>
 /// The steps as which the written steps count; the others are dropped. Each is found by its name,
 /// so the time grows with the length of the plan alone.
 pub(crate) fn lifted_steps(alloc: Global, task: &Checked, plan: &[Step]) -> Result<Plan, NoMemory>
-    requires few { count_of_steps task.now.task ≤ 20000000 }
+    requires few { count_of_steps task.now.task ≤ step_count_limit }
     ensures { IfOk result (λ lifted. lifted ≡ lift task.now.task plan.now) }
 {
     let mut lifted = List::new(alloc);

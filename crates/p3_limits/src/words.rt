@@ -5,7 +5,7 @@ ghost use Rattle.std.specs.Result.{MatchResult};
 ghost use Rattle.p3_tree.specs.Refusals.Places as places;
 ghost use Rattle.p3_tree.specs.Sides.{InDomain, InProblem, role_of, size_limit as limit_of};
 
-use p3_base::{Code, Name, NoMemory, Pos, Refusal, Role, Side};
+use p3_base::{Code, Name, Pos, Refusal, Role, Side, TooLarge, as_number};
 use p3_tree::Ref;
 
 /// The domain of the side.
@@ -53,18 +53,15 @@ pub fn refusal_at(code: Code, role: Role, at: u32, len: u32) -> Refusal
 ///
 /// # Errors
 ///
-/// Want of memory, for 2 ^ 32 bytes or more.
-pub fn name_len(name: &Name) -> Result<u32, NoMemory>
+/// `TooLarge` exactly from 2 ^ 32 bytes on.
+pub fn name_len(name: &Name) -> Result<u32, TooLarge>
     ensures { MatchResult result (λ len. len ≡ length name.now) (λ _. 2 ^ 32 ≤ length name.now) }
 {
-    match u32::try_from(name.bytes().len()) {
-        Ok(len) => Ok(len),
-        Err(_) => Err(NoMemory),
-    }
+    as_number(name.bytes().len())
 }
 
 /// The refusal at a name.
-pub(crate) fn refusal_at_name(code: Code, role: Role, name: &Ref) -> Result<Refusal, NoMemory>
+pub(crate) fn refusal_at_name(code: Code, role: Role, name: &Ref) -> Result<Refusal, TooLarge>
     ensures refusal { IfOk result (λ refusal. refusal ≡ places.refusal_at_word code role name.now) }
     ensures long { OnErr result (2 ^ 32 ≤ length name.now.name) }
 {

@@ -32,7 +32,7 @@ use crate::evaluate::Evaluator;
 use crate::linear::Linear;
 use crate::negative::first_negative;
 use crate::spot::Spot;
-use p3_base::{Code, Direction, List, Name, NoMemory, Refusal, Role};
+use p3_base::{Code, Direction, List, Name, NoMemory, Refusal, Role, as_number};
 use p3_formula::Weights;
 use p3_limits::refusal_at;
 use std::alloc::Global;
@@ -87,8 +87,11 @@ fn at_start(constant: i128, cost: i128, initial: u64) -> i128
     constant + cost * i128::from(initial)
 }
 
-/// The refusal of a negative weight at the word. Want of memory is answered for a word of 2 ^ 32
-/// bytes or more.
+/// The refusal of a negative weight at the word.
+///
+/// # Errors
+///
+/// Want of memory, for a word of 2 ^ 32 bytes or more.
 fn negative_refusal(role: Role, spot: Option<Spot>) -> Result<Option<Refusal>, NoMemory>
     ensures { IfOk result (λ found. found ≡ option_map
         (λ spot. places.refusal_at NegativeWeight role spot.at spot.len) spot) }
@@ -96,10 +99,8 @@ fn negative_refusal(role: Role, spot: Option<Spot>) -> Result<Option<Refusal>, N
     let Some(spot) = spot else {
         return Ok(None);
     };
-    match u32::try_from(spot.len) {
-        Ok(len) => Ok(Some(refusal_at(Code::NegativeWeight, role, spot.at, len))),
-        Err(_) => Err(NoMemory),
-    }
+    let len = as_number(spot.len)?;
+    Ok(Some(refusal_at(Code::NegativeWeight, role, spot.at, len)))
 }
 
 impl<'t> Evaluator<'t> {

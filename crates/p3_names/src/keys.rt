@@ -53,7 +53,7 @@ impl Digest {
     }
 
     /// The names of listed types more.
-    pub fn tell_types(&mut self, types: &[Ref])
+    pub(crate) fn tell_types(&mut self, types: &[Ref])
         ensures { self.new.told ≡ told_all self.old.told (names_of types.now) }
     {
         for kind in types {
@@ -62,7 +62,7 @@ impl Digest {
     }
 
     /// The names of what is declared more.
-    pub fn tell_declared(&mut self, items: &[Typed])
+    pub(crate) fn tell_declared(&mut self, items: &[Typed])
         ensures { self.new.told
             ≡ told_all self.old.told (map (λ item. item.name.name) items.now) }
     {

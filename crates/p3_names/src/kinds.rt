@@ -254,7 +254,7 @@ fn all_types<'t>(alloc: Global, task: &'t Task, types: &'t [Ref], order: Rc<Orde
 
 impl<'t> Below<'t> {
     /// Whether the type is below one of the listed ones. It takes no memory.
-    pub fn has(&self, kind: &Name) -> bool
+    fn has(&self, kind: &Name) -> bool
         ensures { result ≡ is_below_some self.now.task.now self.now.types.now kind.now }
     {
         self.has_word(kind.bytes())

@@ -81,7 +81,7 @@ impl<'t> Scope<'t> {
     }
 
     /// One variable more, the innermost.
-    pub fn push(&mut self, variable: &'t Typed) -> Result<(), NoMemory>
+    fn push(&mut self, variable: &'t Typed) -> Result<(), NoMemory>
         ensures ok { OnOk result (self.new ≡ self.old ++ variable.now ∷ []) }
         ensures err { OnErr result (self.new ≡ self.old) }
     {
@@ -99,7 +99,7 @@ impl<'t> Scope<'t> {
     }
 
     /// Without the innermost variable.
-    pub fn pop(&mut self)
+    fn pop(&mut self)
         ensures { self.new ≡ take (length self.old - 1) self.old }
     {
         if let Some(entry) = self.entries.pop() {

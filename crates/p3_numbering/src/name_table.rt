@@ -6,19 +6,9 @@ ghost use Rattle.p3_tree.specs.Types.{once_each};
 ghost use Rattle.p3_numbers.specs.Places.{number_in};
 ghost use Rattle.p3_numbering.specs.Texts.{names_in};
 
-use p3_base::{List, Name, NoMemory};
+use p3_base::{List, Name, NoMemory, as_number};
 use p3_names::{Names, name_key};
 use std::alloc::Global;
-
-/// A place as a number; one that has no number wants memory.
-pub(crate) fn as_number(place: usize) -> Result<u32, NoMemory>
-    ensures { IfOk result (λ number. number ≡ place) }
-{
-    if place >= 4294967296 {
-        return Err(NoMemory);
-    }
-    Ok(place as u32)
-}
 
 /// Names, each once, found by hashing.
 #[derive(Drop)]
@@ -78,8 +68,8 @@ impl NameTable {
         ensures { IfOk result (λ number. number ≡ number_in self.now.names name.now) }
     {
         match self.found.number_of(name) {
-            Some(place) => as_number(place),
-            None => as_number(self.names.len()),
+            Some(place) => Ok(as_number(place)?),
+            None => Ok(as_number(self.names.len())?),
         }
     }
 

@@ -10,9 +10,9 @@ ghost use Rattle.p3_tree.specs.Names.{same_names};
 ghost use Rattle.p3_tree.specs.Types.{names_of};
 
 use crate::listed::task_lists;
-use crate::name_table::{as_number, copied};
+use crate::name_table::copied;
 use crate::type_table::TypeTable;
-use p3_base::{List, Name, NoMemory};
+use p3_base::{List, Name, NoMemory, as_number};
 use p3_names::{Kinds, Objects, list_key};
 use p3_tree::{Ref, Task};
 use std::alloc::Global;
@@ -152,8 +152,8 @@ impl<'t> Ranges<'t> {
             ≡ position_or_len (λ other. same_names other (names_of types.now)) self.now.types) }
     {
         match self.table.find(alloc, types)? {
-            Some(place) => as_number(place),
-            None => as_number(self.table.len()),
+            Some(place) => Ok(as_number(place)?),
+            None => Ok(as_number(self.table.len())?),
         }
     }
 }

@@ -4,9 +4,8 @@ ghost use Rattle.std.specs.Prelude.{◌≡◌, IfOk};
 ghost use Rattle.p3_numbers.specs.Places.{slot_or_first, numbered_term, numbered_terms, ranges_of, words_of};
 ghost use Rattle.p3_numbering.specs.Tables.{numbers_of};
 
-use crate::name_table::as_number;
 use crate::tables::Tables;
-use p3_base::{List, NoMemory};
+use p3_base::{List, NoMemory, as_number};
 use p3_names::Scope;
 use p3_numbers::Argument;
 use p3_tree::{Term, Typed};

@@ -11,7 +11,7 @@ ghost use Rattle.p3_offences.specs.Order.{refusal_at_spot};
 use crate::spot::{Found, Spot};
 use crate::tables::Tables;
 use crate::whole::{domain_found, problem_found};
-use p3_base::{Code, NoMemory, Pos, Refusal, Role, Side};
+use p3_base::{Code, NoMemory, Pos, Refusal, Role, Side, as_number};
 use p3_tree::Task;
 use std::alloc::Global;
 
@@ -32,9 +32,7 @@ fn refusal_at(code: Code, role: Role, spot: Option<Spot>) -> Result<Option<Refus
     let Some(spot) = spot else {
         return Ok(None);
     };
-    let Ok(len) = u32::try_from(spot.len) else {
-        return Err(NoMemory);
-    };
+    let len = as_number(spot.len)?;
     Ok(Some(Refusal {
         code,
         pos: Pos {

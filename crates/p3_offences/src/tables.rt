@@ -1,6 +1,7 @@
 //! What a task declares, found by hashing.
 
-ghost use Rattle.std.specs.Prelude.{◌≡◌, IfOk, OnOk};
+ghost use Rattle.std.specs.Prelude.{◌≡◌, ◌+◌, ◌≤◌, ◌^◌, length, IfOk};
+ghost use Rattle.std.specs.Result.{MatchResult};
 ghost use Rattle.p3_tree.specs.Names.{has_name};
 ghost use Rattle.p3_tree.specs.Types.{declared_objects};
 ghost use Rattle.p3_tree.specs.Offences.{is_declared, declared_types, header_named};
@@ -10,7 +11,7 @@ ghost use Rattle.p3_offences.specs.Tables.{AreCounted, Has, IsNumbered, header_o
 use crate::declared_names::{preference_table, type_table};
 use crate::firsts::Firsts;
 use crate::fits::Fits;
-use p3_base::{Name, NoMemory};
+use p3_base::{Name, NoMemory, TooLarge};
 use p3_names::Names;
 use p3_tree::{Header, Task, Typed};
 use std::alloc::Global;
@@ -46,12 +47,13 @@ pub(crate) struct Tables<'t> {
 }
 
 /// The numbers of predicates and functions can be told.
-fn are_counted(task: &Task) -> Result<(), NoMemory>
-    ensures { OnOk result (AreCounted task.now) }
+fn are_counted(task: &Task) -> Result<(), TooLarge>
+    ensures { MatchResult result (λ _. AreCounted task.now)
+        (λ _. 2 ^ 64 ≤ length task.now.domain.predicates + length task.now.domain.functions) }
 {
     let predicates = task.domain.predicates.len();
     match predicates.checked_add(task.domain.functions.len()) {
-        None => Err(NoMemory),
+        None => Err(TooLarge),
         Some(_) => Ok(()),
     }
 }

@@ -4,7 +4,9 @@ ghost use Rattle.std.specs.Prelude.{◌≡◌, ◌<◌, ◌≤◌, drop, false, 
 ghost use Rattle.std.specs.Fmt.{digit_glyph};
 ghost use Rattle.std.specs.Str.{str_to_ascii_lowercase};
 ghost use Rattle.p3_base.specs.Place.{line_of, column_of};
+ghost use Rattle.p3_base.specs.declared.refusal.Side.TheVariants.{Written};
 ghost use Rattle.p3_tree.specs.Reports.Refusals.{shown_at_fault, shown_byte, shown_word};
+ghost use Rattle.p3_tree.specs.Sides.{byte_limit};
 
 use arrayvec::ArrayVec;
 use p3_base::{Code, Refusal, Role, line_column};
@@ -27,7 +29,7 @@ impl PlacedRefusal {
 
     /// Finds the place of a refusal in its text, and what is shown of the word at fault.
     pub fn of(refusal: &Refusal, text: &[u8]) -> PlacedRefusal
-        requires { length text.now ≤ 268435456 }
+        requires { length text.now ≤ byte_limit Written }
         ensures { result ≡ placed_in text.now refusal.now }
     {
         let (row, column) = place_of(text, refusal.pos.offset);
@@ -44,7 +46,7 @@ impl PlacedRefusal {
 /// Finds the line and column of an offset, or of the text's end where that comes first.
 #[tactic(auto, using(std::proofs::lemmas::List::take_all))]
 fn place_of(text: &[u8], offset: u32) -> (u32, u32)
-    requires { length text.now ≤ 268435456 }
+    requires { length text.now ≤ byte_limit Written }
     ensures line { result.0 ≡ line_of text.now offset }
     ensures column { result.1 ≡ column_of text.now offset }
 {

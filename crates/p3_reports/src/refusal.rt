@@ -2,11 +2,13 @@
 
 ghost use Rattle.std.specs.Prelude.{◌≤◌, OnErr, OnOk, length};
 ghost use Rattle.p3_base.specs.Outside.{IsPartlyPut, IsPut, Rose};
+ghost use Rattle.p3_base.specs.declared.refusal.Side.TheVariants.{Written};
 ghost use Rattle.p3_tree.specs.Reports.Refusals.{
   not_plain_line,
   numbers_differ_line,
   refusal_line,
 };
+ghost use Rattle.p3_tree.specs.Sides.{byte_limit};
 ghost use Rattle.p3_reports.specs.Rejections.{placed_line, rejection_line};
 
 use crate::fault::{Fault, put_lifted_fault};
@@ -51,7 +53,7 @@ pub fn put_rejection<S: Sink>(rejection: &Rejection, out: &mut S) -> Result<(), 
 
 /// Puts the line of a refusal of this text.
 pub fn put_refusal<S: Sink>(refusal: &Refusal, text: &[u8], out: &mut S) -> Result<(), SinkFailed>
-    requires { length text.now ≤ 268435456 }
+    requires { length text.now ≤ byte_limit Written }
     ensures ok { OnOk result (IsPut (refusal_line text.now refusal.now)
         (S.seen out.old).written (S.seen out.new).written) }
     ensures partly { OnErr result (IsPartlyPut (refusal_line text.now refusal.now)

@@ -8,6 +8,7 @@ use Rattle.std.proofs.lemmas.List.{append-nil, drop-append-le, drop_all, length-
 use Rattle.std.proofs.lemmas.List.Elements.{All-filter}
 use Rattle.std.proofs.lemmas.List.FromFn.{filter_of_map_range_with_len_more, get_or-range_with_len, length-range_with_len}
 use Rattle.std.proofs.lemmas.Nat.{div_below, div-add-mod', div-mul-add, mod_below, mod-mul-add}
+use Rattle.p3_tree.specs.Sides.{step_count_limit}
 use Rattle.p3_numbers.specs.Choices.{choice_count, choice}
 use Rattle.p3_numbers.specs.Slots.{Slots, range_at}
 use Rattle.p3_numbers.specs.declared.goal.Goal.{Goal}
@@ -239,7 +240,7 @@ module _ (N : Numbers) (ranges : List ℕ) where
       pub whole-behind : count * length items ≡ choice_count N (take (last + 1) ranges)
       whole-behind = (λ i. (counted ∙ sym count-between) i * length (here i)) ∙ sym (count-more N ranges last within)
 
-      pub few-behind : 0 < choice_count N ranges → choice_count N ranges ≤ 20000000 → count * length items ≤ 20000000
+      pub few-behind : 0 < choice_count N ranges → choice_count N ranges ≤ step_count_limit → count * length items ≤ step_count_limit
       few-behind some few = let less = count-within N ranges (last + 1) some in let whole = whole-behind in omega (arith, whole, less, few)
 
 -- ---- one object more

@@ -1,6 +1,7 @@
 //! The steps of all actions.
 
 ghost use Rattle.std.specs.Prelude.{◌≡◌, ◌+◌, ◌≤◌, IfOk, OnOk};
+ghost use Rattle.p3_tree.specs.Sides.{step_count_limit};
 ghost use Rattle.p3_numbers.specs.Choices.{choice_count as count_of};
 ghost use Rattle.p3_expansion.specs.Walks.{Pushes};
 ghost use Rattle.p3_steps.specs.Steps.{
@@ -30,7 +31,7 @@ fn push_action_steps(
     first: u32,
     made: &mut List<GroundStep>,
 ) -> Result<(), NoMemory>
-    requires few { first + count_of task.now.numbers action.now.ranges ≤ 20000000 }
+    requires few { first + count_of task.now.numbers action.now.ranges ≤ step_count_limit }
     requires values { costs.now.values.now ≡ task.now.values }
     ensures { OnOk result (Pushes (StepsAreMade task.now statics.now costs.now.places)
         (all_atoms task.now.numbers (action_steps task.now.numbers statics.now action.now first))
@@ -69,7 +70,7 @@ pub fn steps(
     costs: &Costs,
     work: &mut Work,
 ) -> Result<List<GroundStep>, NoMemory>
-    requires few { count_of_steps task.now.numbers task.now.actions ≤ 20000000 }
+    requires few { count_of_steps task.now.numbers task.now.actions ≤ step_count_limit }
     requires values { costs.now.values.now ≡ task.now.values }
     ensures { IfOk result
         (MakesSteps task.now statics.now costs.now.places work.old work.new) }

@@ -1,6 +1,7 @@
 //! The choices of an action's arguments that may begin.
 
 ghost use Rattle.std.specs.Prelude.{◌≡◌, ◌<◌, ◌≤◌, ◌*◌, ◌+◌, ◌++◌, [], ◌∷◌, All, drop, flat_map, length, take, IfOk, IfSome, OnOk};
+ghost use Rattle.p3_tree.specs.Sides.{step_count_limit};
 ghost use Rattle.p3_numbers.specs.Choices.{choice_count as count_of};
 ghost use Rattle.p3_steps.specs.Candidates.{
   Marks,
@@ -91,7 +92,7 @@ fn push_taken(
     first: usize,
     taken: &mut Vec<u32>,
 ) -> Result<(), NoMemory>
-    requires few { first + length objects.now ≤ 20000000 }
+    requires few { first + length objects.now ≤ step_count_limit }
     requires rules { IfSome marks (λ those. RulesUnmarked test.now.numbers.now
         test.now.statics.now test.now.goal.now slots.old.items those.now) }
     ensures { OnOk result (taken.new.items ≡ taken.old.items ++ all_taken
@@ -118,7 +119,7 @@ fn push_behind(
     first: usize,
     taken: &mut Vec<u32>,
 ) -> Result<(), NoMemory>
-    requires few { first + length objects.now ≤ 20000000 }
+    requires few { first + length objects.now ≤ step_count_limit }
     requires marks { length marks.old ≡ length test.now.numbers.now.objects }
     requires links { All (Tells test.now.numbers.now test.now.statics.now test.now.goal.now
         (length slots.old.items)) links.now }
@@ -165,7 +166,7 @@ fn widened(
     kept: &[u32],
 ) -> Result<Vec<u32>, NoMemory>
     requires count { count ≡ count_of test.now.numbers.now before.now }
-    requires few { count * length objects.now ≤ 20000000 }
+    requires few { count * length objects.now ≤ step_count_limit }
     requires within { All (λ number. number < count) kept.now }
     ensures { IfOk result (λ wider. wider.items ≡ flat_map (taken_behind test.now.numbers.now
         test.now.statics.now test.now.goal.now before.now objects.now) kept.now) }
@@ -231,7 +232,7 @@ pub(crate) fn candidates(
     ranges: &[u32],
     goal: &Goal,
 ) -> Result<Vec<u32>, NoMemory>
-    requires { count_of numbers.now ranges.now ≤ 20000000 }
+    requires { count_of numbers.now ranges.now ≤ step_count_limit }
     ensures { IfOk result (λ kept. kept.items
         ≡ candidates_of numbers.now statics.now ranges.now goal.now) }
 {

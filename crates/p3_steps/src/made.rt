@@ -1,6 +1,7 @@
 //! One step of a numbered task as a ground step.
 
 ghost use Rattle.std.specs.Prelude.{◌≡◌, ◌+◌, ◌≤◌, IfOk};
+ghost use Rattle.p3_tree.specs.Sides.{step_count_limit};
 ghost use Rattle.p3_numbers.specs.Choices.{choice as objects_of_choice};
 ghost use Rattle.p3_steps.specs.Steps.{MakesStep, planned_step};
 
@@ -24,7 +25,7 @@ pub(crate) fn step_at(
     choice: u32,
 ) -> Result<GroundStep, NoMemory>
     requires slots { slots.now ≡ objects_of_choice task.now.numbers action.now.ranges choice }
-    requires few { first + choice ≤ 20000000 }
+    requires few { first + choice ≤ step_count_limit }
     requires values { costs.now.values.now ≡ task.now.values }
     ensures { IfOk result (MakesStep task.now statics.now costs.now.places
         (planned_step action.now first choice) work.old work.new) }

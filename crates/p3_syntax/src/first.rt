@@ -2,7 +2,9 @@
 
 ghost use Rattle.std.specs.Prelude.{◌≡◌, ◌≢◌, ◌≤◌, length, IfOk, IfErr};
 ghost use Rattle.p3_base.specs.declared.refusal.Role.TheVariants.{Plan};
+ghost use Rattle.p3_base.specs.declared.refusal.Side.TheVariants.{Written};
 ghost use Rattle.p3_tree.specs.Refusals.First.{IsReadable};
+ghost use Rattle.p3_tree.specs.Sides.{byte_limit};
 ghost use Rattle.p3_places.specs.Found.{half_of, HasTree};
 ghost use Rattle.p3_outline.specs.Nodes.{root_of};
 ghost use Rattle.p3_outline.specs.Outlines.{IsOutline};
@@ -23,7 +25,7 @@ fn refusal_of(
     text: &[u8],
 ) -> Result<Option<Refusal>, NoMemory>
     requires of_a_task { role ≢ Plan }
-    requires short { length text.now ≤ 268435456 }
+    requires short { length text.now ≤ byte_limit Written }
     requires outline { IsOutline role text.now outline.now }
     ensures { IfOk result (Decides role text.now (root_of outline.now)) }
 {
@@ -43,7 +45,7 @@ pub(crate) fn readable<'a>(
     text: &'a [u8],
 ) -> Result<Outline<'a>, ReadFail>
     requires of_a_task { role ≢ Plan }
-    requires short { length text.now ≤ 268435456 }
+    requires short { length text.now ≤ byte_limit Written }
     ensures outline { IfOk result (λ outline. IsOutline role text.now outline) }
     ensures tree { IfOk result (λ outline. HasTree (half_of role) (root_of outline)) }
     ensures readable { IfOk result (λ _. IsReadable (half_text role text.now)) }

@@ -3,7 +3,6 @@ pub mod CostLemmas
 pub mod FindLemmas
 mod NameOrderLemmas
 mod NumberLemmas
-mod PlaceLemmas
 pub mod StepLemmas
 mod StepTableLemmas
 mod TableLemmas

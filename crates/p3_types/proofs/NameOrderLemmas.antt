@@ -25,7 +25,6 @@ use Rattle.p3_tree.specs.Names.{Name, same_name, has_name}
 use Rattle.p3_tree.specs.PreferenceNames.{ordered_names}
 use Rattle.p3_tree.specs.declared.task.Task.{Task}
 use Rattle.p3_numbers.specs.Slots.{name_at}
-use Rattle.p3_types.proofs.PlaceLemmas.{first_at, none_at}
 use Rattle.p3_types.specs.NameOrders.{compare, IsNameOrder, ArePlaced, IsBetween}
 
 abbrev pub Pair : Type 0
@@ -143,27 +142,6 @@ pub slice_within : {X : Type 0} (xs : List X) (i : ℕ) (x : X) → slice_get xs
 slice_within [] i x e = absurd (cc)
 slice_within (y ∷ xs) zero x e = omega arith
 slice_within (y ∷ xs) (suc i) x e = let rest = slice_within xs i x e in omega (arith, rest)
-
--- a name that stands once is found at its place
-pub found_position : (names : List Name) (word : Name) (found : Option ℕ) → AreOnce names → MatchOption found (has_name names word ≡ false) (λ place. slice_get names place ≡ Some word) → found ≡ position (λ other. same_name other word) names
-found_position names word None once none = sym (none_at (λ other. same_name other word) names [] (λ k within. apart_at names word k none within))
-found_position names word (Some place) once at =
-    let within = slice_within names place word at in
-    let is : get_or names place [] ≡ word = Some-injective _ _ (sym (slice_at names place [] within) ∙ at) in
-    sym (first_at (λ other. same_name other word) names place [] within
-    (λ k below. by k below (same_name (get_or names k []) word) refl within)
-    ((bytes_eq-Decides _ word).1 is))
-  where
-    by : (k : ℕ) → k < place → (t : Bool) → same_name (get_or names k []) word ≡ t → place < length names → t ≡ false
-    by k below true same within =
-        let here = slice_at names k [] (omega (arith, below, within)) ∙ ap Some ((bytes_eq-Decides (get_or names k []) word).0 same) in
-        let one = once k place word here at in
-        absurd (omega (arith, one, below))
-    by k below false apart within = refl
-
-pub ordered_once : (T : Task) → AreOnce (ordered_names T)
-unfolding ordered_names
-ordered_once T = each_once _
 
 pub map_same : {X : Type 0} (xs : List X) → map (λ x. x) xs ≡ xs
 map_same [] = refl

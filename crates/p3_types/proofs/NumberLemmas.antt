@@ -10,6 +10,7 @@ use Rattle.p3_tree.specs.Names.{Name}
 use Rattle.p3_tree.specs.Offences.{WellFormed}
 use Rattle.p3_tree.specs.declared.task.Action.{Action}
 use Rattle.p3_tree.specs.declared.task.Task.{Task}
+use Rattle.p3_tree.specs.Sides.{step_count_limit}
 use Rattle.p3_numbers.specs.Places.{ranges_of, are_known_types}
 use Rattle.p3_numbers.specs.Slots.{range_at}
 use Rattle.p3_numbers.specs.Tasks.{IsNumberedTask}
@@ -20,7 +21,7 @@ use Rattle.p3_types.proofs.NameOrderLemmas.{slice_at}
 use Rattle.p3_types.proofs.StepLemmas.{known_at}
 use Rattle.p3_types.proofs.StepTableLemmas.{known, first_is, numbered_here, count_between, step_between}
 use Rattle.p3_numbers.specs.Choices.{choice_count}
-use Rattle.p3_types.specs.FirstSteps.{counts_of, firsts_from}
+use Rattle.p3_types.specs.FirstSteps.{counts_of, firsts_from, too_many}
 use Rattle.p3_types.specs.Finds.{are_among, IsRange, IsChoice}
 
 some_action : (actions : List Action) (place : ℕ) → place < length actions → (action : Action) × (slice_get actions place ≡ Some action)
@@ -43,13 +44,13 @@ module _ (T : Task) (X : NumberedTask) (firsts : List ℕ) (well : WellFormed T)
       let found = some_action T.domain.actions place within in
       subst (λ ranges. All (λ range. IsRange X.numbers.objects (range_at X.numbers range)) ranges) (sym (ranges_at found.0 found.1)) (ranges_are T X.numbers is.names is.numbering found.0.params (known_here found.0 found.1))
 
-  pub sum_small : step_count T ≤ 20000000 → (number : ℕ) → number < choice_count X.numbers item.ranges → get_or firsts place 0 + number < 20000001
+  pub sum_small : step_count T ≤ step_count_limit → (number : ℕ) → number < choice_count X.numbers item.ranges → get_or firsts place 0 + number < too_many
   sum_small few number below =
       let next = first_is T X firsts well is table (place + 1) (omega (arith, within)) in
       let count = count_between T X firsts well is table few place item within there in
       omega (arith, next, count, below)
 
-  pub number_in : step_count T ≤ 20000000 → (args : List Name) (number : ℕ) → IsChoice X.numbers item.ranges args number → (action : Action) → slice_get T.domain.actions place ≡ Some action → slice_get (steps T) (get_or firsts place 0 + number) ≡ Some (record { action = action.name.name; args = args })
+  pub number_in : step_count T ≤ step_count_limit → (args : List Name) (number : ℕ) → IsChoice X.numbers item.ranges args number → (action : Action) → slice_get T.domain.actions place ≡ Some action → slice_get (steps T) (get_or firsts place 0 + number) ≡ Some (record { action = action.name.name; args = args })
   number_in few args number choice action at =
       let count = count_between T X firsts well is table few place item within there in
       step_between T X firsts well is table few place (get_or firsts place 0 + number) number action item within (here action at) there (omega arith) (omega (arith, count, choice.within)) (omega arith)

@@ -21,51 +21,51 @@ use Rattle.p3_numbers.specs.Slots.{range_at, object_names, tuples_of}
 use Rattle.p3_numbers.specs.declared.numbers.Numbers.{Numbers}
 use Rattle.p3_types.proofs.ChoiceLemmas.{positive, length-tuples, choice_at, count_more}
 use Rattle.p3_numbers.specs.Choices.{choice_count, choice}
-use Rattle.p3_types.specs.FirstSteps.{firsts_from}
+use Rattle.p3_types.specs.FirstSteps.{firsts_from, too_many}
 
 -- ---- capped counts
 
-min_product : (n m : ℕ) → min (min n 20000001 * m) 20000001 ≡ min (n * m) 20000001
+min_product : (n m : ℕ) → min (min n too_many * m) too_many ≡ min (n * m) too_many
 min_product n zero = omega arith
-min_product n (suc m) = by (nat_lt 20000001 n) refl
+min_product n (suc m) = by (nat_lt too_many n) refl
   where
-    many : 20000001 < n → min n 20000001 ≡ 20000001
+    many : too_many < n → min n too_many ≡ too_many
     many above = omega (arith, above)
 
-    few : n ≤ 20000001 → min n 20000001 ≡ n
+    few : n ≤ too_many → min n too_many ≡ n
     few below = omega (arith, below)
 
-    by : (t : Bool) → nat_lt 20000001 n ≡ t → min (min n 20000001 * suc m) 20000001 ≡ min (n * suc m) 20000001
-    by true e = let above = ltb-true 20000001 n e in let is = ap (λ k. k * suc m) (many above) in let first = mul-suc 20000001 m in let second = mul-suc n m in omega (arith, above, is, first, second)
-    by false e = ap (λ k. min (k * suc m) 20000001) (few (ltb-false 20000001 n e))
+    by : (t : Bool) → nat_lt too_many n ≡ t → min (min n too_many * suc m) too_many ≡ min (n * suc m) too_many
+    by true e = let above = ltb-true too_many n e in let is = ap (λ k. k * suc m) (many above) in let first = mul-suc too_many m in let second = mul-suc n m in omega (arith, above, is, first, second)
+    by false e = ap (λ k. min (k * suc m) too_many) (few (ltb-false too_many n e))
 
 -- the count of one range more
-pub capped_more : (N : Numbers) (ranges : List ℕ) (i count range : ℕ) → i < length ranges → range ≡ get_or ranges i 0 → count ≡ min (choice_count N (take i ranges)) 20000001 → min (count * length (range_at N range)) 20000001 ≡ min (choice_count N (take (i + 1) ranges)) 20000001
+pub capped_more : (N : Numbers) (ranges : List ℕ) (i count range : ℕ) → i < length ranges → range ≡ get_or ranges i 0 → count ≡ min (choice_count N (take i ranges)) too_many → min (count * length (range_at N range)) too_many ≡ min (choice_count N (take (i + 1) ranges)) too_many
 capped_more N ranges i count range within at is =
-    ap (λ k. min (k * length (range_at N range)) 20000001) is ∙ min_product (choice_count N (take i ranges)) (length (range_at N range))
-    ∙ ap (λ k. min k 20000001) (sym (ap (choice_count N) (take_more ranges i 0 within ∙ ap (λ r. take i ranges ++ r ∷ []) (sym at)) ∙ count_more N (take i ranges) range))
+    ap (λ k. min (k * length (range_at N range)) too_many) is ∙ min_product (choice_count N (take i ranges)) (length (range_at N range))
+    ∙ ap (λ k. min k too_many) (sym (ap (choice_count N) (take_more ranges i 0 within ∙ ap (λ r. take i ranges ++ r ∷ []) (sym at)) ∙ count_more N (take i ranges) range))
 
-pub capped_none : (N : Numbers) → 1 ≡ min (choice_count N []) 20000001
+pub capped_none : (N : Numbers) → 1 ≡ min (choice_count N []) too_many
 unfolding choice_count
 capped_none N = refl
 
-pub next_first : (counts : List ℕ) (first count : ℕ) → first ≡ min (sum counts) 20000001 → min (first + min count 20000001) 20000001 ≡ min (sum (counts ++ count ∷ [])) 20000001
+pub next_first : (counts : List ℕ) (first count : ℕ) → first ≡ min (sum counts) too_many → min (first + min count too_many) too_many ≡ min (sum (counts ++ count ∷ [])) too_many
 next_first counts first count is = omega (arith, is, sum_by_push (λ n. n) counts count)
 
-pub firsts_more : (passed : ℕ) (counts : List ℕ) (count : ℕ) → firsts_from passed (counts ++ count ∷ []) ≡ firsts_from passed counts ++ min (passed + sum (counts ++ count ∷ [])) 20000001 ∷ []
-firsts_more passed [] count = ap (λ k. min passed 20000001 ∷ min k 20000001 ∷ []) (omega (arith, sum_by-cons (λ n. n) count []))
-firsts_more passed (first ∷ counts) count = ap (λ rest. min passed 20000001 ∷ rest) (firsts_more (passed + first) counts count ∙ ap (λ k. firsts_from (passed + first) counts ++ min k 20000001 ∷ []) (omega (arith, sum_by-cons (λ n. n) first (counts ++ count ∷ []))))
+pub firsts_more : (passed : ℕ) (counts : List ℕ) (count : ℕ) → firsts_from passed (counts ++ count ∷ []) ≡ firsts_from passed counts ++ min (passed + sum (counts ++ count ∷ [])) too_many ∷ []
+firsts_more passed [] count = ap (λ k. min passed too_many ∷ min k too_many ∷ []) (omega (arith, sum_by-cons (λ n. n) count []))
+firsts_more passed (first ∷ counts) count = ap (λ rest. min passed too_many ∷ rest) (firsts_more (passed + first) counts count ∙ ap (λ k. firsts_from (passed + first) counts ++ min k too_many ∷ []) (omega (arith, sum_by-cons (λ n. n) first (counts ++ count ∷ []))))
 
-pub first_at : (passed : ℕ) (counts : List ℕ) (k : ℕ) → k ≤ length counts → get_or (firsts_from passed counts) k 0 ≡ min (passed + sum (take k counts)) 20000001
+pub first_at : (passed : ℕ) (counts : List ℕ) (k : ℕ) → k ≤ length counts → get_or (firsts_from passed counts) k 0 ≡ min (passed + sum (take k counts)) too_many
 first_at passed [] zero within = omega arith
 first_at passed [] (suc k) within = absurd (omega arith)
 first_at passed (count ∷ counts) zero within = omega arith
-first_at passed (count ∷ counts) (suc k) within = first_at (passed + count) counts k (omega arith) ∙ ap (λ n. min n 20000001) (omega (arith, sum_by-cons (λ n. n) count (take k counts)))
+first_at passed (count ∷ counts) (suc k) within = first_at (passed + count) counts k (omega arith) ∙ ap (λ n. min n too_many) (omega (arith, sum_by-cons (λ n. n) count (take k counts)))
 
 -- the first numbers with one action more
-pub firsts_next : (counts : List ℕ) (count first : ℕ) → first ≡ min (sum (counts ++ count ∷ [])) 20000001 → firsts_from 0 counts ++ first ∷ [] ≡ firsts_from 0 (counts ++ count ∷ [])
+pub firsts_next : (counts : List ℕ) (count first : ℕ) → first ≡ min (sum (counts ++ count ∷ [])) too_many → firsts_from 0 counts ++ first ∷ [] ≡ firsts_from 0 (counts ++ count ∷ [])
 firsts_next counts count first is =
-    let at : min (sum (counts ++ count ∷ [])) 20000001 ≡ min (0 + sum (counts ++ count ∷ [])) 20000001 = omega arith in
+    let at : min (sum (counts ++ count ∷ [])) too_many ≡ min (0 + sum (counts ++ count ∷ [])) too_many = omega arith in
     ap (λ n. firsts_from 0 counts ++ n ∷ []) (is ∙ at) ∙ sym (firsts_more 0 counts count)
 
 pub firsts_length : (passed : ℕ) (counts : List ℕ) → length (firsts_from passed counts) ≡ length counts + 1

@@ -10,6 +10,7 @@ use Rattle.p3_tree.specs.Limits.{step_count}
 use Rattle.p3_tree.specs.Offences.{WellFormed}
 use Rattle.p3_tree.specs.declared.task.Action.{Action}
 use Rattle.p3_tree.specs.declared.task.Task.{Task}
+use Rattle.p3_tree.specs.Sides.{step_count_limit}
 use Rattle.p3_numbers.proofs.KnownLaws.{task-known}
 use Rattle.p3_numbers.specs.Known.{is_known_action}
 use Rattle.p3_numbers.specs.Places.{ranges_of, are_known_types}
@@ -21,7 +22,7 @@ use Rattle.p3_numbers.specs.declared.task.NumberedTask.{NumberedTask}
 use Rattle.p3_types.proofs.NameOrderLemmas.{slice_at}
 use Rattle.p3_types.proofs.StepLemmas.{first_at, firsts_length, step_count_is, step_at, AreKnown, count_at}
 use Rattle.p3_numbers.specs.Choices.{choice_count, choice}
-use Rattle.p3_types.specs.FirstSteps.{counts_of, firsts_from}
+use Rattle.p3_types.specs.FirstSteps.{counts_of, firsts_from, too_many}
 
 params_known : (N : Numbers) (actions : List Action) → list_all (is_known_action N) actions ≡ true → list_all (λ (action : Action). are_known_types N action.params) actions ≡ true
 params_known N [] known = refl
@@ -58,21 +59,21 @@ module _ (T : Task) (X : NumberedTask) (firsts : List ℕ) (well : WellFormed T)
   pub table_length : length firsts ≡ length T.domain.actions + 1
   table_length = ap length table ∙ firsts_length 0 (counts_of X) ∙ ap (λ all. length all + 1) counts_same ∙ ap (λ n. n + 1) counts_length
 
-  pub first_is : (k : ℕ) → k ≤ length T.domain.actions → get_or firsts k 0 ≡ min (sum (take k counts)) 20000001
+  pub first_is : (k : ℕ) → k ≤ length T.domain.actions → get_or firsts k 0 ≡ min (sum (take k counts)) too_many
   first_is k within =
       let some : k ≤ length counts = omega (arith, within, counts_length) in
-      let zero_behind : min (0 + sum (take k counts)) 20000001 ≡ min (sum (take k counts)) 20000001 = omega arith in
+      let zero_behind : min (0 + sum (take k counts)) too_many ≡ min (sum (take k counts)) too_many = omega arith in
       ap (λ all. get_or all k 0) (table ∙ ap (firsts_from 0) counts_same) ∙ first_at 0 counts k some ∙ zero_behind
 
-  pub last_is : (k : ℕ) → k ≡ length firsts - 1 → get_or firsts k 0 ≡ min (step_count T) 20000001
+  pub last_is : (k : ℕ) → k ≡ length firsts - 1 → get_or firsts k 0 ≡ min (step_count T) too_many
   last_is k at =
       let here : k ≡ length counts = omega (arith, at, table_length, counts_length) in
-      first_is k (omega (arith, at, table_length)) ∙ ap (λ all. min (sum all) 20000001) (ap (λ n. take n counts) here ∙ take_all (length counts) counts (omega arith)) ∙ ap (λ n. min n 20000001) (sym steps_are)
+      first_is k (omega (arith, at, table_length)) ∙ ap (λ all. min (sum all) too_many) (ap (λ n. take n counts) here ∙ take_all (length counts) counts (omega arith)) ∙ ap (λ n. min n too_many) (sym steps_are)
 
   pub start_is : get_or firsts 0 0 ≡ 0
   start_is = first_is 0 (omega arith) ∙ omega arith
 
-  exact : step_count T ≤ 20000000 → (k : ℕ) → k ≤ length T.domain.actions → get_or firsts k 0 ≡ sum (take k counts)
+  exact : step_count T ≤ step_count_limit → (k : ℕ) → k ≤ length T.domain.actions → get_or firsts k 0 ≡ sum (take k counts)
   exact few k within = let part = sum_by-take-le (λ n. n) counts k in omega (arith, first_is k within, part, steps_are, few)
 
   pub numbered_here : (place : ℕ) (action : Action) (item : NumberedAction) → place < length T.domain.actions → action ≡ get_or T.domain.actions place action → item ≡ get_or X.actions place item → item.ranges ≡ ranges_of N action.params
@@ -80,7 +81,7 @@ module _ (T : Task) (X : NumberedTask) (firsts : List ℕ) (well : WellFormed T)
       ap (λ (other : NumberedAction). other.ranges) (there ∙ ap (λ (all : List NumberedAction). get_or all place item) is.actions ∙ get_or-map (numbered_action N) T.domain.actions place action item within ∙ ap (numbered_action N) (sym at))
 
   -- how many steps the action has
-  pub count_between : step_count T ≤ 20000000 → (place : ℕ) (item : NumberedAction) → place < length T.domain.actions → item ≡ get_or X.actions place item → get_or firsts (place + 1) 0 - get_or firsts place 0 ≡ choice_count N item.ranges
+  pub count_between : step_count T ≤ step_count_limit → (place : ℕ) (item : NumberedAction) → place < length T.domain.actions → item ≡ get_or X.actions place item → get_or firsts (place + 1) 0 - get_or firsts place 0 ≡ choice_count N item.ranges
   count_between few place item within there =
       let inside : place < length counts = omega (arith, within, counts_length) in
       let more = sum_by_more (λ n. n) counts place 0 inside in
@@ -93,7 +94,7 @@ module _ (T : Task) (X : NumberedTask) (firsts : List ℕ) (well : WellFormed T)
       in
       omega (arith, more, here, next, own)
 
-  pub first_below : step_count T ≤ 20000000 → (place : ℕ) → place < length T.domain.actions → get_or firsts place 0 ≤ get_or firsts (place + 1) 0
+  pub first_below : step_count T ≤ step_count_limit → (place : ℕ) → place < length T.domain.actions → get_or firsts place 0 ≤ get_or firsts (place + 1) 0
   first_below few place within =
       let more = sum_by_more (λ n. n) counts place 0 (omega (arith, within, counts_length)) in
       let here = exact few place (omega (arith, within)) in
@@ -101,7 +102,7 @@ module _ (T : Task) (X : NumberedTask) (firsts : List ℕ) (well : WellFormed T)
       omega (arith, more, here, next)
 
   -- the step of a number between the first steps of an action and the next
-  pub step_between : step_count T ≤ 20000000 → (place number rest : ℕ) (action : Action) (item : NumberedAction) → place < length T.domain.actions → action ≡ get_or T.domain.actions place action → item ≡ get_or X.actions place item
+  pub step_between : step_count T ≤ step_count_limit → (place number rest : ℕ) (action : Action) (item : NumberedAction) → place < length T.domain.actions → action ≡ get_or T.domain.actions place action → item ≡ get_or X.actions place item
       → get_or firsts place 0 ≤ number → number < get_or firsts (place + 1) 0 → rest ≡ number - get_or firsts place 0
       → slice_get (steps T) number ≡ Some (record { action = action.name.name; args = object_names N (choice N item.ranges rest) })
   step_between few place number rest action item within at there low high e =

@@ -11,6 +11,7 @@ use Rattle.p3_tree.specs.declared.task.Task.{Task}
 use Rattle.p3_numbers.specs.Slots.{name_at, object_names, range_at}
 use Rattle.p3_numbers.specs.declared.numbers.Numbers.{Numbers}
 use Rattle.p3_numbers.specs.Choices.{choice_count, choice}
+use Rattle.p3_types.specs.FirstSteps.{too_many}
 use Rattle.p3_types.specs.declared.finding.Found.{Found}
 use Rattle.p3_types.specs.declared.finding.Found.TheVariants.{Number, UnknownAction, Arguments}
 use Rattle.p3_types.specs.declared.finding.Block.{Block}
@@ -84,6 +85,6 @@ IsNumberAt T place args found = (action : Action) → slice_get T.domain.actions
 pub record IsBlockAt (T : Task) (N : Numbers) (place : ℕ) (block : Block) : Type 0 where
   pub ranges : All (λ range. IsRange N.objects (range_at N range)) block.ranges.now
   pub count : block.count ≡ choice_count N block.ranges.now
-  pub small : (number : ℕ) → number < block.count → block.first + number < 20000001
+  pub small : (number : ℕ) → number < block.count → block.first + number < too_many
   pub number : (args : List Name) (number : ℕ) → IsChoice N block.ranges.now args number → IsNumberAt T place args (Some (block.first + number))
   pub none : (args : List Name) → are_among N block.ranges.now args ≡ false → IsNumberAt T place args None

@@ -1,12 +1,13 @@
 -- The first step of each action, by number.
 use Rattle.std.specs.Prelude.{ℕ, ◌+◌, min, List, [], ◌∷◌, map}
+use Rattle.p3_tree.specs.Sides.{step_count_limit}
 use Rattle.p3_numbers.specs.Choices.{choice_count}
 use Rattle.p3_numbers.specs.declared.task.NumberedAction.{NumberedAction}
 use Rattle.p3_numbers.specs.declared.task.NumberedTask.{NumberedTask}
 
 -- so many steps are too many to be numbered
 abbrev pub too_many : ℕ
-too_many = 20000001
+too_many = step_count_limit + 1
 
 -- how many steps each action has
 abbrev pub counts_of : NumberedTask → List ℕ

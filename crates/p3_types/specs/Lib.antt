@@ -6,4 +6,3 @@ pub mod NameOrders
 pub mod Parts
 pub mod Tables
 pub mod Texts
-pub mod Words

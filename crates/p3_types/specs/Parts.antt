@@ -13,7 +13,6 @@ pub record ArePartsOf (T : Task) (parts : Parts) : Type 0 where
   pub numbered : IsNumberedTask T parts.numbered
   pub few : length parts.numbered.numbers.preferences < 2 ^ 32
   pub firsts : parts.first_steps.items ≡ firsts_from 0 (counts_of parts.numbered)
-  pub names : IsNameOrder parts.numbered.numbers.preferences parts.orders.names.items
   pub actions : IsNameOrder (action_names T) parts.orders.actions.items
   pub objects : IsNameOrder parts.numbered.numbers.objects parts.orders.objects.items
   pub places : parts.costs.places ≡ cost_places T

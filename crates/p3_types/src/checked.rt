@@ -1,11 +1,10 @@
 //! A task whose names are checked.
 
-ghost use Rattle.std.specs.Prelude.{◌≡◌, ◌<◌, ◌^◌, length, position, slice_get, IsTrue};
+ghost use Rattle.std.specs.Prelude.{◌≡◌, ◌<◌, ◌^◌, length, slice_get, IsTrue};
 ghost use Rattle.std.specs.Coded.{Coded-set};
 ghost use Rattle.std.specs.Option.{option_copied};
 ghost use Rattle.std.proofs.Props.{props};
 ghost use Rattle.p3_tree.specs.Costs.{cost_places as places_of_costs};
-ghost use Rattle.p3_tree.specs.Names.{same_name};
 ghost use Rattle.p3_tree.specs.Offences.{WellFormed};
 ghost use Rattle.p3_tree.specs.PreferenceNames.{ordered_names};
 ghost use Rattle.p3_numbers.specs.Known.{Covers};
@@ -22,7 +21,6 @@ ghost use Rattle.p3_types.specs.Tables.{
 };
 ghost use Rattle.p3_types.specs.Texts.{HasTexts, has_short_numbers};
 
-use crate::name_order::find_name;
 use crate::parts::{Costs, Orders, Parts};
 use p3_base::{Name, Side};
 use p3_numbers::NumberedTask;
@@ -36,8 +34,6 @@ pub struct Checked {
     pub(crate) numbered: NumberedTask,
     /// The number of each action's first step, and behind them how many steps there are.
     pub(crate) first_steps: Vec<u32>,
-    /// The numbers of the preference names by rising names.
-    names_in_order: Vec<u32>,
     /// The places of the actions by rising names.
     pub(crate) actions_in_order: Vec<u32>,
     /// The numbers of the objects by rising names.
@@ -56,8 +52,6 @@ pub struct Checked {
         ≡ task_over numbered.numbers task } by { Coded-set numbered-code _ _ },
     pub ghost few: { length numbered.numbers.preferences < 2 ^ 32 },
     pub ghost firsts: { first_steps.items ≡ firsts_from 0 (counts_of numbered) },
-    pub ghost name_order: { IsNameOrder
-        numbered.numbers.preferences names_in_order.items } by { Prim.hlevel props },
     pub ghost action_order: { IsNameOrder
         (action_names task) actions_in_order.items } by { Prim.hlevel props },
     pub ghost object_order: { IsNameOrder
@@ -83,18 +77,13 @@ impl Checked {
             orders,
             costs,
         } = parts;
-        let Orders {
-            names,
-            actions,
-            objects,
-        } = orders;
+        let Orders { actions, objects } = orders;
         let Costs { places, greatest } = costs;
         Checked {
             task,
             side,
             numbered,
             first_steps,
-            names_in_order: names,
             actions_in_order: actions,
             objects_in_order: objects,
             cost_places: places,
@@ -139,15 +128,6 @@ impl Checked {
         ensures { option_copied result ≡ slice_get (ordered_names self.now.task) number }
     {
         self.numbered.numbers.preferences.get(number as usize)
-    }
-
-    /// The number of a preference name.
-    pub fn name_number(&self, name: &Name) -> Option<u32>
-        ensures { result
-            ≡ position (λ other. same_name other name.now) (ordered_names self.now.task) }
-    {
-        let names = self.numbered.numbers.preferences.items();
-        find_name(names, self.names_in_order.as_slice(), name.bytes())
     }
 
     /// How many decimal places the task's costs have at most.

@@ -9,7 +9,7 @@ ghost use Rattle.p3_tree.specs.Names.{has_name};
 ghost use Rattle.p3_numbers.specs.Slots.{name_at};
 ghost use Rattle.p3_types.specs.NameOrders.{IsNameOrder, ArePlaced, compare};
 
-use p3_base::{Name, NoMemory};
+use p3_base::{Name, NoMemory, as_number};
 use p3_tree::Action;
 use std::alloc::Global;
 use std::cmp::Ordering;
@@ -57,9 +57,7 @@ fn named_places<T: Named>(alloc: Global, items: &[T]) -> Result<Vec<(&[u8], u32)
 {
     let mut pairs = Vec::new(alloc);
     for place in 0..items.len() {
-        let Ok(number) = u32::try_from(place) else {
-            return Err(NoMemory);
-        };
+        let number = as_number(place)?;
         pairs.push((items[place].name().bytes(), number))?;
     }
     Ok(pairs)

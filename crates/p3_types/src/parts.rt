@@ -11,7 +11,7 @@ ghost use Rattle.p3_types.specs.Tables.{greatest_values as values_of_functions};
 use crate::costs::{cost_places, greatest_values};
 use crate::name_order::name_order;
 use crate::steps::first_steps;
-use p3_base::{Name, NoMemory};
+use p3_base::{Name, NoMemory, as_number};
 use p3_numbering::numbered;
 use p3_numbers::{NumberedTask, Numbers};
 use p3_tree::{Action, Task};
@@ -20,8 +20,6 @@ use std::alloc::Global;
 /// Places by rising names.
 #[derive(Drop)]
 pub(crate) struct Orders {
-    /// The numbers of the preference names.
-    pub names: Vec<u32>,
     /// The places of the actions.
     pub actions: Vec<u32>,
     /// The numbers of the objects.
@@ -68,21 +66,14 @@ fn order_of_actions(alloc: Global, task: &Task) -> Result<Vec<u32>, NoMemory>
 
 /// The orders of the names of a task.
 fn orders_of(alloc: Global, task: &Task, numbers: &Numbers) -> Result<Orders, NoMemory>
-    ensures names { IfOk result
-        (λ orders. IsNameOrder numbers.now.preferences orders.names.items) }
     ensures actions { IfOk result
         (λ orders. IsNameOrder (action_names task.now) orders.actions.items) }
     ensures objects { IfOk result
         (λ orders. IsNameOrder numbers.now.objects orders.objects.items) }
 {
-    let names = order_of(alloc, numbers.preferences.items())?;
     let actions = order_of_actions(alloc, task)?;
     let objects = order_of(alloc, numbers.objects.items())?;
-    Ok(Orders {
-        names,
-        actions,
-        objects,
-    })
+    Ok(Orders { actions, objects })
 }
 
 /// What is kept of the costs of a task.
@@ -124,10 +115,7 @@ pub(crate) fn parts_of(alloc: Global, task: &Task) -> Result<Parts, NoMemory>
     ensures { IfOk result (ArePartsOf task.now) }
 {
     let numbered = numbered(alloc, task)?;
-    // No text within the limits has so many names.
-    if numbered.numbers.preferences.len() > u32::MAX as usize {
-        return Err(NoMemory);
-    }
+    let _count = as_number(numbered.numbers.preferences.len())?;
     let first_steps = first_steps(alloc, &numbered)?;
     let orders = orders_of(alloc, task, &numbered.numbers)?;
     let costs = costs_of(alloc, task, &numbered)?;

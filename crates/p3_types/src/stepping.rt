@@ -2,17 +2,20 @@
 
 ghost use Rattle.std.specs.Prelude.{◌≡◌, ◌+◌, ◌-◌, ◌<◌, ◌≤◌, [], ◌∷◌, min, length};
 ghost use Rattle.std.specs.Prelude.{slice_index_or, IfOk};
+ghost use Rattle.p3_base.specs.declared.refusal.Side.TheVariants.{Written};
+ghost use Rattle.p3_lexer.specs.StepWords.{words_left};
 ghost use Rattle.p3_tree.specs.Limits.{step_count as count_of_steps};
 ghost use Rattle.p3_tree.specs.PlanTexts.{IsPlanText};
+ghost use Rattle.p3_tree.specs.Sides.{byte_limit, step_count_limit};
 ghost use Rattle.p3_tree.specs.StepNumbers.{HasNumber};
 ghost use Rattle.p3_tree.specs.declared.task.Step.{Step as PlanStep};
 ghost use Rattle.p3_types.specs.Finds.{IsBlockAt, IsFound, IsNumberAt};
-ghost use Rattle.p3_types.specs.Words.{words_left};
+ghost use Rattle.p3_types.specs.FirstSteps.{too_many};
 
 use crate::finding::{Block, choice_number};
 use crate::name_order::find_name;
 use crate::steps::{arguments, copied, interval_of};
-use crate::words::{choice_of_words, next_word, pass};
+use crate::words::choice_of_words;
 use crate::{Checked, Found};
 use p3_base::{Name, NoMemory};
 use p3_lexer::Lexer;
@@ -27,14 +30,14 @@ impl Checked {
         ensures actions { length self.now.numbered.actions ≡ length self.now.task.domain.actions }
         ensures start { slice_index_or result.now 0 0 ≡ 0 }
         ensures last { slice_index_or result.now (length result.now - 1) 0
-            ≡ min (count_of_steps self.now.task) 20000001 }
+            ≡ min (count_of_steps self.now.task) too_many }
     {
         self.first_steps.as_slice()
     }
 
     /// How many steps there are, or 20,000,001 where there are more.
     pub fn step_count(&self) -> u32
-        ensures { result ≡ min (count_of_steps self.now.task) 20000001 }
+        ensures { result ≡ min (count_of_steps self.now.task) too_many }
     {
         let table = self.table();
         table[table.len() - 1]
@@ -42,7 +45,7 @@ impl Checked {
 
     /// The step of a number.
     pub fn step(&self, alloc: Global, number: u32) -> Result<Step, NoMemory>
-        requires few { count_of_steps self.now.task ≤ 20000000 }
+        requires few { count_of_steps self.now.task ≤ step_count_limit }
         requires within { number < count_of_steps self.now.task }
         ensures { IfOk result (λ step. HasNumber self.now.task step number) }
     {
@@ -64,7 +67,7 @@ impl Checked {
 
     /// The choices of arguments of the action at that place.
     fn block(&self, place: usize) -> Block<'_>
-        requires few { count_of_steps self.now.task ≤ 20000000 }
+        requires few { count_of_steps self.now.task ≤ step_count_limit }
         requires within { place < length self.now.task.domain.actions }
         ensures { IsBlockAt self.now.task self.now.numbered.numbers place result }
     {
@@ -82,7 +85,7 @@ impl Checked {
 
     /// The number of the step of the action at that place with these arguments.
     fn number_at(&self, place: usize, args: &[Name]) -> Option<u32>
-        requires few { count_of_steps self.now.task ≤ 20000000 }
+        requires few { count_of_steps self.now.task ≤ step_count_limit }
         requires within { place < length self.now.task.domain.actions }
         ensures { IsNumberAt self.now.task place args.now result }
     {
@@ -97,7 +100,7 @@ impl Checked {
 
     /// The number of the step of the action at that place with the words that come next.
     fn number_of_words(&self, place: usize, lexer: &mut Lexer<'_>) -> Option<u32>
-        requires few { count_of_steps self.now.task ≤ 20000000 }
+        requires few { count_of_steps self.now.task ≤ step_count_limit }
         requires within { place < length self.now.task.domain.actions }
         ensures { IsNumberAt self.now.task place (words_left lexer.old) result }
     {
@@ -112,7 +115,7 @@ impl Checked {
 
     /// As what a step is found: by its number, where it has one.
     pub fn find(&self, step: &Step) -> Found
-        requires few { count_of_steps self.now.task ≤ 20000000 }
+        requires few { count_of_steps self.now.task ≤ step_count_limit }
         ensures { IsFound self.now.task step.now result }
     {
         let actions = self.task.domain.actions.items();
@@ -129,14 +132,14 @@ impl Checked {
     /// As what the step of a text is found, from its `(` to its `)`: by its number, where it has
     /// one. It takes no memory.
     pub fn find_text(&self, text: &[u8]) -> Found
-        requires few { count_of_steps self.now.task ≤ 20000000 }
-        requires short { length text.now ≤ 268435456 }
+        requires few { count_of_steps self.now.task ≤ step_count_limit }
+        requires short { length text.now ≤ byte_limit Written }
         ensures { (step : PlanStep)
             → IsPlanText text.now (step ∷ []) → IsFound self.now.task step result }
     {
         let mut lexer = Lexer::new(text);
-        pass(&mut lexer);
-        let Some(word) = next_word(&mut lexer) else {
+        let _open = lexer.next();
+        let Some(word) = lexer.next_word() else {
             return Found::UnknownAction;
         };
         let actions = self.task.domain.actions.items();

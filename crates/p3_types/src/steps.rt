@@ -5,7 +5,7 @@ ghost use Rattle.std.specs.Prelude.{slice_index_or, IfOk};
 ghost use Rattle.std.specs.List.{All};
 ghost use Rattle.p3_numbers.specs.Slots.{range_at, name_at, object_names};
 ghost use Rattle.p3_numbers.specs.Choices.{choice_count, choice};
-ghost use Rattle.p3_types.specs.FirstSteps.{counts_of, firsts_from};
+ghost use Rattle.p3_types.specs.FirstSteps.{too_many, counts_of, firsts_from};
 
 use p3_base::{List, Name, NoMemory};
 use p3_numbers::{NumberedTask, Numbers};
@@ -26,7 +26,7 @@ pub(crate) fn objects_of(numbers: &Numbers, range: u32) -> &[u32]
 
 /// The product, as far as it is not too many.
 fn capped_product(count: u32, factor: usize) -> u32
-    ensures { result ≡ min (count * factor) 20000001 }
+    ensures { result ≡ min (count * factor) too_many }
 {
     match u64::from(count).checked_mul(factor as u64) {
         Some(product) => product.min(u64::from(TOO_MANY)) as u32,
@@ -36,16 +36,16 @@ fn capped_product(count: u32, factor: usize) -> u32
 
 /// The sum, as far as it is not too many.
 fn capped_sum(first: u32, count: u32) -> u32
-    requires first { first ≤ 20000001 }
-    requires count { count ≤ 20000001 }
-    ensures { result ≡ min (first + count) 20000001 }
+    requires first { first ≤ too_many }
+    requires count { count ≤ too_many }
+    ensures { result ≡ min (first + count) too_many }
 {
     (first + count).min(TOO_MANY)
 }
 
 /// How many choices of one object of each range there are, as far as they are not too many.
 fn capped_count(numbers: &Numbers, ranges: &[u32]) -> u32
-    ensures { result ≡ min (choice_count numbers.now ranges.now) 20000001 }
+    ensures { result ≡ min (choice_count numbers.now ranges.now) too_many }
 {
     let mut count = 1u32;
     for range in ranges {

@@ -1,41 +1,17 @@
-//! The words of a step's text, and choices of objects by them.
+//! Choices of objects by the words of a step's text.
 
-ghost use Rattle.std.specs.Prelude.{◌≡◌, ◌∷◌, List};
+ghost use Rattle.std.specs.Prelude.{◌≡◌};
 ghost use Rattle.std.specs.List.{All};
-ghost use Rattle.p3_lexer.specs.Lexing.{left};
-ghost use Rattle.p3_tree.specs.Tokens.{Token};
+ghost use Rattle.p3_lexer.specs.StepWords.{words_left};
 ghost use Rattle.p3_numbers.specs.Slots.{range_at};
 ghost use Rattle.p3_numbers.specs.Choices.{choice_count};
 ghost use Rattle.p3_types.specs.Finds.{AreDistinct, IsRange, IsChoiceOf};
 ghost use Rattle.p3_types.specs.NameOrders.{IsNameOrder};
-ghost use Rattle.p3_types.specs.Words.{words_left, IsNextWord};
 
 use crate::finding::{Stretch, narrowed};
 use crate::steps::objects_of;
-use p3_lexer::{Lexer, Next};
+use p3_lexer::Lexer;
 use p3_numbers::Numbers;
-
-/// Passes one token.
-pub(crate) fn pass(lexer: &mut Lexer<'_>)
-    ensures { (token : Token) (later : List Token)
-        → (left lexer.old).tokens ≡ token ∷ later → (left lexer.new).tokens ≡ later }
-{
-    let _passed = lexer.next();
-}
-
-/// The next word, or nothing where none comes next.
-pub(crate) fn next_word<'t>(lexer: &mut Lexer<'t>) -> Option<&'t [u8]>
-    ensures { IsNextWord lexer.old result lexer.new }
-{
-    let Next::Token { text, .. } = lexer.next() else {
-        return None;
-    };
-    if text == b"(".as_slice() || text == b")".as_slice() {
-        None
-    } else {
-        Some(text)
-    }
-}
 
 /// The number of the choice of the objects with the names that come next, among so many.
 pub(crate) fn choice_of_words(
@@ -62,7 +38,7 @@ pub(crate) fn choice_of_words(
     };
     for place in 0..ranges.len() {
         let objects = objects_of(numbers, ranges[place]);
-        let Some(word) = next_word(lexer) else {
+        let Some(word) = lexer.next_word() else {
             return None;
         };
         match narrowed(numbers.objects.items(), order, objects, word, stretch) {
@@ -70,7 +46,7 @@ pub(crate) fn choice_of_words(
             None => return None,
         }
     }
-    match next_word(lexer) {
+    match lexer.next_word() {
         Some(_) => None,
         None => Some(stretch.first as u32),
     }

@@ -9,15 +9,15 @@ use Rattle.p3_base.proofs.place.line_column.Goals as goal
 length-after_last : (p : ℕ → Bool) (xs : List ℕ) → length (after_last p xs) ≡ suffix_len (λ x. not (p x)) xs
 length-after_last p xs = omega (arith, length-drop {A = ℕ}, suffix_len-le-length (λ x. not (p x)) xs)
 
--- a line is no longer than the text
-short : (p : ℕ → Bool) (xs : List ℕ) (i n : ℕ) → length xs ≤ n → suffix_len p (take i xs) ≤ n
-short p xs i n fits = omega (arith, suffix_len-le-length p (take i xs), length-take i xs)
+-- a line is no longer than what was read
+short : (p : ℕ → Bool) (xs : List ℕ) (i : ℕ) → suffix_len p (take i xs) ≤ i
+short p xs i = omega (arith, suffix_len-le-length p (take i xs), length-take i xs)
 
 pub overflow_add-column : goal.overflow_add-column
 overflow_add-column c =
     let all = take c.args.offset c.args.text.now in
-    let fits : length all ≤ 268435456 = omega (arith, length-take c.args.offset c.args.text.now) in
-    omega (arith, short (λ x. not (is_line_feed x)) all c.loop-byte.byte-index 268435456 fits)
+    let fits : length all ≤ length c.args.text.now = omega (arith, length-take c.args.offset c.args.text.now) in
+    omega (arith, fits, c.loop-byte-test.true, short (λ x. not (is_line_feed x)) all c.loop-byte.byte-index)
 
 pub returns-clause-column : goal.returns-clause-column
 returns-clause-column c =

@@ -6,9 +6,8 @@ pub returns : goal.returns
 returns c =
     subst (ArePartsOf c.args.task.now) (sym c.joined.ensures) (record {
       numbered = c.in_ok-numbered.ensures.numbered;
-      few = omega (arith, c.len.ensures, c.if-len.false);
+      few = omega (arith, c.len.ensures, c.in_ok-_count.ensures);
       firsts = c.in_ok-first_steps.ensures;
-      names = c.in_ok-orders.ensures.names;
       actions = c.in_ok-orders.ensures.actions;
       objects = c.in_ok-orders.ensures.objects;
       places = c.in_ok-costs.ensures.places;

@@ -3,7 +3,7 @@ use Rattle.std.specs.Str.{str_to_ascii_lowercase}
 use Rattle.p3_tree.specs.Names.{Name, has_name}
 use Rattle.p3_numbers.specs.Slots.{name_at}
 use Rattle.p3_types.specs.Finds.{IsRange, IsNarrowed}
-use Rattle.p3_types.specs.Words.{words_left}
+use Rattle.p3_lexer.specs.StepWords.{words_left}
 use Rattle.p3_types.proofs.FindLemmas.{none_among, too_few, stretch_none, stretch_more, stretch_end}
 use Rattle.p3_types.proofs.WordLemmas.{none_left, one_left}
 use Rattle.p3_types.proofs.words.choice_of_words.Goals as goal
@@ -14,7 +14,7 @@ returns-then-count-eq0 c = none_among c.args.numbers.now c.args.ranges.now (word
 pub returns-in_default : goal.returns-in_default
 returns-in_default c =
     let words = words_left c.args.lexer.now in
-    let few = none_left c.loop-place.place words (sym c.loop-place.invariant.words ∙ c.in_default.ensures) in
+    let few = none_left c.loop-place.place words (sym c.loop-place.invariant.words ∙ c.in_default.ensures.word) in
     too_few c.args.numbers.now c.args.ranges.now words (λ same. omega (arith, same, few, c.loop-place-test.true))
 
 pub narrowed-requires-clause-range : goal.narrowed-requires-clause-range
@@ -28,7 +28,7 @@ returns-in-None c =
     let words = words_left c.args.lexer.now in
     let objects = c.objects_of-objects.result.now in
     let word = str_to_ascii_lowercase c.in-Some.word.now in
-    let here = one_left c.loop-place.place words word (words_left c.next_word.new.lexer) (sym c.loop-place.invariant.words ∙ c.in-Some.ensures) in
+    let here = one_left c.loop-place.place words word (words_left c.next_word.new.self) (sym c.loop-place.invariant.words ∙ c.in-Some.ensures.word) in
     let none : has_name (map (name_at N.objects) objects) word ≡ false = ap (λ names. has_name (map (name_at names) objects) word) (sym c.items.ensures) ∙ c.in-None.ensures in
     stretch_none N c.args.ranges.now words c.loop-place.place c.loop-place.stretch c.loop-place.stretch objects word c.loop-place-test.true here.within c.objects_of-objects.ensures here.is c.loop-place.invariant.stretch none
 
@@ -40,7 +40,7 @@ loop-place-preserved c =
     let stretch = c.loop-place.stretch in
     let inner = c.in-Some-narrowed.inner in
     let word = str_to_ascii_lowercase c.in-Some.word.now in
-    let here = one_left c.loop-place.place words word (words_left c.next_word.new.lexer) (sym c.loop-place.invariant.words ∙ c.in-Some.ensures) in
+    let here = one_left c.loop-place.place words word (words_left c.next_word.new.self) (sym c.loop-place.invariant.words ∙ c.in-Some.ensures.word) in
     let narrow : IsNarrowed N.objects objects stretch word inner = subst (λ (names : List Name). IsNarrowed names objects stretch word inner) c.items.ensures c.in-Some-narrowed.ensures in
     record {
       stretch = stretch_more N c.args.ranges.now words c.loop-place.place stretch inner objects word c.loop-place-test.true here.within c.objects_of-objects.ensures here.is c.loop-place.invariant.stretch narrow;
@@ -51,11 +51,11 @@ loop-place-preserved c =
 pub returns-in-Some-next_word : goal.returns-in-Some-next_word
 returns-in-Some-next_word c =
     let words = words_left c.args.lexer.now in
-    let here = one_left c.loop-place.place words (str_to_ascii_lowercase c.in-Some-next_word.field-0.now) (words_left c.next_word-2.new.lexer) (sym c.loop-place.invariant.words ∙ c.in-Some-next_word.ensures) in
+    let here = one_left c.loop-place.place words (str_to_ascii_lowercase c.in-Some-next_word.field-0.now) (words_left c.next_word-2.new.self) (sym c.loop-place.invariant.words ∙ c.in-Some-next_word.ensures.word) in
     too_few c.args.numbers.now c.args.ranges.now words (λ same. omega (arith, same, here.within, c.loop-place-test.false))
 
 pub returns-in-None-next_word : goal.returns-in-None-next_word
 returns-in-None-next_word c =
     let words = words_left c.args.lexer.now in
-    let few = none_left c.loop-place.place words (sym c.loop-place.invariant.words ∙ c.in-None-next_word.ensures) in
+    let few = none_left c.loop-place.place words (sym c.loop-place.invariant.words ∙ c.in-None-next_word.ensures.word) in
     stretch_end c.args.numbers.now c.args.ranges.now words c.loop-place.place c.loop-place.stretch (omega (arith, c.loop-place-test.false)) (omega (arith, few, c.loop-place.invariant.taken, c.loop-place-test.false)) c.loop-place.invariant.stretch

@@ -14,7 +14,6 @@ invariant_of-result c = record {
   trees = trees_from c.args.task c.args.parts.numbered c.requires.parts.numbered;
   few = c.requires.parts.few;
   firsts = c.requires.parts.firsts;
-  name_order = c.requires.parts.names;
   action_order = c.requires.parts.actions;
   object_order = c.requires.parts.objects;
   places = c.requires.parts.places;
