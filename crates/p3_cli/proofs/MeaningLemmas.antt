@@ -7,15 +7,12 @@ use Rattle.p3_base.specs.Outside.{FilesSeen, SinkSeen, Store, with_put}
 use Rattle.p3_base.specs.Words.{are_different}
 use Rattle.p3_tree.specs.Commands.{Command, Output, Word, command_by, command_of, command_with, has_file_words, if_spelled, inputs, is_file_word, is_spelled, kind_of, names_of, numbered, row}
 use Rattle.p3_tree.specs.declared.command.CommandKind.{CommandKind}
-use Rattle.p3_reports.specs.Reports.{report_text}
-use Rattle.p3_reports.specs.declared.report.Report.{Report}
-use Rattle.p3_cli.specs.Ending.{status_of}
+use Rattle.p3_cli.specs.Ending as ending
+use Rattle.p3_cli.specs.Ending.{Ending, status_of}
 use Rattle.p3_cli.specs.Meaning.{AllHold, Keeps, KeepsInRun, IsDone, IsFaithfulRun, IsLaidOutRun, OfAsked, output_names}
 use Rattle.p3_cli.specs.Product.{LaysOut, Means, Produces, texts_in}
 use Rattle.p3_cli.specs.Run.{Leaves, Tells, Answers, IsProduct}
 use Rattle.p3_cli.specs.Store.{holding_all}
-use Rattle.p3_cli.specs.declared.ending.Ending.{Ending}
-use Rattle.p3_cli.specs.declared.ending.Ending.TheVariants as ending
 use Rattle.p3_cli.proofs.HeldLemmas.{all_held, all_written}
 use Rattle.p3_cli.proofs.RunLemmas.{kept_status}
 
@@ -60,7 +57,7 @@ other_end before after status how tells zero six ended =
 
 -- the report of a done run, and what it leaves
 done_report : (command : Command) (old new : Option Store) (before after : SinkSeen) (status : ℕ) (how : Ending) → Leaves command old new how → Tells before after status how → IsDone status
-    → (report : Report) × (Leaves command old new (ending.Done report) × Tells before after status (ending.Done report))
+    → (report : List ℕ) × (Leaves command old new (ending.Done report) × Tells before after status (ending.Done report))
 done_report command old new before after status (ending.Done report) leaves tells ended = (report, (leaves, tells))
 done_report command old new before after status (ending.Refused rejection) leaves tells ended = other_end before after status (ending.Refused rejection) tells (λ e. cc) (λ e. cc) ended
 done_report command old new before after status (ending.Invalid fault) leaves tells ended = other_end before after status (ending.Invalid fault) tells (λ e. cc) (λ e. cc) ended
@@ -71,7 +68,7 @@ done_report command old new before after status ending.OutOfMemory leaves tells 
 done_report command old new before after status ending.Usage leaves tells ended = other_end before after status ending.Usage tells (λ e. cc) (λ e. cc) ended
 
 -- the report was put where the status is 0
-put_report : (before after : SinkSeen) (status : ℕ) (report : Report) → Tells before after status (ending.Done report) → status ≡ 0 → after.written ≡ with_put (report_text report) before.written
+put_report : (before after : SinkSeen) (status : ℕ) (report : List ℕ) → Tells before after status (ending.Done report) → status ≡ 0 → after.written ≡ with_put report before.written
 put_report before after status report tells done = elim tells [ inl told ↦ told.1 | inr unput ↦ absurd (let six : status ≡ 6 = unput.0 in cc) ]
 
 -- ---- what is kept
@@ -82,19 +79,19 @@ none_left (written ∷ writings) store is = none_left writings (insert store wri
 
 -- what is made means this
 module _ (Says : Command → List (List ℕ) → List (List ℕ) → List ℕ → Type 0) (more : (command : Command) (texts written : List (List ℕ)) (report : List ℕ) → Produces command texts written report → Says command texts written report) where
-  module _ (command : Command) (named : has_file_words command ≡ true) (store : Store) (before after : SinkSeen) (status : ℕ) (report : Report) (tells : Tells before after status (ending.Done report)) where
+  module _ (command : Command) (named : has_file_words command ≡ true) (store : Store) (before after : SinkSeen) (status : ℕ) (report : List ℕ) (tells : Tells before after status (ending.Done report)) where
     abbrev IsKept : Store → Type 0
     IsKept last = Keeps (Says command) command store last before.written after.written status
 
-    is_kept : (writings : List (Output × List ℕ)) → IsProduct (Some store) command writings (report_text report) → (last : Store) → Some last ≡ holding_all writings (Some store) → IsKept last
+    is_kept : (writings : List (Output × List ℕ)) → IsProduct (Some store) command writings report → (last : Store) → Some last ≡ holding_all writings (Some store) → IsKept last
     is_kept writings product last is = record {
       texts = product.made.0;
       written = texts_in writings;
-      report = report_text report;
+      report = report;
       read = all_held store (inputs command) product.made.0 product.made.1;
       holds = subst (λ outs. AllHold last (map (λ (output : Output). output.name) outs) (texts_in writings)) product.outputs
           (all_written writings store last (subst (λ outs. are_different (map (λ (output : Output). output.name) outs) ≡ true) (sym product.outputs) (outputs_differ command named)) is);
-      says = more command product.made.0 (texts_in writings) (report_text report) product.made.2;
+      says = more command product.made.0 (texts_in writings) report product.made.2;
       reported = put_report before after status report tells;
     }
 

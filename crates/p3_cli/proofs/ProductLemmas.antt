@@ -14,6 +14,7 @@ use Rattle.p3_tree.proofs.RefusalLaws.{nothing_is_refused}
 use Rattle.p3_plans.specs.Laws.{HasPlan}
 use Rattle.p3_plans.proofs.PlanLaws.{a_plan_where_no_offence}
 use Rattle.p3_cli.specs.Embedding.{IsEmbedding}
+use Rattle.p3_cli.specs.Ending.{Ending}
 use Rattle.p3_cli.specs.Evaluation.{AreOfPlan, IsEvaluation, IsFaultOf, IsRejectedPlan, IsReportOf, OfText, RejectsPlan, given_plan}
 use Rattle.p3_lift.specs.Lifting.{IsLiftFail}
 use Rattle.p3_lift.specs.declared.answers.LiftFail.{LiftFail}
@@ -24,7 +25,7 @@ use Rattle.p3_cli.specs.Sampling.{IsSampling}
 use Rattle.p3_cli.specs.Store.{AreWithin, nameless}
 use Rattle.p3_cli.specs.Translation.{HasLayout, IsTranslation}
 use Rattle.p3_cli.specs.WrittenText.{HasPlanLayout}
-use Rattle.p3_cli.specs.declared.ending.Ending.{Ending}
+use Rattle.p3_cli.specs.declared.ending.Ending as code
 use Rattle.p3_cli.proofs.RejectionLemmas.{lift_accepted, plan_accepted}
 use Rattle.p3_cli.proofs.SpelledLemmas.{says_more}
 
@@ -45,7 +46,7 @@ within_kind kind command texts is all within = subst (λ one. AreWithin (nameles
 -- ---- of a task that is read alone
 
 module _ (n : ℕ) (read : List (List ℕ)) (texts : AllTexts) (is : read ≡ texts.domain ∷ texts.problem ∷ []) where
-  pub compile_rejects : texts ≡ only_task texts.domain texts.problem → (how : Ending) → IsRefusedTask texts how → IsRejectedBy (RejectsBy Compile n read) how
+  pub compile_rejects : texts ≡ only_task texts.domain texts.problem → (how : code.Ending) → IsRefusedTask texts how → IsRejectedBy (RejectsBy Compile n read) how
   compile_rejects only how told =
       subst (λ found. IsRejectedBy (RejectsBy Compile n found) how) (sym is)
       (says_more (IsRefusal (given_task Source texts.domain texts.problem) texts) (IsRefusal (given_task Source texts.domain texts.problem) (only_task texts.domain texts.problem))
@@ -61,12 +62,12 @@ module _ (n : ℕ) (read : List (List ℕ)) (texts : AllTexts) (is : read ≡ te
 -- ---- of a task with a plan
 
 -- what is so of the texts of a task and of a plan alone
-with_plan_rejects : (texts : AllTexts) → texts ≡ with_plan texts.domain texts.problem texts.plan → (how : Ending) → IsRejectedPlan texts how → IsRejectedBy (RejectsPlan (with_plan texts.domain texts.problem texts.plan)) how
+with_plan_rejects : (texts : AllTexts) → texts ≡ with_plan texts.domain texts.problem texts.plan → (how : code.Ending) → IsRejectedPlan texts how → IsRejectedBy (RejectsPlan (with_plan texts.domain texts.problem texts.plan)) how
 with_plan_rejects texts only = says_more (RejectsPlan texts) (RejectsPlan (with_plan texts.domain texts.problem texts.plan)) (λ how said. subst (λ all. RejectsPlan all how) only said)
 
 module _ (read : List (List ℕ)) (texts : AllTexts) (is : read ≡ texts.domain ∷ texts.problem ∷ texts.plan ∷ []) where
   module _ (n : ℕ) where
-    pub evaluate_rejects : texts ≡ with_plan texts.domain texts.problem texts.plan → (how : Ending) → IsRejectedPlan texts how → IsRejectedBy (RejectsBy Evaluate n read) how
+    pub evaluate_rejects : texts ≡ with_plan texts.domain texts.problem texts.plan → (how : code.Ending) → IsRejectedPlan texts how → IsRejectedBy (RejectsBy Evaluate n read) how
     evaluate_rejects only how told = subst (λ found. IsRejectedBy (RejectsBy Evaluate n found) how) (sym is) (with_plan_rejects texts only how told)
 
     module _ (report : List ℕ) (means : IsEvaluation texts.domain texts.problem texts.plan report) where
@@ -77,7 +78,7 @@ module _ (read : List (List ℕ)) (texts : AllTexts) (is : read ≡ texts.domain
       evaluate_accepts = subst (AcceptsBy Evaluate n) (sym is) (plan_accepted texts.domain texts.problem texts.plan means.task means.plan means.texts means.valid)
 
   module _ (n : ℕ) where
-    pub embed_rejects : texts ≡ with_plan texts.domain texts.problem texts.plan → (how : Ending) → IsRejectedPlan texts how → IsRejectedBy (RejectsBy Embed n read) how
+    pub embed_rejects : texts ≡ with_plan texts.domain texts.problem texts.plan → (how : code.Ending) → IsRejectedPlan texts how → IsRejectedBy (RejectsBy Embed n read) how
     embed_rejects only how told = subst (λ found. IsRejectedBy (RejectsBy Embed n found) how) (sym is) (with_plan_rejects texts only how told)
 
     module _ (first second third report : List ℕ) (means : IsEmbedding texts.domain texts.problem texts.plan first second third report) where
@@ -93,7 +94,7 @@ module _ (n : ℕ) (read : List (List ℕ)) (texts : AllTexts) (is : read ≡ te
   abbrev the_texts : AllTexts
   the_texts = for_lift texts.domain texts.problem texts.written_domain texts.written_problem texts.plan
 
-  pub lift_rejects : (how : Ending) → IsRejectedBy (RejectsLift texts) how → IsRejectedBy (RejectsBy Lift n read) how
+  pub lift_rejects : (how : code.Ending) → IsRejectedBy (RejectsLift texts) how → IsRejectedBy (RejectsBy Lift n read) how
   lift_rejects how told = subst (λ found. IsRejectedBy (RejectsBy Lift n found) how) (sym is) (says_more (RejectsLift texts) (RejectsLift the_texts) (λ end said. said) how told)
 
   module _ (text report : List ℕ) (means : IsLifting texts.domain texts.problem texts.written_domain texts.written_problem texts.plan text report) where
@@ -110,7 +111,7 @@ pub nothing_read : (read : List (List ℕ)) → AreWithin [] read → [] ≡ rea
 nothing_read [] within = refl
 nothing_read (text ∷ read) within = absurd within
 
-pub sample_rejects : (n : ℕ) (d p q : List ℕ) (texts : AllTexts) → texts ≡ with_plan d p q → d ≡ sample_domain → p ≡ sample_problem n → q ≡ sample_plan n → (how : Ending) → IsRejectedPlan texts how
+pub sample_rejects : (n : ℕ) (d p q : List ℕ) (texts : AllTexts) → texts ≡ with_plan d p q → d ≡ sample_domain → p ≡ sample_problem n → q ≡ sample_plan n → (how : code.Ending) → IsRejectedPlan texts how
     → IsRejectedPlan (with_plan sample_domain (sample_problem n) (sample_plan n)) how
 sample_rejects n d p q texts only domain problem plan how = subst (λ all. IsRejectedPlan all how) (only ∙ (λ i. with_plan (domain i) (problem i) (plan i)))
 
@@ -153,11 +154,11 @@ module _ (texts : AllTexts) (task : Task) (accepted : AreAcceptedFor Source text
     says = (of the_plan.plan the_plan.spelled).says;
   })
 
-  pub rejected_plan : (how : Ending) → IsRejectedBy (λ end. OfText texts.plan (IsFaultOf task end)) how → IsRejectedPlan texts how
+  pub rejected_plan : (how : code.Ending) → IsRejectedBy (λ end. OfText texts.plan (IsFaultOf task end)) how → IsRejectedPlan texts how
   rejected_plan = says_more (λ end. OfText texts.plan (IsFaultOf task end)) (RejectsPlan texts) invalid_plan
 
 -- a plan that is read and is not valid
-pub faulty_plan : (texts : AllTexts) (task : Task) → AreAcceptedFor Source texts task → (plan : Plan) → IsPlanText texts.plan plan → length plan ≤ step_limit → (how : Ending) → IsRejectedBy (λ end. IsFaultOf task end plan) how → IsRejectedPlan texts how
+pub faulty_plan : (texts : AllTexts) (task : Task) → AreAcceptedFor Source texts task → (plan : Plan) → IsPlanText texts.plan plan → length plan ≤ step_limit → (how : code.Ending) → IsRejectedBy (λ end. IsFaultOf task end plan) how → IsRejectedPlan texts how
 faulty_plan texts task accepted plan spelled few =
     says_more (λ end. IsFaultOf task end plan) (RejectsPlan texts) (λ how wrong. inr (record {
       task = task;
@@ -170,7 +171,7 @@ faulty_plan texts task accepted plan spelled few =
 
 -- a plan that is read and is not lifted
 pub unlifted_plan : (texts : AllTexts) (T U : Task) (plan : Plan) → AreAcceptedFor Source texts T → AreAcceptedFor Written texts U → IsPlanText texts.plan plan → length plan ≤ step_limit
-    → (why : LiftFail) → IsLiftFail T U plan why → (how : Ending) → IsRejectedBy (TellsFail why) how → IsRejectedBy (RejectsLift texts) how
+    → (why : LiftFail) → IsLiftFail T U plan why → (how : code.Ending) → IsRejectedBy (TellsFail why) how → IsRejectedBy (RejectsLift texts) how
 unlifted_plan texts T U plan source written spelled few why shows =
     says_more (TellsFail why) (RejectsLift texts) (λ how told. inr (record {
       task = T;
@@ -180,5 +181,5 @@ unlifted_plan texts T U plan source written spelled few why shows =
       unlifted = record { why = why; shows = shows; says = told };
     }))
 
-pub refused_plan : (texts : AllTexts) (how : Ending) → IsRejectedBy (IsRefusal (given_plan texts) texts) how → IsRejectedPlan texts how
+pub refused_plan : (texts : AllTexts) (how : code.Ending) → IsRejectedBy (IsRefusal (given_plan texts) texts) how → IsRejectedPlan texts how
 refused_plan texts = says_more (IsRefusal (given_plan texts) texts) (RejectsPlan texts) (λ how said. inl said)

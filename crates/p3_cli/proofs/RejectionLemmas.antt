@@ -24,15 +24,14 @@ use Rattle.p3_lift.specs.declared.answers.LiftFail.TheVariants as fail
 use Rattle.p3_lift.specs.declared.answers.Lifted.{Lifted}
 use Rattle.p3_reports.specs.declared.fault.Fault as named
 use Rattle.p3_reports.specs.declared.refusal.Rejection.{Rejection}
-use Rattle.p3_cli.specs.Ending.{status_of}
+use Rattle.p3_cli.specs.Ending as ending
+use Rattle.p3_cli.specs.Ending.{Ending, status_of}
 use Rattle.p3_cli.specs.Evaluation.{AreOfPlan, IsInvalidPlan, RejectsPlan, given_plan}
 use Rattle.p3_cli.specs.Lifting.{AreOfLift, RejectsLift, TellsFail, given_lift}
 use Rattle.p3_cli.specs.Product.{RejectsBy}
 use Rattle.p3_cli.specs.Refusing.{IsRefusal, AllTexts, for_lift, with_plan}
 use Rattle.p3_cli.specs.Run.{ShownBy}
 use Rattle.p3_cli.specs.Store.{Reading, Texts, TooLong, Absent}
-use Rattle.p3_cli.specs.declared.ending.Ending.{Ending}
-use Rattle.p3_cli.specs.declared.ending.Ending.TheVariants as ending
 
 refused_status : (how : Ending) (rejection : Rejection) → how ≡ ending.Refused rejection → status_of how ≡ 2
 refused_status how rejection is = ap status_of is

@@ -10,17 +10,16 @@ use Rattle.std.specs.Cmp.Lexicographic.{slice_cmp, nat_list_cmp_total}
 use Rattle.std.specs.FinMap.{get, get-insert, slice_cmp-IsAntisymmetric, nat_cmp-IsAntisymmetric}
 use Rattle.p3_base.specs.Outside.{FilesSeen, SinkSeen, Store, Rose, bytes_under, holding, IsPartlyWritten}
 use Rattle.p3_base.specs.declared.refusal.Role.{Role}
-use Rattle.p3_reports.specs.Reports.{report_text}
-use Rattle.p3_reports.specs.declared.report.Report.{Report}
-use Rattle.p3_cli.specs.Ending.{status_of, unput_status}
+use Rattle.p3_cli.specs.Ending as ending
+use Rattle.p3_cli.specs.Ending.{Ending, ending_of, status_of, unput_status}
 use Rattle.p3_cli.specs.Outcome.{ReadsAll, WriteFails}
 use Rattle.p3_cli.specs.Product.{Accepts, Produces, Rejects, texts_in}
 use Rattle.p3_cli.specs.Refusing.{IsRejectedBy}
 use Rattle.p3_tree.specs.Commands.{Command, Input, Output, inputs, outputs}
 use Rattle.p3_cli.specs.Run.{AnyFaultRose, MustComplete, MustReject, IsAccepted, IsProduct, IsRejectionIn, ShownBy, Comes, Leaves, Tells, Answers, IsRejectedIn, IsStatusIn, IsAcceptedIn, SameUnder, OthersStay}
 use Rattle.p3_cli.specs.Store.{Texts, reading, holding_all, AreFirstWritten, IsWrittenUpTo}
-use Rattle.p3_cli.specs.declared.ending.Ending.{Ending}
-use Rattle.p3_cli.specs.declared.ending.Ending.TheVariants as ending
+use Rattle.p3_cli.specs.declared.ending.Ending as code
+use Rattle.p3_cli.specs.declared.ending.Ending.TheVariants as coded
 use Rattle.p3_cli.proofs.RejectionLemmas.{one_status}
 
 -- what is accepted shows no refusal
@@ -39,30 +38,30 @@ module _ (command : Command) (asked : List Input) (same : asked ≡ inputs comma
   rejected_of (Some store) how read refused = subst (λ shown. ShownBy command shown how) (sym ((λ i. reading store (sym same i)) ∙ read ∙ ap Texts are)) refused
 
   -- what is refused of it is refused of what is held
-  pub rejected_comes : (old new : FilesSeen) (how : Ending) → ReadsAll old.held asked found → IsRejectedBy (Rejects command texts) how → Comes command old new how
-  rejected_comes old new ending.OutOfMemory read refused = tt
-  rejected_comes old new (ending.Refused rejection) read refused = rejected_of old.held (ending.Refused rejection) read refused
-  rejected_comes old new (ending.Invalid fault) read refused = rejected_of old.held (ending.Invalid fault) read refused
-  rejected_comes old new (ending.Done report) read refused = absurd refused
-  rejected_comes old new (ending.TooLong role) read refused = absurd refused
-  rejected_comes old new (ending.ReadFailed role) read refused = absurd refused
-  rejected_comes old new (ending.WriteFailed role) read refused = absurd refused
-  rejected_comes old new ending.Usage read refused = absurd refused
+  pub rejected_comes : (old new : FilesSeen) (how : code.Ending) → ReadsAll old.held asked found → IsRejectedBy (Rejects command texts) how → Comes command old new (ending_of how)
+  rejected_comes old new coded.OutOfMemory read refused = tt
+  rejected_comes old new (coded.Refused rejection) read refused = rejected_of old.held (ending.Refused rejection) read refused
+  rejected_comes old new (coded.Invalid fault) read refused = rejected_of old.held (ending.Invalid fault) read refused
+  rejected_comes old new (coded.Done report) read refused = absurd refused
+  rejected_comes old new (coded.TooLong role) read refused = absurd refused
+  rejected_comes old new (coded.ReadFailed role) read refused = absurd refused
+  rejected_comes old new (coded.WriteFailed role) read refused = absurd refused
+  rejected_comes old new coded.Usage read refused = absurd refused
 
   rose_since : (first before after : ℕ) → first ≤ before → Rose before after → Rose first after
   rose_since first before after grows rose = elim rose [ inl less ↦ inl (omega arith) | inr most ↦ inr most ]
 
   -- where what is accepted was not written
-  pub unwritten_comes : (old new : FilesSeen) (how : Ending) (writings : List (Output × List ℕ)) (told : Option Store) (before : ℕ) → ReadsAll old.held asked found → Accepts command texts
-      → old.write_faults ≤ before → WriteFails writings told new.held before new.write_faults how → Comes command old new how
-  unwritten_comes old new ending.OutOfMemory writings told before read accepted grows fails = tt
-  unwritten_comes old new (ending.WriteFailed role) writings told before read accepted grows fails = (rose_since old.write_faults before new.write_faults grows fails.1, all_accepted old.held read accepted)
-  unwritten_comes old new (ending.Refused rejection) writings told before read accepted grows fails = absurd fails
-  unwritten_comes old new (ending.Invalid fault) writings told before read accepted grows fails = absurd fails
-  unwritten_comes old new (ending.Done report) writings told before read accepted grows fails = absurd fails
-  unwritten_comes old new (ending.TooLong role) writings told before read accepted grows fails = absurd fails
-  unwritten_comes old new (ending.ReadFailed role) writings told before read accepted grows fails = absurd fails
-  unwritten_comes old new ending.Usage writings told before read accepted grows fails = absurd fails
+  pub unwritten_comes : (old new : FilesSeen) (how : code.Ending) (writings : List (Output × List ℕ)) (told : Option Store) (before : ℕ) → ReadsAll old.held asked found → Accepts command texts
+      → old.write_faults ≤ before → WriteFails writings told new.held before new.write_faults how → Comes command old new (ending_of how)
+  unwritten_comes old new coded.OutOfMemory writings told before read accepted grows fails = tt
+  unwritten_comes old new (coded.WriteFailed role) writings told before read accepted grows fails = (rose_since old.write_faults before new.write_faults grows fails.1, all_accepted old.held read accepted)
+  unwritten_comes old new (coded.Refused rejection) writings told before read accepted grows fails = absurd fails
+  unwritten_comes old new (coded.Invalid fault) writings told before read accepted grows fails = absurd fails
+  unwritten_comes old new (coded.Done report) writings told before read accepted grows fails = absurd fails
+  unwritten_comes old new (coded.TooLong role) writings told before read accepted grows fails = absurd fails
+  unwritten_comes old new (coded.ReadFailed role) writings told before read accepted grows fails = absurd fails
+  unwritten_comes old new coded.Usage writings told before read accepted grows fails = absurd fails
 
   -- what was made of it is the product of what is held
   product_is : (told : Option Store) (writings : List (Output × List ℕ)) (report : List ℕ) → ReadsAll told asked found → map (λ written. written.0) writings ≡ outputs command
@@ -75,27 +74,27 @@ module _ (command : Command) (asked : List Input) (same : asked ≡ inputs comma
       made_of (Some store) read = (texts, (λ i. reading store (sym same i)) ∙ read ∙ ap Texts are, made)
 
   -- what is left where all is written
-  pub done_leaves : (old mid new : Option Store) (writings : List (Output × List ℕ)) (report : Report) → ReadsAll old asked found → mid ≡ old
-      → map (λ written. written.0) writings ≡ outputs command → Produces command texts (texts_in writings) (report_text report) → new ≡ holding_all writings mid → Leaves command old new (ending.Done report)
-  done_leaves old mid new writings report read stays named made is = (writings, product_is old writings (report_text report) read named made, subst (λ told. new ≡ holding_all writings told) stays is)
+  pub done_leaves : (old mid new : Option Store) (writings : List (Output × List ℕ)) (report : List ℕ) → ReadsAll old asked found → mid ≡ old
+      → map (λ written. written.0) writings ≡ outputs command → Produces command texts (texts_in writings) report → new ≡ holding_all writings mid → Leaves command old new (ending.Done report)
+  done_leaves old mid new writings report read stays named made is = (writings, product_is old writings report read named made, subst (λ told. new ≡ holding_all writings told) stays is)
 
   -- what is left where it was not written whole
-  pub unwritten_leaves : (old mid new : Option Store) (writings : List (Output × List ℕ)) (report : List ℕ) (before after : ℕ) (how : Ending) → ReadsAll old asked found → mid ≡ old
-      → map (λ written. written.0) writings ≡ outputs command → Produces command texts (texts_in writings) report → WriteFails writings mid new before after how → Leaves command old new how
-  unwritten_leaves old mid new writings report before after (ending.WriteFailed role) read stays named made fails =
+  pub unwritten_leaves : (old mid new : Option Store) (writings : List (Output × List ℕ)) (report : List ℕ) (before after : ℕ) (how : code.Ending) → ReadsAll old asked found → mid ≡ old
+      → map (λ written. written.0) writings ≡ outputs command → Produces command texts (texts_in writings) report → WriteFails writings mid new before after how → Leaves command old new (ending_of how)
+  unwritten_leaves old mid new writings report before after (coded.WriteFailed role) read stays named made fails =
       (writings, report, product_is old writings report read named made, subst (λ told. IsWrittenUpTo role writings told new) stays fails.0)
-  unwritten_leaves old mid new writings report before after ending.OutOfMemory read stays named made fails =
+  unwritten_leaves old mid new writings report before after coded.OutOfMemory read stays named made fails =
       inr (writings, report, product_is old writings report read named made, subst (λ told. AreFirstWritten writings told new) stays fails)
-  unwritten_leaves old mid new writings report before after (ending.Refused rejection) read stays named made fails = absurd fails
-  unwritten_leaves old mid new writings report before after (ending.Invalid fault) read stays named made fails = absurd fails
-  unwritten_leaves old mid new writings report before after (ending.Done done) read stays named made fails = absurd fails
-  unwritten_leaves old mid new writings report before after (ending.TooLong role) read stays named made fails = absurd fails
-  unwritten_leaves old mid new writings report before after (ending.ReadFailed role) read stays named made fails = absurd fails
-  unwritten_leaves old mid new writings report before after ending.Usage read stays named made fails = absurd fails
+  unwritten_leaves old mid new writings report before after (coded.Refused rejection) read stays named made fails = absurd fails
+  unwritten_leaves old mid new writings report before after (coded.Invalid fault) read stays named made fails = absurd fails
+  unwritten_leaves old mid new writings report before after (coded.Done done) read stays named made fails = absurd fails
+  unwritten_leaves old mid new writings report before after (coded.TooLong role) read stays named made fails = absurd fails
+  unwritten_leaves old mid new writings report before after (coded.ReadFailed role) read stays named made fails = absurd fails
+  unwritten_leaves old mid new writings report before after coded.Usage read stays named made fails = absurd fails
 
 -- the status, but where the report was not put
 pub kept_status : (before after : SinkSeen) (status : ℕ) (how : Ending) → Tells before after status how → status_of how ≢ 0 → status ≡ status_of how
-kept_status before after status (ending.Done report) tells other = absurd (other refl)
+kept_status before after status (ending.Done lines) tells other = absurd (other refl)
 kept_status before after status (ending.Refused rejection) tells other = elim tells [ inl t ↦ t.0 | inr t ↦ t.0 ]
 kept_status before after status (ending.Invalid fault) tells other = elim tells [ inl t ↦ t.0 | inr t ↦ t.0 ]
 kept_status before after status (ending.TooLong role) tells other = elim tells [ inl t ↦ t.0 | inr t ↦ t.0 ]
@@ -114,7 +113,7 @@ rejects_held : (told : Option Store) (command : Command) (old new : FilesSeen) (
     → Comes command old new how → Tells before after status how
     → IfSome told (λ store. (shown : Ending) → IsRejectionIn store command shown → Rose old.read_faults new.read_faults ⊎ ((status ≡ status_of shown) ⊎ (status ≡ 5)))
 rejects_held None command old new before after status how is comes tells = tt
-rejects_held (Some store) command old new before after status (ending.Done report) is comes tells =
+rejects_held (Some store) command old new before after status (ending.Done lines) is comes tells =
     λ shown also. accepted_or store command shown (subst (λ told. IfSome told (λ store. IsAccepted store command)) is comes) also
 rejects_held (Some store) command old new before after status (ending.Refused rejection) is comes tells =
     λ shown also. inr (inl (same_status store command old status (ending.Refused rejection) shown is comes also (kept_status before after status (ending.Refused rejection) tells (λ e. cc))))
@@ -151,7 +150,7 @@ other_status before after status how tells kept other is = elim tells [ inl t �
 refused_of : (command : Command) (old new : FilesSeen) (before after : SinkSeen) (status : ℕ) (how : Ending) → Comes command old new how → Tells before after status how → status ≡ 2 → IfSome old.held (IsStatusIn (Some command) 2)
 refused_of command old new before after status (ending.Refused rejection) comes tells is = some_status old.held command 2 (ending.Refused rejection) refl comes
 refused_of command old new before after status (ending.TooLong role) comes tells is = some_status old.held command 2 (ending.TooLong role) refl comes
-refused_of command old new before after status (ending.Done report) comes tells is = elim tells [ inl t ↦ absurd (let no : 0 ≡ 2 = sym t.0 ∙ is in cc) | inr t ↦ absurd (let no : 6 ≡ 2 = sym t.0 ∙ is in cc) ]
+refused_of command old new before after status (ending.Done lines) comes tells is = elim tells [ inl t ↦ absurd (let no : 0 ≡ 2 = sym t.0 ∙ is in cc) | inr t ↦ absurd (let no : 6 ≡ 2 = sym t.0 ∙ is in cc) ]
 refused_of command old new before after status (ending.Invalid fault) comes tells is = other_status before after status (ending.Invalid fault) tells refl (λ e. cc) is
 refused_of command old new before after status (ending.ReadFailed role) comes tells is = other_status before after status (ending.ReadFailed role) tells refl (λ e. cc) is
 refused_of command old new before after status (ending.WriteFailed role) comes tells is = other_status before after status (ending.WriteFailed role) tells refl (λ e. cc) is
@@ -172,7 +171,7 @@ completes_held : (told : Option Store) (command : Command) (old new : FilesSeen)
     → Comes command old new how → Tells before after status how
     → IfSome told (λ store. IsAccepted store command → IsComplete old new before after status)
 completes_held None command old new before after status how is comes tells = tt
-completes_held (Some store) command old new before after status (ending.Done report) is comes tells =
+completes_held (Some store) command old new before after status (ending.Done lines) is comes tells =
     λ accepted. elim tells [ inl t ↦ inr (inl t.0) | inr t ↦ inl (inr (inr t.1)) ]
 completes_held (Some store) command old new before after status (ending.Refused rejection) is comes tells =
     λ accepted. accepted_or store command (ending.Refused rejection) accepted (subst (λ told. IfSome told (λ store. IsRejectionIn store command (ending.Refused rejection))) is comes)
@@ -247,8 +246,8 @@ product_others : (name : List ℕ) (told : Option Store) (command : Command) (wr
 product_others name told command writings report others product = subst (AllByRecursion (λ output. output.name ≢ name)) (sym product.outputs) others
 
 leaves_others : (name : List ℕ) (command : Command) (old new : Option Store) (how : Ending) → AllByRecursion (λ output. output.name ≢ name) (outputs command) → Leaves command old new how → SameUnder name old new
-leaves_others name command old new (ending.Done report) others (writings, product, is) =
-    ap (option_map (λ store. bytes_under store name)) is ∙ same_holding_all name writings old (product_others name old command writings (report_text report) others product)
+leaves_others name command old new (ending.Done lines) others (writings, product, is) =
+    ap (option_map (λ store. bytes_under store name)) is ∙ same_holding_all name writings old (product_others name old command writings lines others product)
 leaves_others name command old new (ending.WriteFailed role) others (writings, report, product, is) =
     same_up_to name role writings old new (product_others name old command writings report others product) is
 leaves_others name command old new ending.OutOfMemory others leaves = elim leaves [

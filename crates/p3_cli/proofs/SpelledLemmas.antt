@@ -19,40 +19,42 @@ use Rattle.p3_outline.specs.Texts.{IfRefused}
 use Rattle.p3_outline.specs.declared.error.ReadFail.{ReadFail}
 use Rattle.p3_outline.specs.declared.error.ReadFail.TheVariants as fail
 use Rattle.p3_types.specs.Texts.{HasTexts}
+use Rattle.p3_cli.specs.Ending as ending
+use Rattle.p3_cli.specs.Ending.{Ending}
 use Rattle.p3_cli.specs.Evaluation.{given_plan}
 use Rattle.p3_cli.specs.Lifting.{given_lift}
 use Rattle.p3_cli.specs.Refusing.{AllTexts, AreAcceptedFor, EndsAs, IsOfHalves, IsOfPlan, IsOfTask, IsRefusal, IsRefusedFor, IsRefusedTask, IsRejectedBy, IsSpelled, Says, all_texts, domain_of, problem_of, refused_in, task_texts, text_of}
 use Rattle.p3_cli.specs.declared.texts.Texts.{Texts}
-use Rattle.p3_cli.specs.declared.ending.Ending.{Ending}
-use Rattle.p3_cli.specs.declared.ending.Ending.TheVariants as ending
+use Rattle.p3_cli.specs.declared.ending.Ending as code
+use Rattle.p3_cli.specs.declared.ending.Ending.TheVariants as coded
 
 -- ---- endings
 
 module _ (texts : AllTexts) where
   -- an ending that says a refusal that is shown
-  pub says : (Shows : Refusal → Type 0) (refusal : Refusal) (how : Ending) → Shows refusal → IsRejectedBy (λ end. end ≡ refused_in (text_of refusal.pos.role texts) refusal) how → IsRefusedFor texts Shows how
-  says Shows refusal ending.OutOfMemory shows told = tt
-  says Shows refusal (ending.Refused line) shows told = record { refusal = refusal; shows = shows; says = told }
-  says Shows refusal (ending.Invalid line) shows told = record { refusal = refusal; shows = shows; says = told }
-  says Shows refusal (ending.Done report) shows told = told
-  says Shows refusal (ending.TooLong role) shows told = told
-  says Shows refusal (ending.ReadFailed role) shows told = told
-  says Shows refusal (ending.WriteFailed role) shows told = told
-  says Shows refusal ending.Usage shows told = told
+  pub says : (Shows : Refusal → Type 0) (refusal : Refusal) (how : code.Ending) → Shows refusal → IsRejectedBy (λ end. end ≡ refused_in (text_of refusal.pos.role texts) refusal) how → IsRefusedFor texts Shows how
+  says Shows refusal coded.OutOfMemory shows said = tt
+  says Shows refusal (coded.Refused line) shows said = record { refusal = refusal; shows = shows; says = said }
+  says Shows refusal (coded.Invalid line) shows said = record { refusal = refusal; shows = shows; says = said }
+  says Shows refusal (coded.Done report) shows said = said
+  says Shows refusal (coded.TooLong role) shows said = said
+  says Shows refusal (coded.ReadFailed role) shows said = said
+  says Shows refusal (coded.WriteFailed role) shows said = said
+  says Shows refusal coded.Usage shows said = said
 
 -- what an ending says, it also says in other words
-pub says_more : (Tells Other : Ending → Type 0) → ((how : Ending) → Tells how → Other how) → (how : Ending) → IsRejectedBy Tells how → IsRejectedBy Other how
-says_more Tells Other more ending.OutOfMemory told = tt
-says_more Tells Other more (ending.Refused line) told = more (ending.Refused line) told
-says_more Tells Other more (ending.Invalid line) told = more (ending.Invalid line) told
-says_more Tells Other more (ending.Done report) told = told
-says_more Tells Other more (ending.TooLong role) told = told
-says_more Tells Other more (ending.ReadFailed role) told = told
-says_more Tells Other more (ending.WriteFailed role) told = told
-says_more Tells Other more ending.Usage told = told
+pub says_more : (Tells Other : Ending → Type 0) → ((how : Ending) → Tells how → Other how) → (how : code.Ending) → IsRejectedBy Tells how → IsRejectedBy Other how
+says_more Tells Other more coded.OutOfMemory said = tt
+says_more Tells Other more (coded.Refused line) said = more (ending.Refused line) said
+says_more Tells Other more (coded.Invalid line) said = more (ending.Invalid line) said
+says_more Tells Other more (coded.Done report) said = said
+says_more Tells Other more (coded.TooLong role) said = said
+says_more Tells Other more (coded.ReadFailed role) said = said
+says_more Tells Other more (coded.WriteFailed role) said = said
+says_more Tells Other more coded.Usage said = said
 
 -- a refusal that is shown as one thing is shown as another
-pub shows_more : (texts : AllTexts) (Shows Other : Refusal → Type 0) → ((refusal : Refusal) → Shows refusal → Other refusal) → (how : Ending) → IsRefusedFor texts Shows how → IsRefusedFor texts Other how
+pub shows_more : (texts : AllTexts) (Shows Other : Refusal → Type 0) → ((refusal : Refusal) → Shows refusal → Other refusal) → (how : code.Ending) → IsRefusedFor texts Shows how → IsRefusedFor texts Other how
 shows_more texts Shows Other more = says_more (Says texts Shows) (Says texts Other) (λ how said. record { refusal = said.refusal; shows = more said.refusal said.shows; says = said.says })
 
 -- ---- texts of a side
@@ -105,20 +107,20 @@ module _ (side : Side) (texts : AllTexts) where
     task = record { reads = spelled.reads; shows = none };
   }
 
-  no_memory : (Shows : Refusal → Type 0) (how : Ending) → how ≡ ending.OutOfMemory → IsRefusedFor texts Shows how
+  no_memory : (Shows : Refusal → Type 0) (how : code.Ending) → how ≡ coded.OutOfMemory → IsRefusedFor texts Shows how
   no_memory Shows how is = subst (IsRefusedFor texts Shows) (sym is) tt
 
-  pub domain_refused : (found : ReadFail) (how : Ending) → IfRefused found (IsRefusedText (HalfText side InDomain (domain_of side texts))) → EndsAs texts found how → IsRefusedFor texts (IsOfHalves side texts) how
+  pub domain_refused : (found : ReadFail) (how : code.Ending) → IfRefused found (IsRefusedText (HalfText side InDomain (domain_of side texts))) → EndsAs texts found how → IsRefusedFor texts (IsOfHalves side texts) how
   domain_refused fail.NoMemory how shown told = no_memory (IsOfHalves side texts) how told
   domain_refused (fail.Refused refusal) how shown told = says texts (IsOfHalves side texts) refusal how (inl shown) told
 
-  pub problem_refused : (found : ReadFail) (how : Ending) → IsReadable (HalfText side InDomain (domain_of side texts)) → IfRefused found (IsRefusedText (HalfText side InProblem (problem_of side texts)))
+  pub problem_refused : (found : ReadFail) (how : code.Ending) → IsReadable (HalfText side InDomain (domain_of side texts)) → IfRefused found (IsRefusedText (HalfText side InProblem (problem_of side texts)))
       → EndsAs texts found how → IsRefusedFor texts (IsOfHalves side texts) how
   problem_refused fail.NoMemory how one shown told = no_memory (IsOfHalves side texts) how told
   problem_refused (fail.Refused refusal) how one shown told = says texts (IsOfHalves side texts) refusal how (inr (one, inl shown)) told
 
   -- a refusal of the task that the texts spell
-  pub task_refused : (task : Task) (refusal : Refusal) (how : Ending) → IsSpelled (task_texts side texts) task → task_refusal side task ≡ Some refusal
+  pub task_refused : (task : Task) (refusal : Refusal) (how : code.Ending) → IsSpelled (task_texts side texts) task → task_refusal side task ≡ Some refusal
       → IsRejectedBy (λ end. end ≡ refused_in (text_of refusal.pos.role texts) refusal) how → IsRefusedFor texts (IsOfTask side texts) how
   task_refused task refusal how spelled shown told = says texts (IsOfTask side texts) refusal how (record { task = task; reads = spelled.reads; shows = shown }) told
 
@@ -126,17 +128,17 @@ module _ (side : Side) (texts : AllTexts) where
   unfolding task_refusal
   offence_first task refusal shown = ap (λ found. first_some (found ∷ metric_refusals side task ++ size_refusals side task ++ action_refusals side task)) shown
 
-  pub offence_refused : (task : Task) (refusal : Refusal) (how : Ending) → IsSpelled (task_texts side texts) task → option_map (refusal_of side) (first_offence task) ≡ Some refusal
+  pub offence_refused : (task : Task) (refusal : Refusal) (how : code.Ending) → IsSpelled (task_texts side texts) task → option_map (refusal_of side) (first_offence task) ≡ Some refusal
       → IsRejectedBy (λ end. end ≡ refused_in (text_of refusal.pos.role texts) refusal) how → IsRefusedFor texts (IsOfTask side texts) how
   offence_refused task refusal how spelled shown told = task_refused task refusal how spelled (offence_first task refusal shown) told
 
 -- ---- a task that is read alone
 
 module _ (texts : AllTexts) where
-  pub alone_of_halves : (how : Ending) → IsRefusedFor texts (IsOfHalves Source texts) how → IsRefusedTask texts how
+  pub alone_of_halves : (how : code.Ending) → IsRefusedFor texts (IsOfHalves Source texts) how → IsRefusedTask texts how
   alone_of_halves = shows_more texts (IsOfHalves Source texts) (IsFirstRefusal (given_task Source texts.domain texts.problem)) (λ refusal shown. inl shown)
 
-  pub alone_of_task : (task : Task) → IsSpelled (task_texts Source texts) task → (how : Ending) → IsRefusedFor texts (IsOfTask Source texts) how → IsRefusedTask texts how
+  pub alone_of_task : (task : Task) → IsSpelled (task_texts Source texts) task → (how : code.Ending) → IsRefusedFor texts (IsOfTask Source texts) how → IsRefusedTask texts how
   alone_of_task task spelled =
       shows_more texts (IsOfTask Source texts) (IsFirstRefusal (given_task Source texts.domain texts.problem)) (λ refusal shown. inr (spelled.readable, inl shown))
 
@@ -151,7 +153,7 @@ module _ (texts : AllTexts) where
   with_halves refusal (inr (before, inl other)) = inl (inr (before, inl other))
   with_halves refusal (inr (before, inr (also, none))) = absurd none
 
-  pub plan_of_halves : (how : Ending) → IsRefusedFor texts (IsOfHalves Source texts) how → IsRejectedBy (IsRefusal (given_plan texts) texts) how
+  pub plan_of_halves : (how : code.Ending) → IsRefusedFor texts (IsOfHalves Source texts) how → IsRejectedBy (IsRefusal (given_plan texts) texts) how
   plan_of_halves = shows_more texts (IsOfHalves Source texts) Shown with_halves
 
   module _ (task : Task) (spelled : IsSpelled (task_texts Source texts) task) where
@@ -161,7 +163,7 @@ module _ (texts : AllTexts) where
     two_readable : IsReadable (HalfText Source InProblem texts.problem)
     two_readable refusal shown = spelled.readable refusal (inr (one_readable, inl shown))
 
-    pub plan_of_plan : (how : Ending) → IsRefusedFor texts (IsOfPlan texts) how → IsRejectedBy (IsRefusal (given_plan texts) texts) how
+    pub plan_of_plan : (how : code.Ending) → IsRefusedFor texts (IsOfPlan texts) how → IsRejectedBy (IsRefusal (given_plan texts) texts) how
     plan_of_plan = shows_more texts (IsOfPlan texts) Shown (λ refusal shown. inl (inr (one_readable, inr (two_readable, inl shown))))
 
     all_readable : plan_offence texts.plan ≡ None → AreReadable (given_texts (given_plan texts))
@@ -170,7 +172,7 @@ module _ (texts : AllTexts) where
     all_readable free refusal (inr (before, inr (also, inl last))) = cc
     all_readable free refusal (inr (before, inr (also, inr none))) = none.1
 
-    pub plan_of_task : plan_offence texts.plan ≡ None → (how : Ending) → IsRefusedFor texts (IsOfTask Source texts) how → IsRejectedBy (IsRefusal (given_plan texts) texts) how
+    pub plan_of_task : plan_offence texts.plan ≡ None → (how : code.Ending) → IsRefusedFor texts (IsOfTask Source texts) how → IsRejectedBy (IsRefusal (given_plan texts) texts) how
     plan_of_task free = shows_more texts (IsOfTask Source texts) Shown (λ refusal shown. inr (all_readable free, inl shown))
 
 -- ---- two tasks with a plan
@@ -184,7 +186,7 @@ module _ (texts : AllTexts) where
   source_half refusal (inr (before, inl other)) = inl (inr (before, inl other))
   source_half refusal (inr (before, inr (also, none))) = absurd none
 
-  pub lift_of_source : (how : Ending) → IsRefusedFor texts (IsOfHalves Source texts) how → IsRejectedBy (IsRefusal (given_lift texts) texts) how
+  pub lift_of_source : (how : code.Ending) → IsRefusedFor texts (IsOfHalves Source texts) how → IsRejectedBy (IsRefusal (given_lift texts) texts) how
   lift_of_source = shows_more texts (IsOfHalves Source texts) IsShown source_half
 
   module _ (task : Task) (spelled : IsSpelled (task_texts Source texts) task) where
@@ -199,7 +201,7 @@ module _ (texts : AllTexts) where
     written_half refusal (inr (before, inl other)) = inl (inr (source_one, inr (source_two, inr (before, inl other))))
     written_half refusal (inr (before, inr (also, none))) = absurd none
 
-    pub lift_of_written : (how : Ending) → IsRefusedFor texts (IsOfHalves Written texts) how → IsRejectedBy (IsRefusal (given_lift texts) texts) how
+    pub lift_of_written : (how : code.Ending) → IsRefusedFor texts (IsOfHalves Written texts) how → IsRejectedBy (IsRefusal (given_lift texts) texts) how
     lift_of_written = shows_more texts (IsOfHalves Written texts) IsShown written_half
 
     module _ (written : Task) (also : IsSpelled (task_texts Written texts) written) where
@@ -209,7 +211,7 @@ module _ (texts : AllTexts) where
       written_two : IsReadable (HalfText Written InProblem texts.written_problem)
       written_two refusal shown = also.readable refusal (inr (written_one, inl shown))
 
-      pub lift_of_plan : (how : Ending) → IsRefusedFor texts (IsOfPlan texts) how → IsRejectedBy (IsRefusal (given_lift texts) texts) how
+      pub lift_of_plan : (how : code.Ending) → IsRefusedFor texts (IsOfPlan texts) how → IsRejectedBy (IsRefusal (given_lift texts) texts) how
       lift_of_plan = shows_more texts (IsOfPlan texts) IsShown (λ refusal shown. inl (inr (source_one, inr (source_two, inr (written_one, inr (written_two, inl shown))))))
 
       module _ (free : plan_offence texts.plan ≡ None) where
@@ -221,8 +223,8 @@ module _ (texts : AllTexts) where
         five_readable refusal (inr (a, inr (b, inr (c, inr (d, inl last))))) = cc
         five_readable refusal (inr (a, inr (b, inr (c, inr (d, inr none))))) = none.1
 
-        pub lift_of_task : (how : Ending) → IsRefusedFor texts (IsOfTask Source texts) how → IsRejectedBy (IsRefusal (given_lift texts) texts) how
+        pub lift_of_task : (how : code.Ending) → IsRefusedFor texts (IsOfTask Source texts) how → IsRejectedBy (IsRefusal (given_lift texts) texts) how
         lift_of_task = shows_more texts (IsOfTask Source texts) IsShown (λ refusal shown. inr (five_readable, inl shown))
 
-        pub lift_of_other : SpellATask (task_texts Source texts) → (how : Ending) → IsRefusedFor texts (IsOfTask Written texts) how → IsRejectedBy (IsRefusal (given_lift texts) texts) how
+        pub lift_of_other : SpellATask (task_texts Source texts) → (how : code.Ending) → IsRefusedFor texts (IsOfTask Written texts) how → IsRejectedBy (IsRefusal (given_lift texts) texts) how
         lift_of_other first = shows_more texts (IsOfTask Written texts) IsShown (λ refusal shown. inr (five_readable, inr (first, inl shown)))

@@ -2,10 +2,9 @@
 use Rattle.std.proofs.Common.{◌≡◌, ◌∙◌, ◌≢◌, ℕ, Option, Some, None, IfSome, refl, sym, subst, inl, inr}
 use Rattle.p3_base.specs.Outside.{FilesSeen, SinkSeen, Rose}
 use Rattle.p3_tree.specs.Commands.{Command}
-use Rattle.p3_cli.specs.Ending.{status_of, unput_status}
+use Rattle.p3_cli.specs.Ending as ending
+use Rattle.p3_cli.specs.Ending.{Ending, status_of, unput_status}
 use Rattle.p3_cli.specs.Run.{Answers, Comes, IsStatusIn, Tells}
-use Rattle.p3_cli.specs.declared.ending.Ending.{Ending}
-use Rattle.p3_cli.specs.declared.ending.Ending.TheVariants as ending
 use Rattle.p3_cli.proofs.RunLemmas.{kept_status, some_status}
 
 -- an ending has another status, also where its lines cannot be put
@@ -18,7 +17,7 @@ as_usage old new before after status how answers tells = subst (λ way. Tells be
 
 module _ (command : Command) (old new : FilesSeen) (before after : SinkSeen) (status : ℕ) where
   invalid_of : (how : Ending) → Comes command old new how → Tells before after status how → status ≡ 1 → IfSome old.held (IsStatusIn (Some command) 1)
-  invalid_of (ending.Done report) comes tells is = apart before after status 1 (ending.Done report) tells (λ e. cc) (λ e. cc) is
+  invalid_of (ending.Done lines) comes tells is = apart before after status 1 (ending.Done lines) tells (λ e. cc) (λ e. cc) is
   invalid_of (ending.Refused rejection) comes tells is = apart before after status 1 (ending.Refused rejection) tells (λ e. cc) (λ e. cc) is
   invalid_of (ending.Invalid fault) comes tells is = some_status old.held command 1 (ending.Invalid fault) refl comes
   invalid_of (ending.TooLong role) comes tells is = apart before after status 1 (ending.TooLong role) tells (λ e. cc) (λ e. cc) is
@@ -28,7 +27,7 @@ module _ (command : Command) (old new : FilesSeen) (before after : SinkSeen) (st
   invalid_of ending.Usage comes tells is = apart before after status 1 ending.Usage tells (λ e. cc) (λ e. cc) is
 
   unread_of : (how : Ending) → Comes command old new how → Tells before after status how → status ≡ 3 → Rose old.read_faults new.read_faults
-  unread_of (ending.Done report) comes tells is = apart before after status 3 (ending.Done report) tells (λ e. cc) (λ e. cc) is
+  unread_of (ending.Done lines) comes tells is = apart before after status 3 (ending.Done lines) tells (λ e. cc) (λ e. cc) is
   unread_of (ending.Refused rejection) comes tells is = apart before after status 3 (ending.Refused rejection) tells (λ e. cc) (λ e. cc) is
   unread_of (ending.Invalid fault) comes tells is = apart before after status 3 (ending.Invalid fault) tells (λ e. cc) (λ e. cc) is
   unread_of (ending.TooLong role) comes tells is = apart before after status 3 (ending.TooLong role) tells (λ e. cc) (λ e. cc) is
@@ -38,7 +37,7 @@ module _ (command : Command) (old new : FilesSeen) (before after : SinkSeen) (st
   unread_of ending.Usage comes tells is = apart before after status 3 ending.Usage tells (λ e. cc) (λ e. cc) is
 
   unwritten_of : (how : Ending) → Comes command old new how → Tells before after status how → status ≡ 4 → Rose old.write_faults new.write_faults
-  unwritten_of (ending.Done report) comes tells is = apart before after status 4 (ending.Done report) tells (λ e. cc) (λ e. cc) is
+  unwritten_of (ending.Done lines) comes tells is = apart before after status 4 (ending.Done lines) tells (λ e. cc) (λ e. cc) is
   unwritten_of (ending.Refused rejection) comes tells is = apart before after status 4 (ending.Refused rejection) tells (λ e. cc) (λ e. cc) is
   unwritten_of (ending.Invalid fault) comes tells is = apart before after status 4 (ending.Invalid fault) tells (λ e. cc) (λ e. cc) is
   unwritten_of (ending.TooLong role) comes tells is = apart before after status 4 (ending.TooLong role) tells (λ e. cc) (λ e. cc) is
@@ -48,7 +47,7 @@ module _ (command : Command) (old new : FilesSeen) (before after : SinkSeen) (st
   unwritten_of ending.Usage comes tells is = apart before after status 4 ending.Usage tells (λ e. cc) (λ e. cc) is
 
   usage_of : (how : Ending) → Comes command old new how → Tells before after status how → status ≡ 64 → Some command ≡ None
-  usage_of (ending.Done report) comes tells is = apart before after status 64 (ending.Done report) tells (λ e. cc) (λ e. cc) is
+  usage_of (ending.Done lines) comes tells is = apart before after status 64 (ending.Done lines) tells (λ e. cc) (λ e. cc) is
   usage_of (ending.Refused rejection) comes tells is = apart before after status 64 (ending.Refused rejection) tells (λ e. cc) (λ e. cc) is
   usage_of (ending.Invalid fault) comes tells is = apart before after status 64 (ending.Invalid fault) tells (λ e. cc) (λ e. cc) is
   usage_of (ending.TooLong role) comes tells is = apart before after status 64 (ending.TooLong role) tells (λ e. cc) (λ e. cc) is
@@ -71,6 +70,21 @@ read_failed (Some command) old new before after status how answers tells is = un
 pub write_failed : (asked : Option Command) (old new : FilesSeen) (before after : SinkSeen) (status : ℕ) (how : Ending) → Answers asked old new how → Tells before after status how → status ≡ 4 → Rose old.write_faults new.write_faults
 write_failed None old new before after status how answers tells is = apart before after status 4 ending.Usage (as_usage old new before after status how answers tells) (λ e. cc) (λ e. cc) is
 write_failed (Some command) old new before after status how answers tells is = unwritten_of command old new before after status how answers.0 tells is
+
+-- no ending has the status 6 by itself
+never_unput : (how : Ending) → status_of how ≢ 6
+never_unput (ending.Done lines) = λ e. cc
+never_unput (ending.Refused rejection) = λ e. cc
+never_unput (ending.Invalid fault) = λ e. cc
+never_unput (ending.TooLong role) = λ e. cc
+never_unput (ending.ReadFailed role) = λ e. cc
+never_unput (ending.WriteFailed role) = λ e. cc
+never_unput ending.OutOfMemory = λ e. cc
+never_unput ending.Usage = λ e. cc
+
+-- a put failed
+pub put_failed : (before after : SinkSeen) (status : ℕ) (how : Ending) → Tells before after status how → status ≡ 6 → Rose before.faults after.faults
+put_failed before after status how tells is = elim tells [ inl t ↦ absurd (never_unput how (sym t.0 ∙ is)) | inr t ↦ t.1 ]
 
 -- usage is told exactly where the words ask for nothing
 pub usage : (asked : Option Command) (old new : FilesSeen) (before after : SinkSeen) (status : ℕ) (how : Ending) → Answers asked old new how → Tells before after status how → (status ≡ 64 → asked ≡ None) × (asked ≡ None → status ≡ 64)

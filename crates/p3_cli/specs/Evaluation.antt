@@ -10,9 +10,9 @@ use Rattle.p3_tree.specs.declared.task.Task.{Task}
 use Rattle.p3_reports.specs.Faults.{fault_named}
 use Rattle.p3_ground.specs.PlansByNumber.{AreNumbers}
 use Rattle.p3_run.specs.Runs.{Ran}
+use Rattle.p3_cli.specs.Ending.{Ending, Invalid}
 use Rattle.p3_cli.specs.Refusing.{AllTexts, IsRefusal, IsRejectedBy, task_texts}
-use Rattle.p3_cli.specs.declared.ending.Ending.{Ending}
-use Rattle.p3_cli.specs.declared.ending.Ending.TheVariants.{Invalid}
+use Rattle.p3_cli.specs.declared.ending.Ending as code
 
 -- ---- of the texts
 
@@ -47,7 +47,7 @@ pub record IsInvalidPlan (d p q : List ℕ) (how : Ending) : Type 0 where
 abbrev pub RejectsPlan : AllTexts → Ending → Type 0
 RejectsPlan texts how = IsRefusal (given_plan texts) texts how ⊎ IsInvalidPlan texts.domain texts.problem texts.plan how
 
-abbrev pub IsRejectedPlan : AllTexts → Ending → Type 0
+abbrev pub IsRejectedPlan : AllTexts → code.Ending → Type 0
 IsRejectedPlan texts how = IsRejectedBy (RejectsPlan texts) how
 
 -- ---- of a plan

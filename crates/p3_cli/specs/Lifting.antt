@@ -16,9 +16,8 @@ use Rattle.p3_lift.specs.declared.answers.Differ.TheVariants.{Fault, Numbers}
 use Rattle.p3_lift.specs.declared.answers.LiftFail.{LiftFail}
 use Rattle.p3_lift.specs.declared.answers.LiftFail.TheVariants as fail
 use Rattle.p3_lift.specs.declared.answers.Lifted.{Lifted}
+use Rattle.p3_cli.specs.Ending.{Ending, Invalid, Refused}
 use Rattle.p3_cli.specs.Refusing.{AllTexts, IsRefusal, for_lift, task_texts}
-use Rattle.p3_cli.specs.declared.ending.Ending.{Ending}
-use Rattle.p3_cli.specs.declared.ending.Ending.TheVariants.{Invalid, Refused}
 
 -- ---- of the texts
 

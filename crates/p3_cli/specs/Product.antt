@@ -7,13 +7,13 @@ use Rattle.p3_tree.specs.declared.command.CommandKind.TheVariants.{Compile, Lift
 use Rattle.p3_tree.specs.Refusals.First.{given_task}
 use Rattle.p3_tree.specs.Samples.{sample_domain, sample_problem, sample_plan}
 use Rattle.p3_cli.specs.Embedding.{IsEmbedding}
+use Rattle.p3_cli.specs.Ending.{Ending}
 use Rattle.p3_cli.specs.Evaluation.{IsEvaluation, RejectsPlan}
 use Rattle.p3_cli.specs.Lifting.{IsLifting, RejectsLift}
 use Rattle.p3_cli.specs.Refusing.{IsRefusal, for_lift, only_task, with_plan}
 use Rattle.p3_cli.specs.Sampling.{IsSampling}
 use Rattle.p3_cli.specs.Translation.{HasLayout, IsTranslation}
 use Rattle.p3_cli.specs.WrittenText.{HasPlanLayout}
-use Rattle.p3_cli.specs.declared.ending.Ending.{Ending}
 
 -- ---- why nothing is made
 

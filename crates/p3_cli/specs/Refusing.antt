@@ -14,8 +14,9 @@ use Rattle.p3_reports.specs.Rejections.{placed_in}
 use Rattle.p3_reports.specs.declared.refusal.Rejection.TheVariants.{At}
 use Rattle.p3_outline.specs.declared.error.ReadFail.{ReadFail}
 use Rattle.p3_outline.specs.declared.error.ReadFail.TheVariants as fail
-use Rattle.p3_cli.specs.declared.ending.Ending.{Ending}
-use Rattle.p3_cli.specs.declared.ending.Ending.TheVariants.{Done, Refused, Invalid, TooLong, ReadFailed, WriteFailed, OutOfMemory, Usage}
+use Rattle.p3_cli.specs.Ending.{Ending, Invalid, Refused}
+use Rattle.p3_cli.specs.declared.ending.Ending as code
+use Rattle.p3_cli.specs.declared.ending.Ending.TheVariants as coded
 use Rattle.p3_cli.specs.declared.texts.Texts.{Texts}
 
 -- ---- what is read
@@ -106,29 +107,29 @@ pub record Says (texts : AllTexts) (Shows : Refusal → Type 0) (how : Ending) :
   pub says : how ≡ refused_in (text_of refusal.pos.role texts) refusal
 
 -- an ending where nothing is made: what is read is refused or not valid, and so it is said; or memory is wanting
-abbrev pub IsRejectedBy : (Ending → Type 0) → Ending → Type 0
-IsRejectedBy Tells OutOfMemory = Unit {0}
-IsRejectedBy Tells (Refused rejection) = Tells (Refused rejection)
-IsRejectedBy Tells (Invalid fault) = Tells (Invalid fault)
-IsRejectedBy Tells (Done report) = ⊥
-IsRejectedBy Tells (TooLong role) = ⊥
-IsRejectedBy Tells (ReadFailed role) = ⊥
-IsRejectedBy Tells (WriteFailed role) = ⊥
-IsRejectedBy Tells Usage = ⊥
+abbrev pub IsRejectedBy : (Ending → Type 0) → code.Ending → Type 0
+IsRejectedBy Tells coded.OutOfMemory = Unit {0}
+IsRejectedBy Tells (coded.Refused rejection) = Tells (Refused rejection)
+IsRejectedBy Tells (coded.Invalid fault) = Tells (Invalid fault)
+IsRejectedBy Tells (coded.Done report) = ⊥
+IsRejectedBy Tells (coded.TooLong role) = ⊥
+IsRejectedBy Tells (coded.ReadFailed role) = ⊥
+IsRejectedBy Tells (coded.WriteFailed role) = ⊥
+IsRejectedBy Tells coded.Usage = ⊥
 
 -- the ending says a refusal that is shown, or memory is wanting
-abbrev pub IsRefusedFor : AllTexts → (Refusal → Type 0) → Ending → Type 0
+abbrev pub IsRefusedFor : AllTexts → (Refusal → Type 0) → code.Ending → Type 0
 IsRefusedFor texts Shows how = IsRejectedBy (Says texts Shows) how
 
 -- how it ends where a half is not read
-abbrev pub EndsAs : AllTexts → ReadFail → Ending → Type 0
+abbrev pub EndsAs : AllTexts → ReadFail → code.Ending → Type 0
 EndsAs texts (fail.Refused refusal) how = IsRejectedBy (λ end. end ≡ refused_in (text_of refusal.pos.role texts) refusal) how
-EndsAs texts fail.NoMemory how = how ≡ OutOfMemory
+EndsAs texts fail.NoMemory how = how ≡ coded.OutOfMemory
 
 -- the ending says the first refusal of what is given
 abbrev pub IsRefusal : Given → AllTexts → Ending → Type 0
 IsRefusal given texts how = Says texts (IsFirstRefusal given) how
 
 -- of a task that is read alone: the ending says its first refusal, or memory is wanting
-abbrev pub IsRefusedTask : AllTexts → Ending → Type 0
+abbrev pub IsRefusedTask : AllTexts → code.Ending → Type 0
 IsRefusedTask texts how = IsRejectedBy (IsRefusal (given_task Source texts.domain texts.problem) texts) how

@@ -3,14 +3,12 @@ use Rattle.std.specs.Prelude.{ℕ, ◌≡◌, ◌⊎◌, List, Option, Some, Non
 use Rattle.std.specs.Option.{option_map}
 use Rattle.std.specs.List.{AllByRecursion}
 use Rattle.p3_base.specs.Outside.{FilesSeen, SinkSeen, Store, Rose, IsPartlyPut, bytes_under, with_put}
-use Rattle.p3_reports.specs.Reports.{report_text}
-use Rattle.p3_cli.specs.Ending.{status_of, unput_status, lines_of}
+use Rattle.p3_cli.specs.Ending as ending
+use Rattle.p3_cli.specs.Ending.{Ending, status_of, unput_status, lines_of}
 use Rattle.p3_cli.specs.Product.{Rejects, Accepts, Produces, texts_in}
 use Rattle.p3_tree.specs.Commands.{Command, Output, inputs, outputs}
 use Rattle.p3_cli.specs.Status as status
 use Rattle.p3_cli.specs.Store.{Reading, Texts, TooLong, Absent, reading, AreStored, holding_all, AreFirstWritten, IsWrittenUpTo}
-use Rattle.p3_cli.specs.declared.ending.Ending.{Ending}
-use Rattle.p3_cli.specs.declared.ending.Ending.TheVariants as ending
 
 -- the ending says why nothing is made of what was read
 abbrev pub ShownBy : Command → Reading → Ending → Type 0
@@ -33,7 +31,7 @@ pub record IsProduct (told : Option Store) (command : Command) (writings : List 
 
 -- when an ending of a command comes
 abbrev pub Comes : Command → FilesSeen → FilesSeen → Ending → Type 0
-Comes command old new (ending.Done report) = IfSome old.held (λ store. IsAccepted store command)
+Comes command old new (ending.Done lines) = IfSome old.held (λ store. IsAccepted store command)
 Comes command old new (ending.Refused rejection) = IfSome old.held (λ store. IsRejectionIn store command (ending.Refused rejection))
 Comes command old new (ending.Invalid fault) = IfSome old.held (λ store. IsRejectionIn store command (ending.Invalid fault))
 Comes command old new (ending.TooLong role) = IfSome old.held (λ store. IsRejectionIn store command (ending.TooLong role))
@@ -44,8 +42,8 @@ Comes command old new ending.Usage = ⊥
 
 -- what the files hold after an ending of a command: all outputs, a first part of them, or what they held
 abbrev pub Leaves : Command → Option Store → Option Store → Ending → Type 0
-Leaves command old new (ending.Done report) =
-    (writings : List (Output × List ℕ)) × IsProduct old command writings (report_text report) × (new ≡ holding_all writings old)
+Leaves command old new (ending.Done lines) =
+    (writings : List (Output × List ℕ)) × IsProduct old command writings lines × (new ≡ holding_all writings old)
 Leaves command old new (ending.WriteFailed role) =
     (writings : List (Output × List ℕ)) × (report : List ℕ) × IsProduct old command writings report × IsWrittenUpTo role writings old new
 Leaves command old new ending.OutOfMemory =

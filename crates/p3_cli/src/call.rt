@@ -1,12 +1,12 @@
 //! The top call.
 
-ghost use Rattle.std.specs.Prelude.{◌≡◌, ◌↔◌, IfSome, IsTrue, None};
+ghost use Rattle.std.specs.Prelude.{◌≡◌, ◌↔◌, IfErr, IfOk, IfSome, IsTrue, None, OnErr, Some};
 ghost use Rattle.p3_base.specs.Outside.{Rose};
 ghost use Rattle.p3_tree.specs.Commands.{command_of, inputs};
 ghost use Rattle.p3_cli.specs.Asked.{asked_command};
+ghost use Rattle.p3_cli.specs.Ending.{Ending, ending_of};
 ghost use Rattle.p3_cli.specs.Meaning.{IsDone, IsFaithfulRun, IsLaidOutRun};
 ghost use Rattle.p3_cli.specs.Run.{
-  Answers,
   AreHeld,
   Comes,
   Ends,
@@ -19,10 +19,9 @@ ghost use Rattle.p3_cli.specs.Run.{
 };
 ghost use Rattle.p3_cli.specs.Status as status;
 ghost use Rattle.p3_cli.specs.Store.{AreStored};
-ghost use Rattle.p3_cli.specs.declared.ending.Ending.{Ending};
 
-use crate::Ending;
 use crate::asking::asked;
+use crate::ending;
 use crate::product::product_of;
 use crate::request::Request;
 use crate::status::UNPUT;
@@ -82,44 +81,59 @@ pub fn run<F: Files, S: Sink>(alloc: Global, words: &[Word], files: &mut F, out:
     ensures ending { (how : Ending) × Ends (command_of words.now)
         (F.seen files.old) (F.seen files.new) (S.seen out.old) (S.seen out.new) result how }
 {
-    let ending = ending_of(alloc, words, files);
-    told(&ending, out)
+    carried_through(alloc, words, files, out)
 }
 
-/// How doing what the words ask for ends.
-fn ending_of<F: Files>(alloc: Global, words: &[Word], files: &mut F) -> Ending
+/// Does what the words ask for and puts the lines of how that ends, and answers the status.
+fn carried_through<F: Files, S: Sink>(
+    alloc: Global,
+    words: &[Word],
+    files: &mut F,
+    out: &mut S,
+) -> u8
     requires { IsTrue (F.seen files.old).is_sure
         → AreHeld (command_of words.now) (F.seen files.old).held }
-    ensures answers { Answers (command_of words.now)
-        (F.seen files.old) (F.seen files.new) result }
     ensures untouched { command_of words.now ≡ None → files.new ≡ files.old }
+    ensures ending { (how : Ending) × Ends (command_of words.now)
+        (F.seen files.old) (F.seen files.new) (S.seen out.old) (S.seen out.new) result how }
 {
-    match asked(words) {
-        None => Ending::Usage,
-        Some(request) => carried_out(alloc, &request, files),
+    let Some(request) = asked(words) else {
+        return told(&ending::Ending::Usage, out);
+    };
+    match carried_out(alloc, &request, files, out) {
+        Ok(status) => status,
+        Err(ending) => told(&ending, out),
     }
 }
 
-/// Carries a request out: reads its inputs in order, makes its product, and then writes its outputs
-/// in order.
-fn carried_out<F: Files>(alloc: Global, request: &Request<'_>, files: &mut F) -> Ending
+/// Carries a request out: reads its inputs in order, makes its product, writes its outputs in order
+/// and then puts the report. Answers the status, or the ending of which no line has been put.
+///
+/// A command that puts lines while it works branches off here, and answers the status in the same way.
+fn carried_out<F: Files, S: Sink>(
+    alloc: Global,
+    request: &Request<'_>,
+    files: &mut F,
+    out: &mut S,
+) -> Result<u8, ending::Ending>
     requires { IsTrue (F.seen files.old).is_sure
         → AreStored (F.seen files.old).held (inputs (asked_command request.now)) }
-    ensures comes { Comes (asked_command request.now) (F.seen files.old) (F.seen files.new) result }
-    ensures leaves { Leaves (asked_command request.now)
-        (F.seen files.old).held (F.seen files.new).held result }
+    ensures ended { IfOk result (λ status. (how : Ending) × Ends (Some (asked_command request.now))
+        (F.seen files.old) (F.seen files.new) (S.seen out.old) (S.seen out.new) status how) }
+    ensures comes { IfErr result (λ ending. Comes (asked_command request.now)
+        (F.seen files.old) (F.seen files.new) (ending_of ending)) }
+    ensures leaves { IfErr result (λ ending. Leaves (asked_command request.now)
+        (F.seen files.old).held (F.seen files.new).held (ending_of ending)) }
+    ensures unput { OnErr result (out.new ≡ out.old) }
 {
-    let inputs = match request.inputs(alloc) {
-        Ok(inputs) => inputs,
-        Err(_) => return Ending::OutOfMemory,
-    };
+    let inputs = request.inputs(alloc)?;
     let texts = match read_all(alloc, files, inputs.as_slice()) {
         Ok(texts) => texts,
-        Err(ending) => return ending,
+        Err(ending) => return Err(ending),
     };
     let product = match product_of(alloc, request, texts.as_slice()) {
         Ok(product) => product,
-        Err(ending) => return ending,
+        Err(ending) => return Err(ending),
     };
     let roles = row_of(request.kind).writes;
     match write_all(
@@ -129,17 +143,17 @@ fn carried_out<F: Files>(alloc: Global, request: &Request<'_>, files: &mut F) ->
         request.writes,
         product.texts.as_slice(),
     ) {
-        Ok(()) => Ending::Done(product.report),
-        Err(ending) => ending,
+        Ok(()) => Ok(told(&ending::Ending::Done(product.report), out)),
+        Err(ending) => Err(ending),
     }
 }
 
 /// Puts the lines of an ending, and answers the status.
-fn told<S: Sink>(ending: &Ending, out: &mut S) -> u8
-    ensures { Tells (S.seen out.old) (S.seen out.new) result ending.now }
+fn told<S: Sink>(ending: &ending::Ending, out: &mut S) -> u8
+    ensures { Tells (S.seen out.old) (S.seen out.new) result (ending_of ending.now) }
 {
     match (ending.put(out), ending) {
-        (Err(SinkFailed), Ending::Done(_)) => UNPUT,
+        (Err(SinkFailed), ending::Ending::Done(_)) => UNPUT,
         _ => ending.status(),
     }
 }

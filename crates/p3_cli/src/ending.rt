@@ -42,11 +42,11 @@ impl From<NoMemory> for Ending {
 }
 
 impl Ending {
-    ghost use Rattle.p3_cli.specs.Ending.{status_of, lines_of};
+    ghost use Rattle.p3_cli.specs.Ending.{ending_of, lines_of, status_of};
 
-    /// The status of the process, where the lines can be put.
+    /// Gives the status of the process, where the lines can be put.
     pub(crate) fn status(&self) -> u8
-        ensures { result ≡ status_of self.now }
+        ensures { result ≡ status_of (ending_of self.now) }
     {
         match self {
             Ending::Done(_) => DONE,
@@ -62,8 +62,8 @@ impl Ending {
     /// Puts the lines. It takes no memory. After a failure a first part of them is there.
     pub(crate) fn put<S: Sink>(&self, out: &mut S) -> Result<(), SinkFailed>
         ensures ok { OnOk result ((S.seen out.new).written
-            ≡ with_put (lines_of self.now) (S.seen out.old).written) }
-        ensures partly { OnErr result (IsPartlyPut (lines_of self.now)
+            ≡ with_put (lines_of (ending_of self.now)) (S.seen out.old).written) }
+        ensures partly { OnErr result (IsPartlyPut (lines_of (ending_of self.now))
             (S.seen out.old).written (S.seen out.new).written) }
         ensures failed { OnErr result (Rose (S.seen out.old).faults (S.seen out.new).faults) }
         ensures faults_grow { (S.seen out.old).faults ≤ (S.seen out.new).faults }

@@ -7,6 +7,7 @@ ghost use Rattle.p3_tree.specs.Sides.{plan_byte_limit};
 ghost use Rattle.p3_reports.specs.Faults.{fault_named};
 ghost use Rattle.p3_reports.specs.Reports.{report_text};
 ghost use Rattle.p3_eval.specs.Judged.{fault_in};
+ghost use Rattle.p3_cli.specs.Ending.{Invalid};
 ghost use Rattle.p3_cli.specs.Evaluation.{
   IsEvaluation,
   IsFaultOf,
@@ -22,7 +23,6 @@ ghost use Rattle.p3_cli.specs.Refusing.{
   all_texts,
 };
 ghost use Rattle.p3_cli.specs.Translation.{CanBeCompiled};
-ghost use Rattle.p3_cli.specs.declared.ending.Ending.TheVariants.{Invalid};
 
 use crate::Ending;
 use crate::acceptance::{accepted, readable_plan, spelled_task};
@@ -45,7 +45,7 @@ pub(crate) fn evaluate(alloc: Global, texts: &Texts<'_>) -> Result<Report, Endin
     judged(alloc, &whole, texts.plan)
 }
 
-/// The task for which a plan is judged, where nothing is refused of it and of the plan's text.
+/// Accepts the task for which a plan is judged, where nothing is refused of it and of that plan.
 pub(crate) fn judged_task(alloc: Global, texts: &Texts<'_>) -> Result<Whole, Ending>
     ensures accepted { IfOk result (λ whole.
         AreAcceptedFor Source (all_texts texts.now) whole.checked.task) }
@@ -65,7 +65,7 @@ pub(crate) fn judged_task(alloc: Global, texts: &Texts<'_>) -> Result<Whole, End
     }
 }
 
-/// The report of the plan of a text for an accepted task, where it is valid.
+/// Judges the plan of a text for an accepted task: the report, where it is valid.
 fn judged(alloc: Global, whole: &Whole, plan: &[u8]) -> Result<Report, Ending>
     requires short { length plan.now ≤ plan_byte_limit }
     requires free { plan_offence plan.now ≡ None }
@@ -81,7 +81,7 @@ fn judged(alloc: Global, whole: &Whole, plan: &[u8]) -> Result<Report, Ending>
     }
 }
 
-/// The ending that says the first fault of a plan.
+/// Gives the ending that says the first fault of a plan.
 pub(crate) fn invalid(fault: &PlanFault) -> Ending
     ensures { IsRejectedBy (λ how. how ≡ Invalid (fault_named (fault_in fault.now))) result }
 {
