@@ -2,12 +2,11 @@
 
 ghost use Rattle.std.specs.Prelude.{◌≡◌, ◌≢◌, ◌↔◌, ◌⊎◌, None, Some};
 ghost use Rattle.p3_tree.specs.Commands.{command_of};
-ghost use Rattle.p3_cli.specs.Ending.{status_of};
+ghost use Rattle.p3_cli.specs.Ending.{Ending, status_of};
 ghost use Rattle.p3_cli.specs.Meaning.{IsDone, IsFaithfulRun};
 ghost use Rattle.p3_cli.specs.Run.{AreHeld, Ends, IsAcceptedIn, IsRejectedIn};
 ghost use Rattle.p3_cli.specs.Status as status;
 ghost use Rattle.p3_cli.specs.Sure.{sure_files, sure_sink};
-ghost use Rattle.p3_cli.specs.declared.ending.Ending.{Ending};
 
 use crate::run;
 use p3_base::{SureFiles, SureSink, Word};
