@@ -30,10 +30,13 @@ FilesUnder under item old new = (name : Bor (List ℕ)) → items_in (new name) 
 abbrev pub AreFiled : List Typed → Lookup → Type 0
 AreFiled items table = (name : Bor (List ℕ)) → items_in (table name) ≡ declared_as name.now items
 
--- ---- objects that are declared more than once
+-- ---- objects that are declared more than a few times
+
+abbrev pub few : ℕ
+few = 16
 
 abbrev pub is_repeated : List Typed → Name → Bool
-is_repeated items name = nat_lt 1 (length (declared_as name items))
+is_repeated items name = nat_lt few (length (declared_as name items))
 
 -- those of some declarations whose name is repeated among all
 abbrev pub repeated_in : List Typed → List Typed → List Typed

@@ -1,5 +1,5 @@
 -- What fits a list of types.
-use Rattle.std.specs.Prelude.{◌≡◌, Bool, false, List, [], ◌∷◌, flat_map, length, nat_lt, if◌then◌else◌, Option, Some, None}
+use Rattle.std.specs.Prelude.{◌≡◌, Bool, false, List, [], ◌∷◌, flat_map, if◌then◌else◌, Option, Some, None}
 use Rattle.std.specs.List.{list_any, list_all}
 use Rattle.p3_tree.specs.Names.{Name, has_name}
 use Rattle.p3_tree.specs.Types.{declared_objects, is_below_some, is_object_of, type_names}
@@ -7,7 +7,7 @@ use Rattle.p3_tree.specs.declared.term.Ref.{Ref}
 use Rattle.p3_tree.specs.declared.term.Typed.{Typed}
 use Rattle.p3_tree.specs.declared.task.Task.{Task}
 use Rattle.p3_names.specs.Objects.{fits, name_of}
-use Rattle.p3_offences.specs.ByName.{declared_as, repeated_items}
+use Rattle.p3_offences.specs.ByName.{declared_as, is_repeated, repeated_items}
 
 abbrev pub name_where_fit : Task → List Ref → Typed → List Name
 name_where_fit T types item = if fits T types item then name_of item ∷ [] else []
@@ -16,14 +16,14 @@ name_where_fit T types item = if fits T types item then name_of item ∷ [] else
 abbrev pub fitting_names : Task → List Ref → List Typed → List Name
 fitting_names T types items = flat_map (name_where_fit T types) items
 
--- the table has the objects of repeated names that some declaration makes fit
+-- the table has the objects of names repeated more than a few times that some declaration makes fit
 abbrev pub HasFitting : Task → List Ref → List Name → Type 0
 HasFitting T types table = (name : Name) → has_name table name ≡ has_name (fitting_names T types (repeated_items (declared_objects T))) name
 
--- what is found of an object: an entry of the table where its name is repeated, or its declaration
+-- what is found of an object: an entry of the table where its name is repeated more than a few times, or one of its declarations
 abbrev pub found_fits : Task → List Ref → List Typed → List Name → Name → Bool
 found_fits T types all table name =
-    if nat_lt 1 (length (declared_as name all)) then has_name table name else list_any (fits T types) (declared_as name all)
+    if is_repeated all name then has_name table name else list_any (fits T types) (declared_as name all)
 
 -- whether an object is of the types of a parameter; where there is no parameter none is
 abbrev pub object_fits_at : Task → Option Typed → Name → Bool

@@ -91,6 +91,9 @@ fn has_fitting(below: &Below, items: &[&Typed]) -> bool
     any_fits(below, items)
 }
 
+/// How many declarations of an object are looked through each time that it is asked for.
+const FEW: usize = 16;
+
 /// The declarations of a task's objects, by name.
 #[derive(Drop)]
 pub(crate) struct ByName<'t> {
@@ -108,13 +111,13 @@ impl<'t> ByName<'t> {
         Ok(ByName { task, table })
     }
 
-    /// Whether more than one has the name.
+    /// Whether more than a few have the name.
     pub(crate) fn is_repeated(&self, name: &Name) -> bool
         ensures { result ≡ is_repeated (declared_objects self.now.task.now) name.now }
     {
         match self.table.get(name.bytes()) {
             None => false,
-            Some(found) => found.len() > 1,
+            Some(found) => found.len() > FEW,
         }
     }
 
@@ -130,7 +133,7 @@ impl<'t> ByName<'t> {
         }
     }
 
-    /// A declaration goes last where its name is repeated.
+    /// A declaration goes last where its name is repeated more than a few times.
     fn keep(&self, repeated: &mut Vec<&'t Typed>, item: &'t Typed) -> Result<(), NoMemory>
         ensures { OnOk result (map (λ item. item.now) repeated.new.items
             ≡ map (λ item. item.now) repeated.old.items
@@ -142,7 +145,7 @@ impl<'t> ByName<'t> {
         Ok(())
     }
 
-    /// Declarations go last where their names are repeated.
+    /// Declarations go last where their names are repeated more than a few times.
     fn keep_all(&self, repeated: &mut Vec<&'t Typed>, items: &'t [Typed]) -> Result<(), NoMemory>
         ensures { OnOk result (map (λ item. item.now) repeated.new.items
             ≡ map (λ item. item.now) repeated.old.items
@@ -154,7 +157,7 @@ impl<'t> ByName<'t> {
         Ok(())
     }
 
-    /// The declarations whose names are repeated.
+    /// The declarations whose names are repeated more than a few times.
     pub(crate) fn repeated(&self, alloc: Global) -> Result<Vec<&'t Typed>, NoMemory>
         ensures { IfOk result (λ repeated. map (λ item. item.now) repeated.items
             ≡ repeated_items (declared_objects self.now.task.now)) }

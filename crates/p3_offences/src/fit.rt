@@ -17,7 +17,7 @@ use std::alloc::Global;
 #[derive(Drop)]
 pub(crate) struct Fit<'t> {
     below: Below<'t>,
-    /// The objects that are declared more than once, where one of the declarations fits.
+    /// The objects that are declared more than a few times, where one of the declarations fits.
     repeated: Names,
     ghost told: { HasFitting below.task.now below.types.now repeated },
 }
@@ -57,7 +57,7 @@ fn fitting(alloc: Global, below: &Below, items: &[&Typed]) -> Result<Names, NoMe
 }
 
 impl<'t> Fit<'t> {
-    /// What fits the list; these are the declarations of repeated names.
+    /// What fits the list; these are the declarations of names repeated more than a few times.
     pub(crate) fn of(
         alloc: Global,
         kinds: &Kinds<'t>,
