@@ -22,7 +22,7 @@ use Rattle.p3_run.specs.Groups.{AreModalsBelow, modals_of, modals_at, modal_at, 
 use Rattle.p3_formula.specs.AtomLists.{atoms_of, modal_atoms}
 use Rattle.p3_run.specs.Readers.{readers_at, filed, filed_all, is_same, IsFiled, IsBefore, AreFiledTo, AreReaders, is_same_by, ends, with_reader}
 use Rattle.p3_run.specs.declared.readers.Reader.{Reader}
-use Rattle.p3_formula.proofs.AtomLists.{has_listed}
+use Rattle.p3_formula.proofs.AtomLists.{read_named}
 
 -- ---- one operator is filed
 
@@ -122,24 +122,7 @@ module _ (reader : Reader) where
     all_within [] readers all = all
     all_within (atom ∷ atoms) readers all = all_within atoms (filed reader readers atom) (one_within readers atom all)
 
--- ---- the atoms that an operator reads
-
-all_flat : {A B : Type 0} (test : B → Bool) (f : A → List B) (xs : List A) → list_all (λ x. list_all test (f x)) xs ≡ list_all test (flat_map f xs)
-all_flat test f [] = refl
-all_flat test f (x ∷ xs) = ap (λ b. list_all test (f x) && b) (all_flat test f xs) ∙ sym (list_all-append test (f x) (flat_map f xs))
-
-some_not : (one : ℕ) (atoms : List ℕ) → not (list_all (is_other one) atoms) ≡ list_any (λ atom. atom == one) atoms
-some_not one [] = refl
-some_not one (atom ∷ atoms) = outside (atom == one) (list_all (is_other one) atoms) ∙ ap (λ b. (atom == one) || b) (some_not one atoms) where
-  outside : (a b : Bool) → not (not a && b) ≡ (a || not b)
-  outside true b = refl
-  outside false b = refl
-
-read_named : (modal : GroundModal) (atom : ℕ) → is_read modal atom ≡ list_any (λ one. one == atom) (modal_atoms modal)
-read_named modal atom =
-    (λ i. not (list_all (λ form. has_listed (is_other atom) form i) (forms_of modal)))
-    ∙ ap not (all_flat (is_other atom) atoms_of (forms_of modal))
-    ∙ some_not atom (modal_atoms modal)
+-- ---- readers in turn
 
 pub same_reader : (reader other : Reader) → reader.group ≡ other.group → reader.place ≡ other.place → reader ≡ other
 same_reader reader other group place = λ i. record { group = group i; place = place i }

@@ -69,11 +69,7 @@ module _ (W : List State) (next : State) where
 pub stage_begins : (state : State) (modal : GroundModal) → next_stage state modal (fresh modal) ≡ stage_of (state ∷ []) modal
 unfolding ground_sat
 stage_begins state (AtEnd f) = stage_next [] state (AtEnd f)
-stage_begins state (Always f) = stage_next [] state (Always f)
-stage_begins state (Sometime f) = stage_next [] state (Sometime f)
-stage_begins state (AtMostOnce f) = stage_next [] state (AtMostOnce f)
-stage_begins state (SometimeAfter f g) = stage_next [] state (SometimeAfter f g)
-stage_begins state (SometimeBefore f g) = stage_next [] state (SometimeBefore f g)
+stage_begins state modal = stage_next [] state modal
 
 -- ---- the same state twice
 

@@ -12,21 +12,14 @@ use Rattle.p3_run.specs.declared.stages.Stage.{Stage}
 
 -- the formula that is to come first, or that is to hold once at most, has held
 abbrev pub has_seen : List State → GroundModal → Bool
-has_seen W (AtEnd f) = false
-has_seen W (Always f) = false
-has_seen W (Sometime f) = false
 has_seen W (AtMostOnce f) = some (length W) (holds_at W f)
-has_seen W (SometimeAfter f g) = false
 has_seen W (SometimeBefore f g) = some (length W) (holds_at W g)
+has_seen W _ = false
 
 -- the formula that is to hold once at most holds in the last state
 abbrev pub has_held : List State → GroundModal → Bool
-has_held W (AtEnd f) = false
-has_held W (Always f) = false
-has_held W (Sometime f) = false
 has_held W (AtMostOnce f) = truth (last_of W) f
-has_held W (SometimeAfter f g) = false
-has_held W (SometimeBefore f g) = false
+has_held W _ = false
 
 -- the stage is right of the states visited so far
 abbrev pub stage_of : List State → GroundModal → Stage
@@ -39,12 +32,8 @@ abbrev pub accepting : Bool → Stage
 accepting accepts = record { accepts = accepts; seen = false; held = false }
 
 abbrev pub fresh : GroundModal → Stage
-fresh (AtEnd f) = accepting true
-fresh (Always f) = accepting true
 fresh (Sometime f) = accepting false
-fresh (AtMostOnce f) = accepting true
-fresh (SometimeAfter f g) = accepting true
-fresh (SometimeBefore f g) = accepting true
+fresh _ = accepting true
 
 -- it came back where it has held, does not hold in the last state, and holds now
 abbrev pub next_once : Bool → Stage → Stage

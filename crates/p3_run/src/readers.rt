@@ -93,15 +93,11 @@ fn push_modal(
     ensures { OnOk result
         (readers.new.items ≡ filed_all reader readers.old.items (modal_atoms modal.now)) }
 {
-    match modal {
-        GroundModal::AtEnd(form)
-        | GroundModal::Always(form)
-        | GroundModal::Sometime(form)
-        | GroundModal::AtMostOnce(form) => push_form(readers, form, reader),
-        GroundModal::SometimeAfter(first, second) | GroundModal::SometimeBefore(first, second) => {
-            push_form(readers, first, reader)?;
-            push_form(readers, second, reader)
-        }
+    let forms = modal.forms();
+    push_form(readers, forms.first, reader)?;
+    match forms.second {
+        Some(form) => push_form(readers, form, reader),
+        None => Ok(()),
     }
 }
 

@@ -21,14 +21,7 @@ pub(crate) struct Stage {
 pub(crate) fn fresh(modal: &GroundModal) -> Stage
     ensures { result ≡ kept.fresh modal.now }
 {
-    match modal {
-        GroundModal::Sometime(_) => accepting(false),
-        GroundModal::AtEnd(_)
-        | GroundModal::Always(_)
-        | GroundModal::AtMostOnce(_)
-        | GroundModal::SometimeAfter(_, _)
-        | GroundModal::SometimeBefore(_, _) => accepting(true),
-    }
+    accepting(!matches!(modal, GroundModal::Sometime(_)))
 }
 
 /// A stage of which nothing but its answer matters.
