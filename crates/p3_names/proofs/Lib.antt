@@ -3,7 +3,7 @@ pub mod ScopeLemmas
 pub mod KindLemmas
 pub mod SearchLemmas
 pub mod ObjectLemmas
-pub mod PreferenceLemmas
 pub mod ReachLemmas
 pub mod SpanLemmas
 pub mod PlaceLemmas
+pub mod UseLemmas

@@ -11,9 +11,9 @@ use Rattle.std.proofs.lemmas.List.{map-append, length-map}
 use Rattle.p3_tree.specs.declared.term.Typed.{Typed}
 use Rattle.p3_tree.specs.Types.{type_names}
 use Rattle.p3_tree.specs.Uses.{scope_of}
-use Rattle.std.specs.Prelude.{reverse, is_some}
+use Rattle.std.specs.Prelude.{reverse, is_some, drop}
 use Rattle.std.specs.List.{list_any}
-use Rattle.std.proofs.lemmas.List.{reverse-append, reverse-reverse, get_or-reverse, take-take, take_more, length-reverse, take_all}
+use Rattle.std.proofs.lemmas.List.{reverse-append, reverse-reverse, get_or-reverse, take-take, take_more, length-reverse, take_all, take-append-drop, take_at, length-drop, drop-map}
 use Rattle.p3_tree.specs.Slots.{place_after, slot_of, words_of}
 use Rattle.p3_names.specs.Scopes.{scope_seen, hidden_after, hidden_by, Indexed}
 
@@ -199,6 +199,22 @@ scope_seen-enter variables more =
     ap scope_of (reverse-append variables (reverse more) ∙ (λ i. reverse-reverse more i ++ reverse variables))
     ∙ map-append (λ (variable : Typed). (variable.name.name, type_names variable.types)) more (reverse variables)
 
+-- the scope without its innermost variables
+pub scope_seen-leave : (variables : List Typed) (count : ℕ) → scope_seen (take (length variables - count) variables) ≡ drop count (scope_seen variables)
+scope_seen-leave variables count = ap scope_of (ap reverse cut ∙ reverse-reverse (drop count inner)) ∙ sym (drop-map (λ (variable : Typed). (variable.name.name, type_names variable.types)) count inner)
+  where
+    inner : List Typed
+    inner = reverse variables
+
+    split : variables ≡ reverse (drop count inner) ++ reverse (take count inner)
+    split = sym (reverse-reverse variables) ∙ ap reverse (sym (take-append-drop count inner)) ∙ reverse-append (take count inner) (drop count inner)
+
+    size : length (reverse (drop count inner)) ≡ length variables - count
+    size = length-reverse (drop count inner) ∙ length-drop count inner ∙ ap (λ n. n - count) (length-reverse variables)
+
+    cut : take (length variables - count) variables ≡ reverse (drop count inner)
+    cut = ap (take (length variables - count)) split ∙ take_at (reverse (drop count inner)) (reverse (take count inner)) (length variables - count) size
+
 declared-inner : (inner : List Typed) (name : Name) → list_any (λ (entry : Name × List Name). same_name entry.0 name) (scope_of inner) ≡ is_some (slot_of (words_of (reverse inner)) name)
 declared-inner [] name = refl
 declared-inner (variable ∷ inner) name =
@@ -217,5 +233,7 @@ pub declared-slot : (variables : List Typed) (name : Name) → list_any (λ (ent
 declared-slot variables name = declared-inner (reverse variables) name ∙ ap (λ all. is_some (slot_of (words_of all) name)) (reverse-reverse variables)
 
 pub ruleset enter_laws = (scope_seen-enter, take_whole, entered)
+
+pub ruleset leave_laws = (scope_seen-leave)
 
 pub ruleset scope_laws = (declared-slot)

@@ -1,6 +1,6 @@
 -- The search for all types below others, which takes types that stand together at once.
 use Rattle.std.proofs.Common.{◌≡◌, ◌∙◌, ◌⊎◌, inl, inr, ⊎_elim, ℕ, ◌+◌, ◌<◌, ◌≤◌, Bool, true, false, ◌&&◌, ◌||◌, List, [], ◌∷◌, ◌++◌, length, take, get_or, refl, sym, ap, subst, arith}
-use Rattle.std.specs.Prelude.{All, Contains, slice_get, nat_lt, not, Option, Some}
+use Rattle.std.specs.Prelude.{All, Contains, nat_lt, not, Option}
 use Rattle.std.specs.List.{list_any}
 use Rattle.std.proofs.lemmas.Bool.{false≢true, and_parts}
 use borrow.Author.Tests.{ltb-true, ltb-false, not-true, lt-ltb, le-ltb}

@@ -1,5 +1,5 @@
 -- The types that are declared directly below others, and those that a search finds.
-use Rattle.std.specs.Prelude.{◌≡◌, ℕ, Bool, List, [], ◌∷◌, ◌++◌, map, flat_map, filter_map, take, if◌then◌else◌, Option, Some, None, All, Contains}
+use Rattle.std.specs.Prelude.{◌≡◌, ℕ, Bool, List, [], ◌∷◌, ◌++◌, map, flat_map, filter_map, if◌then◌else◌, Option, Some, None, Contains}
 use denote.Ref.{Bor}
 use Rattle.p3_tree.specs.Names.{Name, same_name}
 use Rattle.p3_tree.specs.Types.{pair_of, is_below_some}

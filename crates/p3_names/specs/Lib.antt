@@ -7,3 +7,5 @@ pub mod Walks
 pub mod Nexts
 pub mod Reaches
 pub mod Spans
+pub mod Uses
+pub mod Preferences

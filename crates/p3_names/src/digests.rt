@@ -3,14 +3,13 @@
 ghost use Rattle.std.specs.Prelude.{◌≡◌, [], ◌++◌, flat_map, map};
 ghost use Rattle.std.specs.Hash.DefaultHasher as sip;
 ghost use Rattle.p3_tree.specs.Offences.{kind_names};
-ghost use Rattle.p3_tree.specs.PreferenceNames.{named_at, named_in_constraint, named_in_domain, named_in_goal, named_in_problem};
 ghost use Rattle.p3_tree.specs.States.{meaning, meanings};
 ghost use Rattle.p3_tree.specs.Types.{declared_objects, names_of};
-ghost use Rattle.p3_names.specs.Keys.{parameter_types, start_after, start_of, told_all, told_more, told_named, value_words};
+ghost use Rattle.p3_names.specs.Keys.{parameter_types, start_of, told_all, told_more, value_words};
 
 use crate::{Digest, Key};
 use p3_base::Name;
-use p3_tree::{Action, Constraint, Header, Init, Kind, PreGoal, Ref, Task, Term, Typed};
+use p3_tree::{Header, Init, Kind, Ref, Task, Term, Typed};
 
 /// A type and its parent are told.
 fn tell_kind(digest: &mut Digest, kind: &Kind)
@@ -160,89 +159,5 @@ pub fn value_key(entries: &[Init]) -> Key
     for entry in entries {
         tell_value(&mut digest, entry);
     }
-    digest.key()
-}
-
-/// A preference's name is told, where it has one.
-fn tell_name(digest: &mut Digest, at: u32, name: &Option<Ref>)
-    ensures { digest.new.told ≡ told_named digest.old.told (named_at at name.now) }
-{
-    if let Some(word) = name {
-        digest.tell(word.name.bytes());
-    }
-}
-
-/// The names of the preferences of a constraint are told.
-#[cycle(constraints)]
-#[tactic(auto, using(crate::proofs::PreferenceLemmas::preference_laws))]
-fn tell_constraint(digest: &mut Digest, constraint: &Constraint)
-    ensures { digest.new.told ≡ told_named digest.old.told (named_in_constraint constraint.now) }
-{
-    match constraint {
-        Constraint::Both(parts) => tell_constraints(digest, parts.items()),
-        Constraint::Each(_, body) => tell_constraint(digest, body.get()),
-        Constraint::Single(_) => {}
-        Constraint::Soft { at, name, body } => {
-            tell_name(digest, *at, name);
-            tell_constraint(digest, body.get());
-        }
-    }
-}
-
-/// The names of the preferences of each constraint are told.
-#[cycle(constraints)]
-fn tell_constraints(digest: &mut Digest, parts: &[Constraint])
-    ensures { digest.new.told
-        ≡ told_named digest.old.told (flat_map named_in_constraint parts.now) }
-{
-    for part in parts {
-        tell_constraint(digest, part);
-    }
-}
-
-/// The names of the preferences of a goal are told.
-#[cycle(goals)]
-#[tactic(auto, using(crate::proofs::PreferenceLemmas::preference_laws))]
-fn tell_goal(digest: &mut Digest, goal: &PreGoal)
-    ensures { digest.new.told ≡ told_named digest.old.told (named_in_goal goal.now) }
-{
-    match goal {
-        PreGoal::Plain(_) => {}
-        PreGoal::Both(parts) => tell_goals(digest, parts.items()),
-        PreGoal::Each(_, body) => tell_goal(digest, body.get()),
-        PreGoal::Soft(pref) => tell_name(digest, pref.at, &pref.name),
-    }
-}
-
-/// The names of the preferences of each goal are told.
-#[cycle(goals)]
-fn tell_goals(digest: &mut Digest, parts: &[PreGoal])
-    ensures { digest.new.told ≡ told_named digest.old.told (flat_map named_in_goal parts.now) }
-{
-    for part in parts {
-        tell_goal(digest, part);
-    }
-}
-
-/// The names of the preferences of each precondition are told.
-fn tell_actions(digest: &mut Digest, actions: &[Action])
-    ensures { digest.new.told ≡ told_named digest.old.told
-        (flat_map (λ action. named_in_goal action.pre.body) actions.now) }
-{
-    for action in actions {
-        tell_goal(digest, &action.pre.body);
-    }
-}
-
-/// The key of the names of a task's preferences.
-pub fn preference_key(task: &Task) -> Key
-    ensures { result.start ≡ start_after (told_named sip.initial
-        (named_in_domain task.now.domain ++ named_in_problem task.now.problem)) }
-{
-    let mut digest = Digest::new();
-    tell_constraint(&mut digest, &task.domain.constraints.body);
-    tell_actions(&mut digest, task.domain.actions.items());
-    tell_constraint(&mut digest, &task.problem.constraints.body);
-    tell_goal(&mut digest, &task.problem.goal.body);
     digest.key()
 }

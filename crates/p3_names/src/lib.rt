@@ -7,20 +7,23 @@ mod kinds;
 mod names;
 mod objects;
 mod order;
+mod preferences;
 mod reaches;
 mod scope;
 mod span;
 mod type_lists;
+mod uses;
 mod walk;
 mod words;
 
 pub use digests::{
-    item_key, kind_digest, list_key, listed_key, name_key, object_key, parameter_key,
-    preference_key, value_key,
+    item_key, kind_digest, list_key, listed_key, name_key, object_key, parameter_key, value_key,
 };
 pub use keys::{Digest, Key};
 pub use kinds::{Below, Kinds};
 pub use names::Names;
 pub use objects::Objects;
+pub use preferences::{Named, named_key};
 pub use scope::Scope;
 pub use type_lists::TypeLists;
+pub use uses::{Visit, Visits};

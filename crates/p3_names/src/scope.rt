@@ -1,6 +1,6 @@
 //! The variables in scope, found in the order of their names.
 
-ghost use Rattle.std.specs.Prelude.{◌≡◌, ◌<◌, ◌-◌, ◌++◌, ◌∷◌, [], length, take, reverse, slice_get, Some, OnOk, OnErr};
+ghost use Rattle.std.specs.Prelude.{◌≡◌, ◌<◌, ◌-◌, ◌++◌, ◌∷◌, [], length, take, drop, reverse, slice_get, Some, OnOk, OnErr};
 ghost use Rattle.p3_tree.specs.Uses.{scope_of};
 ghost use Rattle.p3_tree.specs.Slots.{slot_of, words_of};
 ghost use Rattle.p3_names.specs.Scopes.{scope_seen};
@@ -148,5 +148,13 @@ impl<'t> Scope<'t> {
             self.push(&variables[variables.len() - 1 - k])?;
         }
         Ok(())
+    }
+
+    /// Without so many of the innermost variables.
+    #[tactic(auto, using(crate::proofs::ScopeLemmas::leave_laws))]
+    pub fn leave(&mut self, count: usize)
+        ensures { scope_seen self.new ≡ drop count (scope_seen self.old) }
+    {
+        self.truncate(self.len().saturating_sub(count));
     }
 }

@@ -10,4 +10,3 @@ pub mod RangeLemmas
 pub mod SortLemmas
 pub mod StartLemmas
 pub mod TermLemmas
-pub mod WordLemmas

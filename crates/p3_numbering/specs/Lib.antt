@@ -1,5 +1,4 @@
 pub mod Listed
 pub mod Ranges
 pub mod Tables
-pub mod Texts
 pub mod Words

@@ -1,16 +1,12 @@
--- Names as they stand in the trees of a task.
+-- Names as they stand in the trees of a task, borrowed.
 use Rattle.std.specs.Prelude.{List, map, ◌++◌}
+use denote.Ref.{Bor}
 use Rattle.p3_tree.specs.Names.{Name}
 use Rattle.p3_tree.specs.PreferenceNames as tree
-pub use Rattle.p3_numbering.specs.Texts.{names_in}
 use Rattle.p3_tree.specs.declared.task.Task.{Task}
-use Rattle.p3_numbering.specs.declared.words.Named.{Named}
 
-abbrev pub named_word : Named → tree.Named
-named_word named = record { at = named.at; name = named.name.now }
-
-abbrev pub named_in : List Named → List tree.Named
-named_in found = map named_word found
+abbrev pub names_in : List (Bor Name) → List Name
+names_in words = map (λ (word : Bor Name). word.now) words
 
 abbrev pub name_of : tree.Named → Name
 name_of named = named.name

@@ -4,7 +4,7 @@ ghost use Rattle.std.specs.Prelude.{◌≡◌, ◌++◌, ◌∷◌, [], if◌the
 ghost use Rattle.p3_tree.specs.Names.{has_name};
 ghost use Rattle.p3_tree.specs.Types.{once_each};
 ghost use Rattle.p3_numbers.specs.Places.{number_in};
-ghost use Rattle.p3_numbering.specs.Texts.{names_in};
+ghost use Rattle.p3_numbering.specs.Words.{names_in};
 
 use p3_base::{List, Name, NoMemory, as_number};
 use p3_names::{Names, name_key};

@@ -2,7 +2,6 @@ pub mod ByNameLemmas
 pub mod ClashLemmas
 pub mod FirstLemmas
 pub mod FitLemmas
-pub mod FormLemmas
 pub mod FoundLemmas
 pub mod GivenLemmas
 pub mod HeaderLemmas

@@ -3,29 +3,21 @@ use Rattle.std.proofs.Common.{◌≡◌, ◌∙◌, ℕ, Bool, true, false, ◌|
 use Rattle.std.specs.Prelude.{flat_map, cond, is_some}
 use Rattle.std.specs.List.{list_any}
 use Rattle.std.proofs.lemmas.List.{map-append}
-use Rattle.std.proofs.lemmas.List.Folds.{list_any-append, flat_map-map}
+use Rattle.std.proofs.lemmas.List.Folds.{list_any-append}
 use Rattle.p3_tree.specs.Names.{Name, same_name, has_name}
 use Rattle.p3_tree.specs.Offences.{kind_names, is_declared}
-use Rattle.p3_tree.specs.PreferenceNames.{Named, named_at, goal_names_layer, constraint_names_layer, named_in_goal, named_in_constraint, named_in_domain, named_in_problem, preference_names}
+use Rattle.p3_tree.specs.PreferenceNames as tree
+use Rattle.p3_tree.specs.PreferenceNames.{named_in_goal, named_in_constraint, named_in_domain, preference_names}
 use Rattle.p3_tree.specs.declared.term.Ref.{Ref}
 use Rattle.p3_tree.specs.declared.term.Typed.{Typed}
-use Rattle.p3_tree.specs.declared.formula.Formula.{Formula}
-use Rattle.p3_tree.specs.declared.goal.Pref.{Pref}
-use Rattle.p3_tree.specs.declared.constraint.Modal.{Modal}
-use Rattle.p3_tree.specs.declared.goal.PreGoal.{PreGoal}
-use Rattle.p3_tree.specs.declared.goal.PreGoal.TheVariants as goal
-use Rattle.p3_tree.specs.declared.constraint.Constraint.{Constraint}
-use Rattle.p3_tree.specs.declared.constraint.Constraint.TheVariants as constraint
-use Rattle.p3_tree.specs.declared.task.Action.{Action}
-use Rattle.p3_tree.specs.declared.task.Domain.{Domain}
 use Rattle.p3_tree.specs.declared.task.Kind.{Kind}
-use Rattle.p3_tree.specs.declared.task.Problem.{Problem}
 use Rattle.p3_tree.specs.declared.task.Task.{Task}
-use Rattle.p3_tree.proofs.Computes.{trees_compute}
-use Rattle.p3_tree.proofs.FoldLemmas.{fold_goal-Both, fold_constraint-Both}
 use Rattle.p3_names.specs.Names.{Adds}
+use Rattle.p3_names.specs.Preferences.{named_in}
+use Rattle.p3_names.specs.Uses.{Seen, domain_seen, problem_seen}
+use Rattle.p3_names.specs.declared.preferences.Named.{Named}
 use Rattle.p3_names.proofs.NameLemmas.{adds-append}
-use Rattle.p3_offences.specs.Tables.{Has, name_of_word, goal_names, constraint_names, Placed, first_named, item_of}
+use Rattle.p3_offences.specs.Tables.{Has, name_of_word, Placed, first_named, item_of}
 
 pub looked : (table names : List Name) (name : Name) → Has table names → has_name table name ≡ has_name names name
 looked table names name has = λ i. has i name
@@ -45,71 +37,39 @@ adds-kind old now new kind before after = subst (λ names. Adds old names new) (
 
 -- ---- preferences
 
-module _ {A B C : Type 0} (f : B → C) (g : A → List B) where
-  map-each : (xs : List A) → map f (flat_map g xs) ≡ flat_map (λ x. map f (g x)) xs
-  map-each [] = refl
-  map-each (x ∷ xs) = map-append f (g x) (flat_map g xs) ∙ ap (λ rest. map f (g x) ++ rest) (map-each xs)
+names-listed : (items : List Named) → flat_map (λ (one : Named). one.name.now ∷ []) items ≡ map (λ (named : tree.Named). named.name) (named_in items)
+names-listed [] = refl
+names-listed (item ∷ items) = ap (λ rest. item.name.now ∷ rest) (names-listed items)
 
-names-at : (at : ℕ) (name : Option Ref) → map (λ (named : Named). named.name) (named_at at name) ≡ name_of_word name
-names-at at None = refl
-names-at at (Some word) = refl
+pub adds-named : (items : List Named) (named : List tree.Named) (old table : List Name) → old ≡ [] → named_in items ≡ named → Adds old (flat_map (λ (one : Named). one.name.now ∷ []) items) table
+    → Adds [] (map (λ (one : tree.Named). one.name) named) table
+adds-named items named old table empty is adds = subst (λ names. Adds [] names table) (names-listed items ∙ ap (map (λ (one : tree.Named). one.name)) is)
+    (subst (λ before. Adds before (flat_map (λ (one : Named). one.name.now ∷ []) items) table) empty adds)
 
-pub goal_names-Both : (parts : List PreGoal) → goal_names (goal.Both parts) ≡ flat_map goal_names parts
-unfolding named_in_goal
-goal_names-Both parts =
-    ap (map (λ (named : Named). named.name)) (fold_goal-Both goal_names_layer parts ∙ flat_map-map (λ part. part) named_in_goal parts) ∙ map-each (λ (named : Named). named.name) named_in_goal parts
+or-turn : (a b : Bool) → (a || b) ≡ (b || a)
+or-turn true true = refl
+or-turn true false = refl
+or-turn false true = refl
+or-turn false false = refl
 
-pub constraint_names-Both : (parts : List Constraint) → constraint_names (constraint.Both parts) ≡ flat_map constraint_names parts
-unfolding named_in_constraint
-constraint_names-Both parts =
-    ap (map (λ (named : Named). named.name)) (fold_constraint-Both constraint_names_layer parts ∙ flat_map-map (λ part. part) named_in_constraint parts)
-    ∙ map-each (λ (named : Named). named.name) named_in_constraint parts
+module _ (name : Name) where
+  is_there : List tree.Named → Bool
+  is_there named = has_name (map (λ (one : tree.Named). one.name) named) name
 
--- the other forms compute
-pub goal_names-Plain : (body : Formula) → goal_names (goal.Plain body) ≡ []
-unfolding trees_compute named_in_goal
-goal_names-Plain body = refl
+  there-append : (xs ys : List tree.Named) → is_there (xs ++ ys) ≡ (is_there xs || is_there ys)
+  there-append xs ys = ap (λ names. has_name names name) (map-append (λ (one : tree.Named). one.name) xs ys)
+      ∙ list_any-append (λ one. same_name one name) (map (λ (one : tree.Named). one.name) xs) (map (λ (one : tree.Named). one.name) ys)
 
-pub goal_names-Each : (variables : List Typed) (body : PreGoal) → goal_names (goal.Each variables body) ≡ goal_names body
-unfolding trees_compute named_in_goal
-goal_names-Each variables body = refl
+  there-turn : (first xs ys : List tree.Named) → is_there (first ++ (xs ++ ys)) ≡ is_there (first ++ (ys ++ xs))
+  there-turn first xs ys = there-append first (xs ++ ys) ∙ (λ i. is_there first || (there-append xs ys ∙ or-turn (is_there xs) (is_there ys) ∙ sym (there-append ys xs)) i)
+      ∙ sym (there-append first (ys ++ xs))
 
-pub goal_names-Soft : (pref : Pref) → goal_names (goal.Soft pref) ≡ name_of_word pref.name
-unfolding trees_compute named_in_goal
-goal_names-Soft pref = names-at pref.at pref.name
-
-pub constraint_names-Each : (variables : List Typed) (body : Constraint) → constraint_names (constraint.Each variables body) ≡ constraint_names body
-unfolding trees_compute named_in_constraint
-constraint_names-Each variables body = refl
-
-pub constraint_names-Single : (modal : Modal) → constraint_names (constraint.Single modal) ≡ []
-unfolding trees_compute named_in_constraint
-constraint_names-Single modal = refl
-
-pub constraint_names-Soft : (at : ℕ) (name : Option Ref) (body : Constraint) → constraint_names (constraint.Soft at name body) ≡ name_of_word name ++ constraint_names body
-unfolding trees_compute named_in_constraint
-constraint_names-Soft at name body =
-    map-append (λ (named : Named). named.name) (named_at at name) (named_in_constraint body) ∙ ap (λ first. first ++ constraint_names body) (names-at at name)
-
-pub adds-domain : (old now new : List Name) (D : Domain) → Adds old (constraint_names D.constraints.body) now → Adds now (flat_map (λ action. goal_names action.pre.body) D.actions) new
-    → Adds old (map (λ named. named.name) (named_in_domain D)) new
-adds-domain old now new D before after = subst (λ names. Adds old names new)
-    (sym (map-append (λ (named : Named). named.name) (named_in_constraint D.constraints.body) (flat_map (λ action. named_in_goal action.pre.body) D.actions)
-    ∙ ap (λ rest. constraint_names D.constraints.body ++ rest) (map-each (λ (named : Named). named.name) (λ (action : Action). named_in_goal action.pre.body) D.actions)))
-    (adds-append old now new (constraint_names D.constraints.body) (flat_map (λ action. goal_names action.pre.body) D.actions) before after)
-
-pub adds-problem : (old now new : List Name) (P : Problem) → Adds old (constraint_names P.constraints.body) now → Adds now (goal_names P.goal.body) new
-    → Adds old (map (λ named. named.name) (named_in_problem P)) new
-adds-problem old now new P before after = subst (λ names. Adds old names new)
-    (sym (map-append (λ (named : Named). named.name) (named_in_constraint P.constraints.body) (named_in_goal P.goal.body)))
-    (adds-append old now new (constraint_names P.constraints.body) (goal_names P.goal.body) before after)
-
-pub adds-preferences : (now new : List Name) (T : Task) → Adds [] (map (λ named. named.name) (named_in_domain T.domain)) now → Adds now (map (λ named. named.name) (named_in_problem T.problem)) new
-    → Adds [] (preference_names T) new
+-- the preferences that walks over both halves came to
+pub has-preferences : (T : Task) (domain problem : Seen) (table : List Name) → domain ≡ domain_seen T.domain → problem ≡ problem_seen T.problem
+    → Adds [] (map (λ (one : tree.Named). one.name) (domain.named ++ problem.named)) table → Has table (preference_names T)
 unfolding preference_names
-adds-preferences now new T before after = subst (λ names. Adds [] names new)
-    (sym (map-append (λ (named : Named). named.name) (named_in_domain T.domain) (named_in_problem T.problem)))
-    (adds-append [] now new (map (λ named. named.name) (named_in_domain T.domain)) (map (λ named. named.name) (named_in_problem T.problem)) before after)
+has-preferences T domain problem table is is_too adds = λ i name.
+    (adds name ∙ (λ j. is_there name ((is j).named ++ (is_too j).named)) ∙ there-turn name (named_in_domain T.domain) (named_in_goal T.problem.goal.body) (named_in_constraint T.problem.constraints.body)) i
 
 -- ---- what is declared by a name
 
@@ -133,6 +93,6 @@ is-constant constants objects name is = list_any-append (λ (item : Typed). same
 pub is-no-constant : (constants objects : List Typed) (name : Name) → is_declared constants name ≡ false → is_declared (constants ++ objects) name ≡ is_declared objects name
 is-no-constant constants objects name is = list_any-append (λ (item : Typed). same_name item.name.name name) constants objects ∙ ap (λ found. found || is_declared objects name) is
 
-pub ruleset table_laws = (has-adds, adds-append, adds-kind, adds-domain, adds-problem, adds-preferences)
+pub ruleset table_laws = (has-adds, adds-append, adds-kind)
 
-pub ruleset name_rules = (goal_names-Plain, goal_names-Both, goal_names-Each, goal_names-Soft, constraint_names-Both, constraint_names-Each, constraint_names-Single, constraint_names-Soft)
+pub ruleset preference_laws = (adds-named)

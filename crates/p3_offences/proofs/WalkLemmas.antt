@@ -14,12 +14,9 @@ use Rattle.std.proofs.lemmas.List.{map-append}
 use Rattle.p3_names.proofs.ScopeLemmas.{append-assoc}
 use Rattle.p3_offences.specs.declared.spot.Spot.{Spot}
 use Rattle.p3_names.specs.Names.{Adds}
+pub use Rattle.p3_names.proofs.UseLemmas.{fold-append}
 use Rattle.p3_offences.specs.declared.spot.Found.{Found}
 use Rattle.p3_offences.specs.Spots.{spot_of, step, use_step}
-
-pub fold-append : {A B : Type 0} (f : B → A → B) (b : B) (xs ys : List A) → fold f b (xs ++ ys) ≡ fold f (fold f b xs) ys
-fold-append f b [] ys = refl
-fold-append f b (x ∷ xs) ys = fold-append f (f b x) xs ys
 
 pub fold-each : {A B C : Type 0} (f : C → B → C) (g : A → List B) (c : C) (xs : List A) → fold f c (flat_map g xs) ≡ fold (λ c x. fold f c (g x)) c xs
 fold-each f g c [] = refl

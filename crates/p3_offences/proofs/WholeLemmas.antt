@@ -1,12 +1,11 @@
 -- What is found over a whole domain or problem is the word of least offset.
 use Rattle.std.proofs.Common.{◌≡◌, ◌∙◌, List, [], ◌++◌, Option, None, refl, sym, ap}
 use Rattle.std.specs.Prelude.{fold, flat_map, option_map}
-use Rattle.std.proofs.lemmas.List.{append-nil}
 use Rattle.p3_tree.specs.FirstOffence.{least_word}
 use Rattle.p3_tree.specs.Offences.{repeated, repeated_values, header_words, action_words, repeated_variables, unknown_words, miscounted, clashing, total_cost_with_parameters, domain_duplicates, problem_duplicates, domain_unknowns, problem_unknowns, domain_miscounts, problem_miscounts, domain_clashes, problem_clashes}
-use Rattle.p3_tree.specs.Uses.{Use, Objects, Variables, scope_of, goal_uses, effect_uses, constraint_uses, metric_uses, header_uses, action_uses, init_uses, domain_uses, problem_uses}
+use Rattle.p3_tree.specs.Uses.{Use, Objects, goal_uses, constraint_uses, metric_uses, header_uses, action_uses, init_uses, domain_uses, problem_uses}
+use Rattle.p3_names.specs.Uses.{domain_seen, problem_seen}
 use Rattle.p3_tree.specs.declared.term.Ref.{Ref}
-use Rattle.p3_tree.specs.declared.task.Action.{Action}
 use Rattle.p3_tree.specs.declared.task.Domain.{Domain}
 use Rattle.p3_tree.specs.declared.task.Problem.{Problem}
 use Rattle.p3_tree.specs.declared.task.Task.{Task}
@@ -18,39 +17,32 @@ use Rattle.p3_offences.proofs.WalkLemmas.{Notes, fold-append, least-walk, noted-
 -- ---- part by part
 
 module _ (T : Task) (before : Found) where
-  pub action-parts : (action : Action) → fold (use_step T) before (action_uses action)
-      ≡ fold (use_step T) (fold (use_step T) (use_step T before (Variables action.params)) (goal_uses action.pre.body (scope_of action.params ++ []))) (effect_uses action.effect.body (scope_of action.params ++ []))
-  action-parts action =
-      fold-append (use_step T) (use_step T before (Variables action.params)) (goal_uses action.pre.body (scope_of action.params)) (effect_uses action.effect.body (scope_of action.params))
-      ∙ (λ i. fold (use_step T) (fold (use_step T) (use_step T before (Variables action.params)) (goal_uses action.pre.body (whole i))) (effect_uses action.effect.body (whole i)))
-    where
-      whole : scope_of action.params ≡ scope_of action.params ++ []
-      whole = sym (append-nil (scope_of action.params))
-
   pub domain-parts : (D : Domain) → fold (use_step T) before (domain_uses D)
-      ≡ fold (use_step T) (fold (use_step T) (fold (use_step T) (fold (use_step T) (use_step T before (Objects D.constants)) (flat_map header_uses D.predicates)) (flat_map header_uses D.functions)) (constraint_uses D.constraints.body []))
-      (flat_map action_uses D.actions)
+      ≡ fold (use_step T) (fold (use_step T) (fold (use_step T) (use_step T before (Objects D.constants)) (flat_map header_uses D.predicates)) (flat_map header_uses D.functions)) (domain_seen D).uses
   unfolding domain_uses
   domain-parts D =
       let first = use_step T before (Objects D.constants) in
       let headers = flat_map header_uses D.predicates ++ flat_map header_uses D.functions in
       let constraints = constraint_uses D.constraints.body [] in
       let actions = flat_map action_uses D.actions in
-      fold-append (use_step T) first (headers ++ constraints) actions ∙ ap (λ found. fold (use_step T) found actions)
-      (fold-append (use_step T) first headers constraints ∙ ap (λ found. fold (use_step T) found constraints)
-      (fold-append (use_step T) first (flat_map header_uses D.predicates) (flat_map header_uses D.functions)))
+      fold-append (use_step T) first (headers ++ constraints) actions ∙ ap (λ found. fold (use_step T) found actions) (fold-append (use_step T) first headers constraints)
+      ∙ sym (fold-append (use_step T) (fold (use_step T) first headers) constraints actions)
+      ∙ ap (λ found. fold (use_step T) found (constraints ++ actions)) (fold-append (use_step T) first (flat_map header_uses D.predicates) (flat_map header_uses D.functions))
 
   pub problem-parts : (P : Problem) → fold (use_step T) before (problem_uses P)
-      ≡ fold (use_step T) (fold (use_step T) (fold (use_step T) (fold (use_step T) (use_step T before (Objects P.objects)) (flat_map init_uses P.init)) (goal_uses P.goal.body [])) (constraint_uses P.constraints.body [])) (metric_uses P.metric)
+      ≡ fold (use_step T) (fold (use_step T) (use_step T before (Objects P.objects)) (flat_map init_uses P.init)) (problem_seen P).uses
   unfolding problem_uses
   problem-parts P =
       let first = use_step T before (Objects P.objects) in
-      let goals = flat_map init_uses P.init ++ goal_uses P.goal.body [] in
+      let entries = flat_map init_uses P.init in
+      let goals = goal_uses P.goal.body [] in
       let constraints = constraint_uses P.constraints.body [] in
       let metric = metric_uses P.metric in
-      fold-append (use_step T) first (goals ++ constraints) metric ∙ ap (λ found. fold (use_step T) found metric)
-      (fold-append (use_step T) first goals constraints ∙ ap (λ found. fold (use_step T) found constraints)
-      (fold-append (use_step T) first (flat_map init_uses P.init) (goal_uses P.goal.body [])))
+      let start = fold (use_step T) first entries in
+      fold-append (use_step T) first (entries ++ goals ++ constraints) metric ∙ ap (λ found. fold (use_step T) found metric)
+      (fold-append (use_step T) first (entries ++ goals) constraints ∙ ap (λ found. fold (use_step T) found constraints) (fold-append (use_step T) first entries goals)
+      ∙ sym (fold-append (use_step T) start goals constraints))
+      ∙ sym (fold-append (use_step T) start (goals ++ constraints) metric)
 
 pub declared-parts : (first second third : List Ref) → fold step None (first ++ second ++ third) ≡ fold step (fold step (fold step None first) second) third
 declared-parts first second third = fold-append step None (first ++ second) third ∙ ap (λ least. fold step least third) (fold-append step None first second)
@@ -105,4 +97,4 @@ pub ruleset domain_laws = (domain-duplicate, domain-unknown, domain-miscount, do
 
 pub ruleset problem_laws = (problem-duplicate, problem-unknown, problem-miscount, problem-clash)
 
-pub ruleset part_laws = (declared-parts, action-parts, domain-parts, problem-parts)
+pub ruleset part_laws = (declared-parts, domain-parts, problem-parts)

@@ -1,16 +1,13 @@
 -- Tables of what a task declares.
-use Rattle.std.specs.Prelude.{◌≡◌, ℕ, ◌+◌, ◌<◌, ◌^◌, Bool, List, [], ◌∷◌, map, length, find, slice_get, if◌then◌else◌, Option, Some, None, option_map, option_and_then}
+use Rattle.std.specs.Prelude.{◌≡◌, ℕ, ◌+◌, ◌<◌, ◌^◌, Bool, List, [], ◌∷◌, length, find, slice_get, if◌then◌else◌, Option, Some, None, option_map, option_and_then}
 use Rattle.std.specs.Option.{option_or}
 use denote.Ref.{Bor}
 use Rattle.p3_tree.specs.Names.{Name, same_name, has_name}
-use Rattle.p3_tree.specs.PreferenceNames.{Named, named_in_goal, named_in_constraint}
 use Rattle.p3_tree.specs.declared.term.Ref.{Ref}
-use Rattle.p3_tree.specs.declared.goal.PreGoal.{PreGoal}
 use Rattle.p3_tree.specs.declared.task.Header.{Header}
 use Rattle.p3_tree.specs.declared.task.Task.{Task}
 use Rattle.p3_offences.specs.Numbers.{headers_of}
 use Rattle.p3_offences.specs.declared.tables.Declared.{Declared}
-use Rattle.p3_tree.specs.declared.constraint.Constraint.{Constraint}
 
 -- a table has these names and no others
 abbrev pub Has : List Name → List Name → Type 0
@@ -20,12 +17,6 @@ Has table names = ◌≡◌ {A = Name → Bool} (has_name table) (has_name names
 abbrev pub name_of_word : Option Ref → List Name
 name_of_word None = []
 name_of_word (Some word) = word.name ∷ []
-
-abbrev pub goal_names : PreGoal → List Name
-goal_names goal = map (λ (named : Named). named.name) (named_in_goal goal)
-
-abbrev pub constraint_names : Constraint → List Name
-constraint_names constraint = map (λ (named : Named). named.name) (named_in_constraint constraint)
 
 -- ---- the first item of each name
 

@@ -12,6 +12,7 @@ use crate::spot::{Found, Spot};
 use crate::tables::Tables;
 use crate::whole::{domain_found, problem_found};
 use p3_base::{Code, NoMemory, Pos, Refusal, Role, Side, as_number};
+use p3_names::Visits;
 use p3_tree::Task;
 use std::alloc::Global;
 
@@ -103,9 +104,11 @@ pub fn first_offence(alloc: Global, side: Side, task: &Task) -> Result<Option<Re
         (λ first. first
         ≡ option_map (refusal_of side) (FirstOffence.first_offence task.now)) }
 {
-    let tables = Tables::of(alloc, task)?;
-    let domain = domain_found(alloc, &tables)?;
-    let problem = problem_found(alloc, &tables)?;
+    let domain_trees = Visits::of_domain(alloc, &task.domain)?;
+    let problem_trees = Visits::of_problem(alloc, &task.problem)?;
+    let tables = Tables::of(alloc, task, &domain_trees, &problem_trees)?;
+    let domain = domain_found(alloc, &tables, &domain_trees)?;
+    let problem = problem_found(alloc, &tables, &problem_trees)?;
     let first = in_order(side, &domain, &problem)?;
     Ok(first)
 }

@@ -13,7 +13,7 @@ mod notes;
 mod numbers;
 mod spot;
 mod tables;
-mod walk;
+mod visited;
 mod whole;
 mod worded;
 

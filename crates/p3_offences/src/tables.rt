@@ -6,13 +6,14 @@ ghost use Rattle.p3_tree.specs.Names.{has_name};
 ghost use Rattle.p3_tree.specs.Types.{declared_objects};
 ghost use Rattle.p3_tree.specs.Offences.{is_declared, declared_types, header_named};
 ghost use Rattle.p3_tree.specs.PreferenceNames.{preference_names};
+ghost use Rattle.p3_names.specs.Uses.{domain_seen, problem_seen};
 ghost use Rattle.p3_offences.specs.Tables.{AreCounted, Has, IsNumbered, header_of};
 
 use crate::declared_names::{preference_table, type_table};
 use crate::firsts::Firsts;
 use crate::fits::Fits;
 use p3_base::{Name, NoMemory, TooLarge};
-use p3_names::Names;
+use p3_names::{Names, Visits};
 use p3_tree::{Header, Task, Typed};
 use std::alloc::Global;
 
@@ -59,9 +60,16 @@ fn are_counted(task: &Task) -> Result<(), TooLarge>
 }
 
 impl<'t> Tables<'t> {
-    /// The tables of a task.
+    /// The tables of a task, over whose domain and problem walks went.
     #[tactic(auto, using(crate::proofs::TableLemmas::table_laws))]
-    pub(crate) fn of(alloc: Global, task: &'t Task) -> Result<Tables<'t>, NoMemory>
+    pub(crate) fn of(
+        alloc: Global,
+        task: &'t Task,
+        domain: &Visits<'t>,
+        problem: &Visits<'t>,
+    ) -> Result<Tables<'t>, NoMemory>
+        requires domain { domain.now ≡ domain_seen task.now.domain }
+        requires problem { problem.now ≡ problem_seen task.now.problem }
         ensures { IfOk result (λ tables. tables.task.now ≡ task.now) }
     {
         let predicates = Firsts::of(alloc, task.domain.predicates.items())?;
@@ -69,7 +77,7 @@ impl<'t> Tables<'t> {
         let constants = Firsts::of(alloc, task.domain.constants.items())?;
         let objects = Firsts::of(alloc, task.problem.objects.items())?;
         let types = type_table(alloc, task)?;
-        let preferences = preference_table(alloc, task)?;
+        let preferences = preference_table(alloc, domain, problem)?;
         let fits = Fits::of(alloc, task)?;
         are_counted(task)?;
         Ok(Tables {

@@ -8,18 +8,19 @@ ghost use Rattle.p3_tree.specs.Offences.{domain_unknowns, problem_unknowns};
 ghost use Rattle.p3_tree.specs.Offences.{domain_miscounts, problem_miscounts};
 ghost use Rattle.p3_tree.specs.Offences.{domain_clashes, problem_clashes};
 ghost use Rattle.p3_tree.specs.Offences.{total_cost_with_parameters};
-ghost use Rattle.p3_tree.specs.Uses.{header_uses, action_uses, init_uses, metric_uses};
+ghost use Rattle.p3_tree.specs.Uses.{header_uses, init_uses};
 ghost use Rattle.p3_tree.specs.Uses.{domain_uses, problem_uses};
+ghost use Rattle.p3_names.specs.Uses.{domain_seen, problem_seen};
 ghost use Rattle.p3_offences.specs.Spots.{step, use_step, spot_of};
 
 use crate::given::values_repeated;
 use crate::notes::{atom_noted, function_noted, objects_noted, variables_noted, words_repeated};
 use crate::spot::{Found, Spot, unless};
 use crate::tables::Tables;
-use crate::walk::{constraint_walked, effect_walked, goal_walked, num_walked};
+use crate::visited::visits_noted;
 use p3_base::NoMemory;
-use p3_names::Scope;
-use p3_tree::{Action, Domain, Header, Init, Metric, Problem};
+use p3_names::{Scope, Visits};
+use p3_tree::{Domain, Header, Init, Problem};
 use std::alloc::Global;
 
 /// What is found in headers.
@@ -37,44 +38,6 @@ fn headers_walked(
     let mut after = found;
     for header in headers {
         after = variables_noted(alloc, after, tables, header.params.items())?;
-    }
-    Ok(after)
-}
-
-/// What is found in an action.
-#[tactic(auto, using(crate::proofs::WholeLemmas::part_laws))]
-fn action_walked<'t>(
-    alloc: Global,
-    found: Found,
-    tables: &Tables<'t>,
-    action: &'t Action,
-) -> Result<Found, NoMemory>
-    ensures { IfOk result
-        (λ after. after ≡ fold (use_step tables.now.task.now) found (action_uses action.now)) }
-{
-    let mut scope = Scope::new(alloc);
-    let found = variables_noted(alloc, found, tables, action.params.items())?;
-    scope.enter(action.params.items())?;
-    let found = goal_walked(alloc, found, tables, &mut scope, &action.pre.body)?;
-    let found = effect_walked(alloc, found, tables, &mut scope, &action.effect.body)?;
-    Ok(found)
-}
-
-/// What is found in actions.
-#[tactic(auto, using(crate::proofs::WalkLemmas::walk_laws))]
-fn actions_walked<'t>(
-    alloc: Global,
-    found: Found,
-    tables: &Tables<'t>,
-    actions: &'t [Action],
-) -> Result<Found, NoMemory>
-    ensures { IfOk result
-        (λ after. after ≡ fold (use_step tables.now.task.now) found
-        (flat_map action_uses actions.now)) }
-{
-    let mut after = found;
-    for action in actions {
-        after = action_walked(alloc, after, tables, action)?;
     }
     Ok(after)
 }
@@ -107,25 +70,6 @@ fn inits_walked(alloc: Global, found: Found, tables: &Tables, entries: &[Init]) 
     after
 }
 
-/// What is found in the metric.
-fn metric_walked(
-    alloc: Global,
-    found: Found,
-    tables: &Tables,
-    metric: &Option<Metric>,
-) -> Result<Found, NoMemory>
-    ensures { IfOk result
-        (λ after. after ≡ fold (use_step tables.now.task.now) found (metric_uses metric.now)) }
-{
-    match metric {
-        None => Ok(found),
-        Some(metric) => {
-            let found = num_walked(alloc, found, tables, &metric.body)?;
-            Ok(found)
-        }
-    }
-}
-
 /// What is found in a domain.
 #[tactic(auto, using(crate::proofs::WholeLemmas::part_laws))]
 fn domain_walked<'t>(
@@ -133,16 +77,16 @@ fn domain_walked<'t>(
     found: Found,
     tables: &Tables<'t>,
     domain: &'t Domain,
+    trees: &Visits<'t>,
 ) -> Result<Found, NoMemory>
+    requires { trees.now ≡ domain_seen domain.now }
     ensures { IfOk result
         (λ after. after ≡ fold (use_step tables.now.task.now) found (domain_uses domain.now)) }
 {
     let found = objects_noted(found, tables, domain.constants.items());
     let found = headers_walked(alloc, found, tables, domain.predicates.items())?;
     let found = headers_walked(alloc, found, tables, domain.functions.items())?;
-    let mut scope = Scope::new(alloc);
-    let found = constraint_walked(alloc, found, tables, &mut scope, &domain.constraints.body)?;
-    let found = actions_walked(alloc, found, tables, domain.actions.items())?;
+    let found = visits_noted(alloc, found, tables, trees)?;
     Ok(found)
 }
 
@@ -153,16 +97,15 @@ fn problem_walked<'t>(
     found: Found,
     tables: &Tables<'t>,
     problem: &'t Problem,
+    trees: &Visits<'t>,
 ) -> Result<Found, NoMemory>
+    requires { trees.now ≡ problem_seen problem.now }
     ensures { IfOk result
         (λ after. after ≡ fold (use_step tables.now.task.now) found (problem_uses problem.now)) }
 {
     let found = objects_noted(found, tables, problem.objects.items());
     let found = inits_walked(alloc, found, tables, problem.init.items());
-    let mut scope = Scope::new(alloc);
-    let found = goal_walked(alloc, found, tables, &mut scope, &problem.goal.body)?;
-    let found = constraint_walked(alloc, found, tables, &mut scope, &problem.constraints.body)?;
-    let found = metric_walked(alloc, found, tables, &problem.metric)?;
+    let found = visits_noted(alloc, found, tables, trees)?;
     Ok(found)
 }
 
@@ -202,9 +145,14 @@ fn total_costs_noted(functions: &[Header]) -> Option<Spot>
     least
 }
 
-/// The first offences of the domain of a task.
+/// The first offences of the domain of a task, whose trees were walked over.
 #[tactic(auto, using(crate::proofs::WholeLemmas::domain_laws))]
-pub(crate) fn domain_found(alloc: Global, tables: &Tables) -> Result<Found, NoMemory>
+pub(crate) fn domain_found<'t>(
+    alloc: Global,
+    tables: &Tables<'t>,
+    trees: &Visits<'t>,
+) -> Result<Found, NoMemory>
+    requires { trees.now ≡ domain_seen tables.now.task.now.domain }
     ensures duplicate { IfOk result
         (λ found. found.duplicate
         ≡ option_map spot_of (least_word (domain_duplicates tables.now.task.now.domain))) }
@@ -227,13 +175,18 @@ pub(crate) fn domain_found(alloc: Global, tables: &Tables) -> Result<Found, NoMe
         miscount,
         clash: None,
     };
-    let found = domain_walked(alloc, found, tables, domain)?;
+    let found = domain_walked(alloc, found, tables, domain, trees)?;
     Ok(found)
 }
 
-/// The first offences of the problem of a task.
+/// The first offences of the problem of a task, whose trees were walked over.
 #[tactic(auto, using(crate::proofs::WholeLemmas::problem_laws))]
-pub(crate) fn problem_found(alloc: Global, tables: &Tables) -> Result<Found, NoMemory>
+pub(crate) fn problem_found<'t>(
+    alloc: Global,
+    tables: &Tables<'t>,
+    trees: &Visits<'t>,
+) -> Result<Found, NoMemory>
+    requires { trees.now ≡ problem_seen tables.now.task.now.problem }
     ensures duplicate { IfOk result
         (λ found. found.duplicate
         ≡ option_map spot_of (least_word (problem_duplicates tables.now.task.now.problem))) }
@@ -255,6 +208,6 @@ pub(crate) fn problem_found(alloc: Global, tables: &Tables) -> Result<Found, NoM
         miscount: None,
         clash: None,
     };
-    let found = problem_walked(alloc, found, tables, problem)?;
+    let found = problem_walked(alloc, found, tables, problem, trees)?;
     Ok(found)
 }

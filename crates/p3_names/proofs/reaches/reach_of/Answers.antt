@@ -1,4 +1,4 @@
-use Rattle.std.proofs.Common.{◌≤◌, ◌<◌, ◌+◌, List, ℕ, length, get_or, sym, subst, arith}
+use Rattle.std.proofs.Common.{◌≤◌, ◌<◌, List, ℕ, length, get_or, sym, subst, arith}
 use Rattle.std.specs.Prelude.{filter_map}
 use Rattle.p3_tree.specs.Types.{pair_of}
 use Rattle.p3_names.specs.Walks.{IsReached}

@@ -1,6 +1,7 @@
 use Rattle.std.proofs.Common.{rules, map, ap}
 use Rattle.std.proofs.lemmas.List.Sorted.{answers_always}
-use Rattle.p3_numbering.specs.Words.{name_of, named_word}
+use Rattle.p3_names.specs.Preferences.{named_word}
+use Rattle.p3_numbering.specs.Words.{name_of}
 use Rattle.p3_numbering.proofs.SortLemmas.{sorted-placed}
 use Rattle.p3_numbering.proofs.words.in_order.Goals as goal
 

@@ -1,5 +1,6 @@
 use Rattle.std.proofs.Common.{◌≡◌, ◌++◌, map, take}
-use Rattle.p3_numbering.specs.Words.{names_in, named_in, name_of}
+use Rattle.p3_names.specs.Preferences.{named_in}
+use Rattle.p3_numbering.specs.Words.{names_in, name_of}
 use Rattle.p3_numbering.proofs.words.push_names.Given as goal
 
 abbrev pub invariant-loop-one : goal.invariant-loop-one

@@ -1,6 +1,6 @@
 use Rattle.std.proofs.Common.{◌≡◌, take}
 use Rattle.p3_tree.specs.Types.{once_each}
-use Rattle.p3_numbering.specs.Texts.{names_in}
+use Rattle.p3_numbering.specs.Words.{names_in}
 use Rattle.p3_numbering.proofs.name_table.NameTable.of.Given as goal
 
 abbrev pub invariant-loop-word : goal.invariant-loop-word

@@ -1,6 +1,5 @@
 use Rattle.p3_tree.specs.Offences.{declared_types}
-use Rattle.p3_tree.specs.PreferenceNames.{preference_names}
-use Rattle.p3_offences.proofs.TableLemmas.{has-adds}
+use Rattle.p3_offences.proofs.TableLemmas.{has-adds, has-preferences}
 use Rattle.std.proofs.Common.{◌∙◌}
 use Rattle.p3_offences.proofs.tables.Tables.of.Goals as goal
 
@@ -11,7 +10,7 @@ invariant_of-result c = record {
   constants_told = c.in_ok-constants.ensures ∙ c.items-3.ensures;
   objects_told = c.in_ok-objects.ensures ∙ c.items-4.ensures;
   types_told = has-adds c.in_ok-types.types (declared_types c.args.task.now) c.in_ok-types.ensures;
-  preferences_told = has-adds c.in_ok-preferences.preferences (preference_names c.args.task.now) c.in_ok-preferences.ensures;
+  preferences_told = has-preferences c.args.task.now c.args.domain.now c.args.problem.now c.in_ok-preferences.preferences c.requires.domain c.requires.problem c.in_ok-preferences.ensures;
   fits_told = c.in_ok-fits.ensures;
   counted = c.in_ok-are_counted.ensures;
 }
