@@ -16,7 +16,7 @@ use Rattle.p3_cli.specs.Outcome.{ReadsAll, WriteFails}
 use Rattle.p3_cli.specs.Product.{Accepts, Produces, Rejects, texts_in}
 use Rattle.p3_cli.specs.Refusing.{IsRejectedBy}
 use Rattle.p3_tree.specs.Commands.{Command, Input, Output, inputs, outputs}
-use Rattle.p3_cli.specs.Run.{AnyFaultRose, MustComplete, MustReject, IsAccepted, IsProduct, IsRejectionIn, ShownBy, Comes, Leaves, Tells, Answers, IsRejectedIn, IsStatusIn, IsAcceptedIn, SameUnder, OthersStay}
+use Rattle.p3_cli.specs.Run.{AnyFaultRose, MustComplete, MustReject, IsAccepted, IsProduct, IsRejectionIn, ShownBy, Comes, Leaves, Tells, Answers, Ends, IsRejectedIn, IsStatusIn, IsAcceptedIn, SameUnder, OthersStay}
 use Rattle.p3_cli.specs.Store.{Texts, reading, holding_all, AreFirstWritten, IsWrittenUpTo}
 use Rattle.p3_cli.specs.declared.ending.Ending as code
 use Rattle.p3_cli.specs.declared.ending.Ending.TheVariants as coded
@@ -91,6 +91,14 @@ module _ (command : Command) (asked : List Input) (same : asked ≡ inputs comma
   unwritten_leaves old mid new writings report before after (coded.TooLong role) read stays named made fails = absurd fails
   unwritten_leaves old mid new writings report before after (coded.ReadFailed role) read stays named made fails = absurd fails
   unwritten_leaves old mid new writings report before after coded.Usage read stays named made fails = absurd fails
+
+-- an ending of what is asked, of which no line was put before
+pub ends_so : {asked : Option Command} {command : Command} {old new : FilesSeen} {before after : SinkSeen} {status : ℕ} (mid : SinkSeen) (how : Ending) → Some command ≡ asked → mid ≡ before
+    → Comes command old new how → Leaves command old.held new.held how → Tells mid after status how → (end : Ending) × Ends asked old new before after status end
+ends_so {asked} {command} {old} {new} {before} {after} {status} mid how is unput comes leaves tells = (how, record {
+  answers = subst (λ some. Answers some old new how) is (comes, leaves);
+  tells = subst (λ (first : SinkSeen). Tells first after status how) unput tells;
+})
 
 -- the status, but where the report was not put
 pub kept_status : (before after : SinkSeen) (status : ℕ) (how : Ending) → Tells before after status how → status_of how ≢ 0 → status ≡ status_of how
