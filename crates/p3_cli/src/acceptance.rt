@@ -27,7 +27,7 @@ use p3_tree::{Plan, Task};
 use p3_types::{CheckFail, Checked, check};
 use std::alloc::Global;
 
-/// The task that the texts of a side spell, where they show no refusal by themselves.
+/// Reads the task that the texts of a side spell, where they show no refusal by themselves.
 #[tactic(auto, using(crate::proofs::SpelledLemmas::halves_spell))]
 pub(crate) fn spelled_task(alloc: Global, side: Side, texts: &Texts<'_>) -> Result<Task, Ending>
     ensures spelled { IfOk result (IsSpelled (task_texts side (all_texts texts.now))) }
@@ -57,7 +57,7 @@ pub(crate) fn readable_plan(texts: &Texts<'_>) -> Result<(), Ending>
     }
 }
 
-/// The plan of a text that has no offence.
+/// Reads the plan of a text that has no offence.
 pub(crate) fn plan_of(alloc: Global, text: &[u8]) -> Result<Plan, NoMemory>
     requires short { length text.now ≤ 16777216 }
     requires free { plan_offence text.now ≡ None }
@@ -72,7 +72,7 @@ pub(crate) fn plan_of(alloc: Global, text: &[u8]) -> Result<Plan, NoMemory>
     }
 }
 
-/// The task of a side that its texts spell, with all that belongs to it, where nothing is refused.
+/// Accepts the task of a side with all that belongs to it, where nothing is refused of it.
 pub(crate) fn accepted(
     alloc: Global,
     side: Side,
@@ -95,7 +95,7 @@ pub(crate) fn accepted(
     }
 }
 
-/// The task that the texts spell, where it is well-formed.
+/// Checks the task that the texts spell: it is well-formed, or refused.
 fn checked(alloc: Global, side: Side, texts: &Texts<'_>, task: Task) -> Result<Checked, Ending>
     requires { IsSpelled (task_texts side (all_texts texts.now)) task }
     ensures spelled { IfOk result (λ checked.
@@ -113,7 +113,7 @@ fn checked(alloc: Global, side: Side, texts: &Texts<'_>, task: Task) -> Result<C
     }
 }
 
-/// The ending where a half was not read.
+/// Gives the ending where a half was not read.
 fn not_read(texts: &Texts<'_>, fail: ReadFail) -> Ending
     ensures { EndsAs (all_texts texts.now) fail result }
 {

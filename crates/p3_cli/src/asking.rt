@@ -20,7 +20,7 @@ use crate::table::{kind_of, row_of};
 use p3_base::Word;
 use p3_tree::CommandKind;
 
-/// What the words ask for, or `None` where they have none of the listed shapes. It takes no memory.
+/// Reads what the words ask for, or `None` where they have no listed shape. It takes no memory.
 pub(crate) fn asked(words: &[Word]) -> Option<Request<'_>>
     ensures { option_map asked_command result ≡ command_of words.now }
 {
@@ -30,7 +30,7 @@ pub(crate) fn asked(words: &[Word]) -> Option<Request<'_>>
     command(kind_of(word.bytes())?, others)
 }
 
-/// The command with the number and the names behind its word.
+/// Reads a command with the number and the names behind its word.
 fn command(kind: CommandKind, words: &[Word]) -> Option<Request<'_>>
     ensures { option_map asked_command result ≡ command_by words.now kind }
 {
@@ -43,7 +43,7 @@ fn command(kind: CommandKind, words: &[Word]) -> Option<Request<'_>>
     with_files(kind, sample_number(number.bytes())?.number, names)
 }
 
-/// The command with this number and the files of these names.
+/// Makes the command with this number and the files of these names.
 fn with_files(kind: CommandKind, number: u32, names: &[Word]) -> Option<Request<'_>>
     requires { IsTrue (row_with kind).is_numbered → (1 ≤ number) × (number ≤ 200) }
     ensures { option_map asked_command result ≡ if_spelled kind (number, names.now) }
@@ -66,28 +66,28 @@ fn with_files(kind: CommandKind, number: u32, names: &[Word]) -> Option<Request<
     }
 }
 
-/// Whether a word can name a file.
+/// Tells whether a word can name a file.
 fn is_file_word(word: &Word) -> bool
     ensures { result ≡ is_file_word word.now }
 {
     !word.bytes().is_empty()
 }
 
-/// Whether all words can name files.
+/// Tells whether all words can name files.
 fn are_file_words(words: &[Word]) -> bool
     ensures { result ≡ list_all is_file_word words.now }
 {
     words.iter().all(is_file_word)
 }
 
-/// Whether the word is one of the words.
+/// Tells whether the word is one of the words.
 fn has_word(words: &[Word], word: &Word) -> bool
     ensures { result ≡ has_name words.now word.now }
 {
     words.iter().any(|other| other.bytes() == word.bytes())
 }
 
-/// Whether no two of the words are the same.
+/// Tells whether no two of the words are the same.
 fn are_different(words: &[Word]) -> bool
     ensures { result ≡ different words.now }
 {
@@ -97,7 +97,7 @@ fn are_different(words: &[Word]) -> bool
     }
 }
 
-/// Whether all names can name files, and no two outputs have the same name.
+/// Tells whether all names can name files, and no two outputs have the same name.
 fn has_file_words(request: &Request<'_>) -> bool
     ensures { result ≡ has_file_words (asked_command request.now) }
 {

@@ -82,7 +82,7 @@ pub(crate) fn embed(alloc: Global, texts: &Texts<'_>) -> Result<Embedding, Endin
     Ok(made)
 }
 
-/// The source of the plan in the target, where it is valid.
+/// Finds the source of a plan in the target, where the plan is valid.
 pub(crate) fn embedded(
     alloc: Global,
     whole: &Whole,
@@ -106,7 +106,7 @@ pub(crate) fn embedded(
     }
 }
 
-/// What is written of a task, its target and a plan that is embedded in it, and the report.
+/// Writes the target of a task and a plan that is embedded in it, and makes the report.
 fn embedding_of(
     alloc: Global,
     whole: &Whole,

@@ -44,7 +44,7 @@ impl From<NoMemory> for Ending {
 impl Ending {
     ghost use Rattle.p3_cli.specs.Ending.{status_of, lines_of};
 
-    /// The status of the process, where the lines can be put.
+    /// Gives the status of the process, where the lines can be put.
     pub(crate) fn status(&self) -> u8
         ensures { result ≡ status_of self.now }
     {

@@ -44,7 +44,7 @@ pub(crate) fn evaluate(alloc: Global, texts: &Texts<'_>) -> Result<Report, Endin
     judged(alloc, &whole, texts.plan)
 }
 
-/// The task for which a plan is judged, where nothing is refused of it and of the plan's text.
+/// Accepts the task for which a plan is judged, where nothing is refused of it and of that plan.
 pub(crate) fn judged_task(alloc: Global, texts: &Texts<'_>) -> Result<Whole, Ending>
     ensures accepted { IfOk result (λ whole.
         AreAcceptedFor Source (all_texts texts.now) whole.checked.task) }
@@ -64,7 +64,7 @@ pub(crate) fn judged_task(alloc: Global, texts: &Texts<'_>) -> Result<Whole, End
     }
 }
 
-/// The report of the plan of a text for an accepted task, where it is valid.
+/// Judges the plan of a text for an accepted task: the report, where it is valid.
 fn judged(alloc: Global, whole: &Whole, plan: &[u8]) -> Result<Report, Ending>
     requires short { length plan.now ≤ 16777216 }
     requires free { plan_offence plan.now ≡ None }
@@ -80,7 +80,7 @@ fn judged(alloc: Global, whole: &Whole, plan: &[u8]) -> Result<Report, Ending>
     }
 }
 
-/// The ending that says the first fault of a plan.
+/// Gives the ending that says the first fault of a plan.
 pub(crate) fn invalid(fault: &PlanFault) -> Ending
     ensures { IsRejectedBy (λ how. how ≡ Invalid (fault_named (fault_in fault.now))) result }
 {

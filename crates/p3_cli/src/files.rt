@@ -19,7 +19,7 @@ const WRITTEN_LIMIT: u32 = 268_435_456;
 const PLAN_LIMIT: u32 = 16_777_216;
 
 impl<'a> Request<'a> {
-    /// The files that are read, in the order of the command line.
+    /// Lists the files that are read, in the order of the command line.
     pub(crate) fn inputs(&self, alloc: Global) -> Result<Vec<Input<'a>>, NoMemory>
         ensures { IfOk result (λ all. asked_inputs all.items ≡ inputs (asked_command self.now)) }
     {
@@ -33,7 +33,7 @@ impl<'a> Request<'a> {
     }
 }
 
-/// A file that is read.
+/// Names a file that is read, with its limit.
 fn input(role: Role, name: &Word) -> Input<'_>
     ensures { asked_input result ≡ input (role, name.now) }
 {
@@ -44,7 +44,7 @@ fn input(role: Role, name: &Word) -> Input<'_>
     }
 }
 
-/// The greatest number of bytes of a file of the role.
+/// Gives the greatest number of bytes of a file of the role.
 fn limit_of(role: Role) -> u32
     ensures { result ≡ limit_of role }
 {

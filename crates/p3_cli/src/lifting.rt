@@ -76,7 +76,7 @@ pub(crate) fn lift(alloc: Global, texts: &Texts<'_>) -> Result<Lifting, Ending>
     Ok(made)
 }
 
-/// The two tasks that the texts spell, where nothing is refused of them and of the plan's text.
+/// Accepts the two tasks that the texts spell, where nothing is refused of them and of the plan.
 fn both_tasks(alloc: Global, texts: &Texts<'_>) -> Result<(Whole, Whole), Ending>
     ensures source { IfOk result (λ both.
         AreAcceptedFor Source (all_texts texts.now) both.0.checked.task) }
@@ -97,7 +97,7 @@ fn both_tasks(alloc: Global, texts: &Texts<'_>) -> Result<(Whole, Whole), Ending
     }
 }
 
-/// The two tasks that the texts spell, where no text shows a refusal by itself.
+/// Reads the two tasks that the texts spell, where no text shows a refusal by itself.
 fn spelled_tasks(alloc: Global, texts: &Texts<'_>) -> Result<(Task, Task), Ending>
     ensures source { IfOk result (λ both.
         IsSpelled (task_texts Source (all_texts texts.now)) both.0) }
@@ -113,7 +113,7 @@ fn spelled_tasks(alloc: Global, texts: &Texts<'_>) -> Result<(Task, Task), Endin
     Ok((source, written))
 }
 
-/// The ending that says why a plan is not lifted.
+/// Gives the ending that says why a plan is not lifted.
 fn unlifted(fail: &LiftFail) -> Ending
     ensures { IsRejectedBy (TellsFail fail.now) result }
 {
@@ -125,7 +125,7 @@ fn unlifted(fail: &LiftFail) -> Ending
     }
 }
 
-/// What is written of a lifted plan of an accepted task, and the report.
+/// Writes a lifted plan of an accepted task, and makes the report.
 fn lifting_of(alloc: Global, source: &Whole, lifted: &Lifted) -> Result<Lifting, NoMemory>
     requires words { IsTrue (list_all has_written_words lifted.now.plan) }
     requires metric { lifted.now.metric ≡ value source.now.checked.task lifted.now.plan }

@@ -66,7 +66,7 @@ pub(crate) fn product_of(
     }
 }
 
-/// The texts of a task.
+/// Takes the texts of a task from those that were read.
 fn texts_of_task(texts: &[Vec<u8>]) -> Texts<'_>
     requires { AreWithin (nameless source_task) (map (λ text. text.items) texts.now) }
     ensures read { map (λ text. text.items) texts.now
@@ -85,7 +85,7 @@ fn texts_of_task(texts: &[Vec<u8>]) -> Texts<'_>
     }
 }
 
-/// The texts of a task and of a plan for it.
+/// Takes the texts of a task and of a plan for it from those that were read.
 fn texts_of_plan(texts: &[Vec<u8>]) -> Texts<'_>
     requires { AreWithin (nameless (row Evaluate).reads)
         (map (λ text. text.items) texts.now) }
@@ -106,7 +106,7 @@ fn texts_of_plan(texts: &[Vec<u8>]) -> Texts<'_>
     }
 }
 
-/// The texts of a task, of one that is written for it, and of a plan for that.
+/// Takes the texts of a task, of one that is written for it, and of a plan for that.
 fn texts_of_lift(texts: &[Vec<u8>]) -> Texts<'_>
     requires { AreWithin (nameless (row Lift).reads) (map (λ text. text.items) texts.now) }
     ensures read { map (λ text. text.items) texts.now

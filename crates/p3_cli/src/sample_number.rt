@@ -18,7 +18,7 @@ pub(crate) struct SampleNumber {
     pub ghost few: { number ≤ 200 },
 }
 
-/// The number that the word is, without superfluous zeros. It takes no memory.
+/// Reads the number that the word is, without superfluous zeros. It takes no memory.
 pub(crate) fn sample_number(word: &[u8]) -> Option<SampleNumber>
     ensures { option_map (λ found. found.number) result ≡ sample_number word.now }
 {

@@ -52,7 +52,7 @@ impl Sampling {
     }
 }
 
-/// The sample of that number. Its task is compiled, and its plan embedded and judged.
+/// Makes the sample of that number. Its task is compiled, and its plan embedded and judged.
 pub(crate) fn sample(alloc: Global, number: u32) -> Result<Sampling, Ending>
     requires some { 1 ≤ number }
     requires few { number ≤ 200 }
@@ -70,7 +70,7 @@ pub(crate) fn sample(alloc: Global, number: u32) -> Result<Sampling, Ending>
     Ok(Sampling { sample, report })
 }
 
-/// The texts of a sample, as those of a task and of a plan for it.
+/// Takes the texts of a sample as those of a task and of a plan for it.
 fn texts_of(sample: &Sample) -> Texts<'_>
     requires domain { length sample.now.domain ≤ 16777216 }
     requires problem { length sample.now.problem ≤ 16777216 }
@@ -87,7 +87,7 @@ fn texts_of(sample: &Sample) -> Texts<'_>
     }
 }
 
-/// The report of the task and of the plan that the texts spell.
+/// Makes the report of the task and of the plan that the texts spell.
 fn report_of(alloc: Global, texts: &Texts<'_>) -> Result<Report, Ending>
     ensures means { IfOk result (λ report.
         IsSampleReport (all_texts texts.now) (report_text report)) }
@@ -105,7 +105,7 @@ fn report_of(alloc: Global, texts: &Texts<'_>) -> Result<Report, Ending>
     Ok(Report::Generate(report))
 }
 
-/// The value of a valid plan.
+/// Finds the value of a valid plan.
 fn value_of(alloc: Global, whole: &Whole, plan: &Plan) -> Result<i128, NoMemory>
     requires few { length plan.now ≤ step_limit }
     requires valid { Valid whole.now.checked.task plan.now }

@@ -20,6 +20,52 @@ pub(crate) struct Row {
     pub(crate) writes: &'static [Role],
 }
 
+/// Translates a task.
+const COMPILE: Row = Row {
+    word: b"compile",
+    is_numbered: false,
+    reads: &[Role::Domain, Role::Problem],
+    writes: &[Role::WrittenDomain, Role::WrittenProblem],
+};
+
+/// Brings a plan of a written task back to the task.
+const LIFT: Row = Row {
+    word: b"lift",
+    is_numbered: false,
+    reads: &[
+        Role::Domain,
+        Role::Problem,
+        Role::WrittenDomain,
+        Role::WrittenProblem,
+        Role::Plan,
+    ],
+    writes: &[Role::Plan],
+};
+
+/// Translates a task, and a plan of it with it.
+const EMBED: Row = Row {
+    word: b"embed",
+    is_numbered: false,
+    reads: &[Role::Domain, Role::Problem, Role::Plan],
+    writes: &[Role::WrittenDomain, Role::WrittenProblem, Role::Plan],
+};
+
+/// Judges a plan of a task.
+const EVALUATE: Row = Row {
+    word: b"evaluate",
+    is_numbered: false,
+    reads: &[Role::Domain, Role::Problem, Role::Plan],
+    writes: &[],
+};
+
+/// Writes a sample.
+const GENERATE: Row = Row {
+    word: b"generate",
+    is_numbered: true,
+    reads: &[],
+    writes: &[Role::Domain, Role::Problem, Role::Plan],
+};
+
 /// All commands.
 const KINDS: &[CommandKind] = &[
     CommandKind::Compile,
@@ -29,51 +75,20 @@ const KINDS: &[CommandKind] = &[
     CommandKind::Generate,
 ];
 
-/// The row of a command.
+/// Gives the row of a command.
 pub(crate) fn row_of(kind: CommandKind) -> Row
     ensures { as_row result ≡ commands.row kind }
 {
     match kind {
-        CommandKind::Compile => Row {
-            word: b"compile",
-            is_numbered: false,
-            reads: &[Role::Domain, Role::Problem],
-            writes: &[Role::WrittenDomain, Role::WrittenProblem],
-        },
-        CommandKind::Lift => Row {
-            word: b"lift",
-            is_numbered: false,
-            reads: &[
-                Role::Domain,
-                Role::Problem,
-                Role::WrittenDomain,
-                Role::WrittenProblem,
-                Role::Plan,
-            ],
-            writes: &[Role::Plan],
-        },
-        CommandKind::Embed => Row {
-            word: b"embed",
-            is_numbered: false,
-            reads: &[Role::Domain, Role::Problem, Role::Plan],
-            writes: &[Role::WrittenDomain, Role::WrittenProblem, Role::Plan],
-        },
-        CommandKind::Evaluate => Row {
-            word: b"evaluate",
-            is_numbered: false,
-            reads: &[Role::Domain, Role::Problem, Role::Plan],
-            writes: &[],
-        },
-        CommandKind::Generate => Row {
-            word: b"generate",
-            is_numbered: true,
-            reads: &[],
-            writes: &[Role::Domain, Role::Problem, Role::Plan],
-        },
+        CommandKind::Compile => COMPILE,
+        CommandKind::Lift => LIFT,
+        CommandKind::Embed => EMBED,
+        CommandKind::Evaluate => EVALUATE,
+        CommandKind::Generate => GENERATE,
     }
 }
 
-/// The command of a word. It takes no memory.
+/// Finds the command of a word. It takes no memory.
 pub(crate) fn kind_of(word: &[u8]) -> Option<CommandKind>
     ensures { result ≡ commands.kind_of word.now }
 {

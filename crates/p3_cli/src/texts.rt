@@ -32,7 +32,7 @@ impl<'t> Texts<'t> {
       text_of,
     };
 
-    /// The domain of the task of a side.
+    /// Gives the domain of the task of a side.
     pub(crate) fn domain_of(&self, side: Side) -> &'t [u8]
         ensures text { result.now ≡ domain_of side (all_texts self.now) }
         ensures short { length result.now ≤ byte_limit side }
@@ -43,7 +43,7 @@ impl<'t> Texts<'t> {
         }
     }
 
-    /// The problem of the task of a side.
+    /// Gives the problem of the task of a side.
     pub(crate) fn problem_of(&self, side: Side) -> &'t [u8]
         ensures text { result.now ≡ problem_of side (all_texts self.now) }
         ensures short { length result.now ≤ byte_limit side }
@@ -54,7 +54,7 @@ impl<'t> Texts<'t> {
         }
     }
 
-    /// The text of the file that a role names.
+    /// Gives the text of the file that a role names.
     fn of(&self, role: Role) -> &'t [u8]
         ensures text { result.now ≡ text_of role (all_texts self.now) }
         ensures short { length result.now ≤ 268435456 }
@@ -68,7 +68,7 @@ impl<'t> Texts<'t> {
         }
     }
 
-    /// The ending that says a refusal of one of the texts.
+    /// Gives the ending that says a refusal of one of the texts.
     pub(crate) fn refused(&self, refusal: &Refusal) -> Ending
         ensures { IsRejectedBy
             (λ how. how

@@ -58,7 +58,7 @@ pub(crate) fn translate(alloc: Global, texts: &Texts<'_>) -> Result<Translation,
     Ok(made)
 }
 
-/// What is written of a task of which nothing is refused, and the report.
+/// Writes the target of a task of which nothing is refused, and makes the report.
 fn translation_of(alloc: Global, whole: &Whole) -> Result<Translation, NoMemory>
     requires { CanBeCompiled whole.now.checked.task whole.now.ground_task whole.now.weights }
     ensures text { IfOk result (λ made.
