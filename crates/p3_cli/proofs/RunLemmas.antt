@@ -95,10 +95,13 @@ module _ (command : Command) (asked : List Input) (same : asked ≡ inputs comma
 -- an ending of what is asked, of which no line was put before
 pub ends_so : {asked : Option Command} {command : Command} {old new : FilesSeen} {before after : SinkSeen} {status : ℕ} (mid : SinkSeen) (how : Ending) → Some command ≡ asked → mid ≡ before
     → Comes command old new how → Leaves command old.held new.held how → Tells mid after status how → (end : Ending) × Ends asked old new before after status end
-ends_so {asked} {command} {old} {new} {before} {after} {status} mid how is unput comes leaves tells = (how, record {
-  answers = subst (λ some. Answers some old new how) is (comes, leaves);
-  tells = subst (λ (first : SinkSeen). Tells first after status how) unput tells;
-})
+ends_so {asked} {command} {old} {new} {before} {after} {status} mid how is unput comes leaves tells = (
+  how,
+  record {
+    answers = subst (λ some. Answers some old new how) is (comes, leaves);
+    tells = subst (λ (first : SinkSeen). Tells first after status how) unput tells;
+  },
+)
 
 -- the status, but where the report was not put
 pub kept_status : (before after : SinkSeen) (status : ℕ) (how : Ending) → Tells before after status how → status_of how ≢ 0 → status ≡ status_of how
