@@ -30,7 +30,7 @@ pub use laws::{
 pub use modal::{GroundModal, GroundPref, GroundSoft};
 pub use node::Node;
 pub use same::same_form;
-pub use simpler::{negate, simplify};
+pub use simpler::{negate, push_spread, simplify};
 pub use table::Table;
 pub use target::{Target, TargetAction, Weights};
 pub use task::{GroundStep, GroundTask};
