@@ -4,11 +4,11 @@ use Rattle.std.specs.Prelude.{Option, Some, None}
 use Rattle.std.specs.List.{All, filter, flat_map, list_all}
 use Rattle.std.proofs.Math.Bool.{and-true}
 use Rattle.std.proofs.lemmas.Bool.{and_parts, and_from}
-use Rattle.std.proofs.lemmas.List.{append-nil, append_assoc, length-append, map-append, take_more}
+use Rattle.std.proofs.lemmas.List.{append-nil, append_assoc, length-append, map-append}
 use Rattle.std.proofs.lemmas.List.Concat.{flat_map-append}
 use Rattle.std.proofs.lemmas.List.Elements.{All-cons, All-head, All-tail, filter-append}
 use Rattle.std.proofs.lemmas.List.Folds.{list_all-append}
-use Rattle.p3_formula.specs.Forms.{HasAtomsOf, HasSameTruth, State, has_atoms, truth}
+use Rattle.p3_formula.specs.Forms.{HasAtomsOf, State, has_atoms, truth}
 use Rattle.p3_formula.specs.declared.form.Form.{Form}
 use Rattle.p3_flat.proofs.ItemLemmas.{front}
 use Rattle.p3_flat.specs.declared.choices.Choice.{Choice}

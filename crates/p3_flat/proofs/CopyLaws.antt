@@ -26,7 +26,7 @@ use Rattle.p3_flat.specs.declared.placing.Placing.{Placing}
 use Rattle.p3_flat.specs.Conditions.{conditions, has_form, with_condition, with_form}
 use Rattle.p3_flat.specs.Copies.{AreCopiesOf, HasOneCopy, IsCopyName, copy_named, digit_of, ending_of, fitting, names_of}
 use Rattle.p3_flat.specs.Flattened.{AreFlattened}
-use Rattle.p3_flat.specs.Splitting.{AreChoices, AreCopies, ArePlacedIn, HasPlace, IsCopy, IsPartOf, IsPlaced, both_ways, has_choice_atoms, is_added_in, is_met, patterns, patterns_of, settled, shown}
+use Rattle.p3_flat.specs.Splitting.{AreChoices, AreCopies, ArePlacedIn, HasPlace, IsCopy, IsPartOf, IsPlaced, both_ways, has_choice_atoms, is_added_in, is_met, patterns, patterns_of, settled}
 use Rattle.p3_flat.proofs.ChoiceLemmas.{part_all}
 use Rattle.p3_flat.proofs.ItemLemmas.{front, nil_no_cons, none_no_some}
 use Rattle.p3_flat.proofs.NamingLemmas.{lifted_named}

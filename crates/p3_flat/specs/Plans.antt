@@ -1,5 +1,5 @@
 -- The plans of a target and of its flattening.
-use Rattle.std.specs.Prelude.{◌≡◌, ◌==◌, ◌&&◌, if◌then◌else◌, List, [], ◌∷◌, map}
+use Rattle.std.specs.Prelude.{◌≡◌, ◌==◌, ◌&&◌, if◌then◌else◌, [], ◌∷◌, map}
 use Rattle.p3_base.specs.Words.{Name, are_digits}
 use Rattle.p3_formula.specs.Targets.{TargetPlan, TargetValid, ground_lift, target_cost}
 use Rattle.p3_formula.specs.declared.target.Target.{Target}
