@@ -34,7 +34,7 @@ guards_tidy (guard ∷ guards) = guards_tidy guards
 -- ---- one part more
 
 module _ (state : State) where
-  spread_truth : (part : Form) → list_all (truth state) (spread part) ≡ truth state part
+  pub spread_truth : (part : Form) → list_all (truth state) (spread part) ≡ truth state part
   unfolding truth
   spread_truth True = refl
   spread_truth False = refl
@@ -55,7 +55,7 @@ module _ (state : State) where
   last_truth kept (Or' shape parts) = joined_last kept (Or' shape parts)
 
 module _ (allowed : ℕ → Bool) where
-  spread_atoms : (part : Form) → list_all (has_atoms allowed) (spread part) ≡ has_atoms allowed part
+  pub spread_atoms : (part : Form) → list_all (has_atoms allowed) (spread part) ≡ has_atoms allowed part
   unfolding has_atoms
   spread_atoms True = refl
   spread_atoms False = refl

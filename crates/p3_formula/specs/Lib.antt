@@ -16,3 +16,4 @@ pub mod Simplified
 pub mod Nodes
 pub mod Conditions
 pub mod AtomLists
+pub mod Unconditional

@@ -28,7 +28,7 @@ impl Form {
 
 impl Change {
     /// The atom is set, whatever holds.
-    pub(crate) fn sets(atom: usize) -> Change
+    pub fn sets(atom: usize) -> Change
         ensures { result ≡ made.sets atom }
     {
         Change {
@@ -39,7 +39,7 @@ impl Change {
     }
 
     /// The atom is cleared, whatever holds.
-    pub(crate) fn clears(atom: usize) -> Change
+    pub fn clears(atom: usize) -> Change
         ensures { result ≡ made.clears atom }
     {
         Change {

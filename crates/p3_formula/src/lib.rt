@@ -31,7 +31,7 @@ pub use laws::{
 pub use modal::{Forms, GroundModal, GroundPref, GroundSoft};
 pub use node::Node;
 pub use same::same_form;
-pub use simpler::{negate, simplify, tidied};
+pub use simpler::{negate, push_spread, simplify, tidied};
 pub use table::Table;
 pub use target::{Target, TargetAction, Weights};
 pub use task::{GroundStep, GroundTask};

@@ -126,7 +126,7 @@ fn push_one(kept: &mut Vec<Form>, part: Form) -> Result<(), NoMemory>
 
 /// What a part of a conjunction consists of stands behind the others.
 #[tactic(auto, using(crate::proofs::SimplifiedLemmas::spread_laws))]
-fn push_spread(kept: &mut Vec<Form>, part: Form) -> Result<(), NoMemory>
+pub fn push_spread(kept: &mut Vec<Form>, part: Form) -> Result<(), NoMemory>
     ensures { OnOk result (kept.new.items ≡ kept.old.items ++ made.spread part) }
 {
     match part {

@@ -4,3 +4,4 @@ pub mod WrittenForms
 pub mod WrittenPlans
 pub mod WrittenShape
 pub mod WrittenSteps
+pub mod UnconditionalLaws

@@ -4,5 +4,5 @@
 mod laws;
 mod layout;
 
-pub use laws::targets_are_their_tasks;
+pub use laws::{targets_are_their_tasks, unconditional_targets_are_unconditional_tasks};
 pub use layout::{write_domain, write_problem};

@@ -1,0 +1,12 @@
+pub mod ItemLemmas
+pub mod NamingLemmas
+pub mod PlacingLemmas
+pub mod SettlingLemmas
+pub mod ChoiceLemmas
+pub mod SpreadLaws
+pub mod ExclusionLaws
+pub mod CopyLaws
+pub mod PlanLaws
+pub mod FlatLaws
+pub mod WorkedCases
+pub mod CaseLemmas
