@@ -53,7 +53,7 @@ or-turn false true = refl
 or-turn false false = refl
 
 module _ (name : Name) where
-  is_there : List tree.Named → Bool
+  abbrev is_there : List tree.Named → Bool
   is_there named = has_name (map (λ (one : tree.Named). one.name) named) name
 
   there-append : (xs ys : List tree.Named) → is_there (xs ++ ys) ≡ (is_there xs || is_there ys)
