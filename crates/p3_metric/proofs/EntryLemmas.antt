@@ -13,7 +13,7 @@ use Rattle.p3_tree.specs.Names.{Name, same_name}
 use Rattle.p3_tree.specs.Refusals.Metric.{is_within}
 use Rattle.p3_tree.specs.Sides.{weight_bound}
 use Rattle.std.proofs.lemmas.Slice.Eq.{bytes_eq-Decides}
-use Rattle.std.proofs.Math.IntN.{one, zero-*ℤ, *ℤ-zero, *ℤ-one, *ℤ_comm, +ℤ_comm}
+use Rattle.std.proofs.Math.IntN.{one, *ℤ-zero, *ℤ-one, *ℤ_comm, +ℤ_comm}
 use Rattle.p3_metric.specs.declared.entries.Judged.{Judged}
 use Rattle.p3_metric.specs.Entries.{IsJudged, AreBelow, AreWithin, key, number_at, changed, poured, products}
 
@@ -160,11 +160,3 @@ judged_where F G judged same is = record { numbers = λ name. is.numbers name �
 
 pub mixed_swapped : (e f s o F O : ℤ) → F ≡ f → O ≡ o → s *ℤ O +ℤ e *ℤ F ≡ e *ℤ f +ℤ s *ℤ o
 mixed_swapped e f s o F O same alike = (λ i. s *ℤ alike i +ℤ e *ℤ same i) ∙ +ℤ_comm (s *ℤ o) (e *ℤ f)
-
--- where no entry is left, all numbers are those of another list, each times 0
-pub judged_cleared : (P : Name → ℤ) (judged : Judged) → judged.entries.entries ≡ [] → judged.within ≡ true → IsJudged (products (pos 0) P) judged
-judged_cleared P judged none within = record {
-  numbers = λ name. number_at_none judged.entries none name ∙ sym (zero-*ℤ (P name));
-  within = λ _ name. ap (is_within weight_bound) (number_at_none judged.entries none name);
-  large = λ e. absurd (true≢false (sym within ∙ e));
-}

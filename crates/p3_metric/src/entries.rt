@@ -170,17 +170,6 @@ pub(crate) fn scaled<'t>(
     })
 }
 
-/// The numbers, each times 0: no entry is left.
-pub(crate) fn cleared<'t>(alloc: Global, entries: Entries<'t>) -> Judged<'t>
-    ensures { IsJudged (products (pos 0) (number_at entries.entry)) result }
-{
-    let none = IndexMap::with_hasher(alloc, *entries.hasher());
-    Judged {
-        entries: none,
-        within: true,
-    }
-}
-
 /// The numbers of both, each times a factor. Where those of the first stay as they are, the entries
 /// of the second alone are looked at.
 fn merged<'t>(

@@ -37,7 +37,7 @@ ghost use Rattle.p3_metric.specs.Forms.{
   IsSum,
 };
 
-use crate::entries::{Entries, Judged, cleared, combined, is_within_bound, scaled};
+use crate::entries::{Entries, Judged, combined, is_within_bound, scaled};
 use p3_base::NoMemory;
 use std::alloc::Global;
 
@@ -197,13 +197,13 @@ fn multiplied<'t>(alloc: Global, entries: Entries<'t>, factor: i128) -> Result<J
     requires within { AreWithin (number_at entries) }
     ensures { IfOk result (IsJudged (products factor (number_at entries.entry))) }
 {
-    match factor {
-        0 => Ok(cleared(alloc, entries)),
-        1 => Ok(Judged {
+    if factor == 1 {
+        Ok(Judged {
             entries,
             within: true,
-        }),
-        _ => scaled(alloc, entries, factor),
+        })
+    } else {
+        scaled(alloc, entries, factor)
     }
 }
 
