@@ -1,9 +1,9 @@
 -- The choices in order are those of rising numbers.
-use Rattle.std.proofs.Common.{◌≡◌, ◌∙◌, ℕ, ◌+◌, ◌*◌, ◌/◌, ◌%◌, ◌<◌, ◌≤◌, List, [], ◌∷◌, ◌++◌, map, length, take, drop, get_or, refl, sym, ap, subst, arith, zero, suc, length-append, add-one, Bool, true, false}
-use Rattle.std.specs.Prelude.{flat_map, slice_index_or, MatchBool}
+use Rattle.std.proofs.Common.{◌≡◌, ◌∙◌, ℕ, ◌+◌, ◌*◌, ◌/◌, ◌%◌, ◌<◌, ◌≤◌, List, [], ◌∷◌, ◌++◌, map, length, take, drop, get_or, refl, sym, ap, subst, arith, zero, suc, length-append, add-one}
+use Rattle.std.specs.Prelude.{flat_map, slice_index_or}
 use Rattle.std.proofs.Math.Seq.{drop-cons}
-use Rattle.std.proofs.Math.Nat.{suc-mul, mul-suc, mul_assoc}
-use Rattle.std.proofs.lemmas.Nat.{mul-lt, div_below, mod_below, div-add-mod', div-mul-add}
+use Rattle.std.proofs.Math.Nat.{suc-mul, mul_assoc}
+use Rattle.std.proofs.lemmas.Nat.{div_below, mod_below, div-add-mod', div-mul-add}
 use Rattle.std.proofs.lemmas.List.{get_or-map, length-map, length-take}
 use Rattle.std.proofs.lemmas.List.Concat.{get_or-flat_map}
 use Rattle.p3_numbers.specs.Slots.{range_at, tuples_of, bound}
@@ -27,15 +27,6 @@ module _ {A : Type 0} (tuples : List (List A)) where
   length-begun (x ∷ xs) =
       length-append (begun x) (flat_map begun xs) ∙ (λ i. length-map tuples (λ rest. x ∷ rest) i + length-begun xs i)
       ∙ omega (arith, suc-mul (length xs) (length tuples))
-
-times-some : (a b total large : ℕ) → a * b ≡ total → 0 < total → large ≤ a → large ≤ total
-times-some a zero total large is some low = absurd (omega (arith, is, some))
-times-some a (suc b) total large is some low = omega (arith, is, low, mul-suc a b)
-
--- none is empty where the test fails
-pub some-left : (test : Bool) (count : ℕ) → MatchBool test (count ≡ 0) (0 < count) → test ≡ false → 0 < count
-some-left true count is fails = absurd (cc)
-some-left false count is fails = is
 
 drop-past : {A : Type 0} (xs : List A) (i : ℕ) → length xs ≤ i → drop i xs ≡ []
 drop-past [] zero past = refl
@@ -93,23 +84,6 @@ module _ (N : Numbers) where
   product-next ranges i d before after objects within here is =
       ap (λ n. n * choice_count N (drop (i + 1) ranges)) (is ∙ ap (λ items. before * length items) here)
       ∙ mul_assoc before (length (range_at N (get_or ranges i d))) (choice_count N (drop (i + 1) ranges)) ∙ ap (λ n. before * n) (sym (count-next ranges i d within))
-
-  -- what is too large on the way is too large in the end, where no range is empty
-  pub product-large : (ranges : List ℕ) (i d before large : ℕ) (objects : List ℕ) → i < length ranges → objects ≡ range_at N (get_or ranges i d)
-      → before * choice_count N (drop i ranges) ≡ choice_count N ranges → 0 < choice_count N ranges → large ≤ before * length objects → large ≤ choice_count N ranges
-  product-large ranges i d before large objects within here is some low =
-      times-some (before * length objects) (choice_count N (drop (i + 1) ranges)) (choice_count N ranges) large
-      (product-next ranges i d before (before * length objects) objects within here refl ∙ is) some low
-
-  -- a range that is not empty is passed
-  pub some-next : (ranges : List ℕ) (i d : ℕ) (objects : List ℕ) → i < length ranges → objects ≡ range_at N (get_or ranges i d) → 0 < length objects
-      → (0 < choice_count N (drop i ranges) → 0 < choice_count N ranges) → 0 < choice_count N (drop (i + 1) ranges) → 0 < choice_count N ranges
-  some-next ranges i d objects within here some passed rest =
-      passed (subst (λ n. 0 < n) (sym (count-next ranges i d within ∙ ap (λ items. length items * choice_count N (drop (i + 1) ranges)) (sym here)))
-      (mul-lt 0 0 (length objects) (choice_count N (drop (i + 1) ranges)) some rest))
-
-  pub some-end : (ranges : List ℕ) (i : ℕ) → length ranges ≤ i → (0 < choice_count N (drop i ranges) → 0 < choice_count N ranges) → 0 < choice_count N ranges
-  some-end ranges i past passed = passed (omega (arith, count-end ranges i past))
 
   pub choice-end : (ranges : List ℕ) (i rest : ℕ) → length ranges ≤ i → choice N (drop i ranges) rest ≡ []
   unfolding choice

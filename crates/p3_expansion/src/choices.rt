@@ -1,12 +1,11 @@
 //! Choices of one object of each range, one after another.
 
-ghost use Rattle.std.specs.Prelude.{◌≡◌, ◌≤◌, ◌<◌, ◌^◌, ◌++◌, length, take, slice_index_or, OnOk};
-ghost use Rattle.std.specs.Prelude.{MatchBool};
-ghost use Rattle.std.specs.Result.{MatchResult};
+ghost use Rattle.std.specs.Prelude.{◌≡◌, ◌<◌, ◌++◌, length, take, slice_index_or, OnOk, IfOk};
+ghost use Rattle.std.specs.Bool.{OnTrue};
 ghost use Rattle.p3_numbers.specs.Slots.{range_at};
 ghost use Rattle.p3_numbers.specs.Choices.{choice, choice_count as count_of};
 
-use p3_base::{NoMemory, TooLarge};
+use p3_base::NoMemory;
 use p3_numbers::Numbers;
 
 /// The objects of a range.
@@ -31,9 +30,7 @@ pub fn object_at(objects: &[u32], place: usize) -> u32
 
 /// Whether a range has no object.
 fn has_empty(numbers: &Numbers, ranges: &[u32]) -> bool
-    ensures { MatchBool result
-        (count_of numbers.now ranges.now ≡ 0)
-        (0 < count_of numbers.now ranges.now) }
+    ensures { OnTrue result (count_of numbers.now ranges.now ≡ 0) }
 {
     for range in ranges {
         if objects_of(numbers, *range).is_empty() {
@@ -44,14 +41,8 @@ fn has_empty(numbers: &Numbers, ranges: &[u32]) -> bool
 }
 
 /// How many choices there are.
-///
-/// # Errors
-///
-/// `TooLarge` exactly from 2 ^ 64 on.
-pub fn choice_count(numbers: &Numbers, ranges: &[u32]) -> Result<usize, TooLarge>
-    ensures { MatchResult result
-        (λ count. count ≡ count_of numbers.now ranges.now)
-        (λ _. 2 ^ 64 ≤ count_of numbers.now ranges.now) }
+pub fn choice_count(numbers: &Numbers, ranges: &[u32]) -> Result<usize, NoMemory>
+    ensures { IfOk result (λ count. count ≡ count_of numbers.now ranges.now) }
 {
     if has_empty(numbers, ranges) {
         return Ok(0);
@@ -60,7 +51,7 @@ pub fn choice_count(numbers: &Numbers, ranges: &[u32]) -> Result<usize, TooLarge
     for range in ranges {
         match count.checked_mul(objects_of(numbers, *range).len()) {
             Some(more) => count = more,
-            None => return Err(TooLarge),
+            None => return Err(NoMemory),
         }
     }
     Ok(count)

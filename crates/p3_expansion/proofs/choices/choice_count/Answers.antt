@@ -1,5 +1,5 @@
 use Rattle.std.proofs.Common.{rules, ◌≡◌, ◌∙◌, ◌*◌, length, sym, ap, arith}
-use Rattle.p3_expansion.proofs.ChoiceLemmas.{count-end, product-large, product-next, some-left}
+use Rattle.p3_expansion.proofs.ChoiceLemmas.{count-end, product-next}
 use Rattle.p3_expansion.proofs.choices.choice_count.Goals as goal
 
 pub loop-range-preserved : goal.loop-range-preserved
@@ -12,9 +12,3 @@ returns c = let e = count-end c.args.numbers.now c.args.ranges.now c.loop-range.
     let i = c.loop-range.invariant in
     let one : c.loop-range.count ≡ c.loop-range.count * 1 = omega arith in
     one ∙ ap (λ n. c.loop-range.count * n) (sym e) ∙ i
-
-pub returns-in-None : goal.returns-in-None
-returns-in-None c =
-    let some = some-left _ _ c.has_empty.ensures c.if-has_empty.false in
-    product-large c.args.numbers.now c.args.ranges.now c.loop-range.range-index 0 c.loop-range.count (2 ^ 64) c.objects_of.result.now c.loop-range-test.true c.objects_of.ensures c.loop-range.invariant some
-    (omega (arith, c.in-None.ensures, c.len.ensures))
