@@ -19,6 +19,9 @@ const USAGE_LINES: &str = "usage: pddl3c compile D P OD OP
        pddl3c embed D P PLAN OD OP OUT
        pddl3c evaluate D P PLAN
        pddl3c generate N D P PLAN
+       pddl3c compile-flat D P OD OP
+       pddl3c explain D P PLAN
+       pddl3c watch D P PLAN
 ";
 
 /// Puts the line that says that an input was not read.

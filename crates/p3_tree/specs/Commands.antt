@@ -8,7 +8,7 @@ use Rattle.p3_base.specs.declared.refusal.Role.TheVariants as role
 use Rattle.p3_base.specs.declared.refusal.Side.TheVariants.{Source, Written}
 use Rattle.p3_tree.specs.Sides.{byte_limit, plan_byte_limit}
 use Rattle.p3_tree.specs.declared.command.CommandKind.{CommandKind}
-use Rattle.p3_tree.specs.declared.command.CommandKind.TheVariants.{Compile, Lift, Embed, Evaluate, Generate}
+use Rattle.p3_tree.specs.declared.command.CommandKind.TheVariants.{Compile, Lift, Embed, Evaluate, Generate, CompileFlat, Explain, Watch}
 
 -- a word as it was given
 abbrev pub Word : Type 0
@@ -38,10 +38,13 @@ row Lift = record { word = codes "lift"; is_numbered = false; reads = source_tas
 row Embed = record { word = codes "embed"; is_numbered = false; reads = source_task ++ plan; writes = written_task ++ plan }
 row Evaluate = record { word = codes "evaluate"; is_numbered = false; reads = source_task ++ plan; writes = [] }
 row Generate = record { word = codes "generate"; is_numbered = true; reads = []; writes = source_task ++ plan }
+row CompileFlat = record { word = codes "compile-flat"; is_numbered = false; reads = source_task; writes = written_task }
+row Explain = record { word = codes "explain"; is_numbered = false; reads = source_task ++ plan; writes = [] }
+row Watch = record { word = codes "watch"; is_numbered = false; reads = source_task ++ plan; writes = [] }
 
 -- in the order of the lines of usage
 abbrev pub kinds : List CommandKind
-kinds = Compile ∷ Lift ∷ Embed ∷ Evaluate ∷ Generate ∷ []
+kinds = Compile ∷ Lift ∷ Embed ∷ Evaluate ∷ Generate ∷ CompileFlat ∷ Explain ∷ Watch ∷ []
 
 -- ---- commands
 

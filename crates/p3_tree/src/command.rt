@@ -13,4 +13,10 @@ pub enum CommandKind {
     Evaluate,
     /// Write a sample.
     Generate,
+    /// Translate a task without conditional effects.
+    CompileFlat,
+    /// Say where the constraints and preferences of a plan are decided.
+    Explain,
+    /// Judge a plan after each of its lines.
+    Watch,
 }

@@ -6,7 +6,7 @@ use Rattle.p3_tree.specs.Faithful.{extra}
 use Rattle.p3_tree.specs.PlanTexts.{IsPlanText}
 use Rattle.p3_tree.specs.Commands.{Command, command_of}
 use Rattle.p3_tree.specs.declared.command.CommandKind.{CommandKind}
-use Rattle.p3_tree.specs.declared.command.CommandKind.TheVariants.{Compile, Lift, Embed, Evaluate, Generate}
+use Rattle.p3_tree.specs.declared.command.CommandKind.TheVariants.{Compile, Lift, Embed, Evaluate, Generate, CompileFlat, Explain, Watch}
 use Rattle.p3_tree.specs.Reports.Lines.{usage_lines}
 use Rattle.p3_tree.specs.Reports.Tasks.{compiled_lines}
 use Rattle.p3_tree.specs.Reports.Plans.{evaluated_lines, generated_lines}
@@ -125,6 +125,9 @@ pub record WordsOfCommands : Type 0 where
   pub embed : Asks ("embed" ∷ "d" ∷ "p" ∷ "q" ∷ "x" ∷ "y" ∷ "o" ∷ []) Embed 0 ("d" ∷ "p" ∷ "q" ∷ []) ("x" ∷ "y" ∷ "o" ∷ [])
   pub evaluate : Asks ("evaluate" ∷ "d" ∷ "p" ∷ "q" ∷ []) Evaluate 0 ("d" ∷ "p" ∷ "q" ∷ []) []
   pub generate : Asks ("generate" ∷ "200" ∷ "d" ∷ "p" ∷ "q" ∷ []) Generate 200 [] ("d" ∷ "p" ∷ "q" ∷ [])
+  pub compile_flat : Asks ("compile-flat" ∷ "d" ∷ "p" ∷ "x" ∷ "y" ∷ []) CompileFlat 0 ("d" ∷ "p" ∷ []) ("x" ∷ "y" ∷ [])
+  pub explain : Asks ("explain" ∷ "d" ∷ "p" ∷ "q" ∷ []) Explain 0 ("d" ∷ "p" ∷ "q" ∷ []) []
+  pub watch : Asks ("watch" ∷ "d" ∷ "p" ∷ "q" ∷ []) Watch 0 ("d" ∷ "p" ∷ "q" ∷ []) []
   pub too_few : words ("generate" ∷ "0" ∷ "d" ∷ "p" ∷ "q" ∷ []) ≡ None
   pub too_many : words ("generate" ∷ "201" ∷ "d" ∷ "p" ∷ "q" ∷ []) ≡ None
   pub superfluous_zero : words ("generate" ∷ "03" ∷ "d" ∷ "p" ∷ "q" ∷ []) ≡ None
@@ -140,4 +143,7 @@ LinesOfUsage = usage_lines ≡ text_of (
     ∷ "       pddl3c lift D P OD OP PLAN OUT"
     ∷ "       pddl3c embed D P PLAN OD OP OUT"
     ∷ "       pddl3c evaluate D P PLAN"
-    ∷ "       pddl3c generate N D P PLAN" ∷ [])
+    ∷ "       pddl3c generate N D P PLAN"
+    ∷ "       pddl3c compile-flat D P OD OP"
+    ∷ "       pddl3c explain D P PLAN"
+    ∷ "       pddl3c watch D P PLAN" ∷ [])
