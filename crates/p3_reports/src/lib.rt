@@ -3,7 +3,6 @@
 
 mod fault;
 mod laws;
-mod line_buffer;
 mod outside;
 mod part;
 mod piece;
@@ -11,6 +10,7 @@ mod placed;
 mod quantity;
 mod refusal;
 mod report;
+mod stack_sink;
 #[cfg(test)]
 mod tests;
 mod words;
@@ -30,4 +30,5 @@ pub use report::{
     put_compile_report, put_embed_report, put_evaluate_report, put_generate_report,
     put_lift_report, put_report,
 };
+pub use stack_sink::StackSink;
 pub use words::{code_words, direction_word, misfit_words, role_word};
