@@ -4,7 +4,6 @@
 mod explanation;
 mod fault;
 mod laws;
-mod line_buffer;
 mod outside;
 mod part;
 mod piece;
@@ -12,6 +11,7 @@ mod placed;
 mod quantity;
 mod refusal;
 mod report;
+mod stack_sink;
 #[cfg(test)]
 mod tests;
 mod words;
@@ -32,4 +32,5 @@ pub use report::{
     put_compile_report, put_embed_report, put_evaluate_report, put_generate_report,
     put_lift_report, put_report,
 };
+pub use stack_sink::StackSink;
 pub use words::{code_words, direction_word, misfit_words, role_word};

@@ -7,11 +7,14 @@ ghost use Rattle.p3_base.specs.Outside.{IsPartlyPut, IsPut, Rose};
 ghost use Rattle.p3_reports.specs.Pieces.{piece_text, pieces_text};
 
 use crate::fault::Misfit;
-use crate::line_buffer::LineBuffer;
 use crate::quantity::Quantity;
+use crate::stack_sink::StackSink;
 use crate::words::{code_words, direction_word, misfit_words, role_word};
 use itoa::{Buffer, Integer};
 use p3_base::{Code, Direction, Role, Sink, SinkFailed};
+
+/// As many bytes as most lines have at most.
+const LINE_ROOM: usize = 256;
 
 /// A piece of a line: a text, or what is found, which is printed by its digits or its name.
 #[derive(Clone, Copy)]
@@ -46,7 +49,7 @@ pub fn put_pieces<S: Sink>(pieces: &[Piece<'_>], out: &mut S) -> Result<(), Sink
     ensures failed { OnErr result (Rose (S.seen out.old).faults (S.seen out.new).faults) }
     ensures faults_grow { (S.seen out.old).faults ≤ (S.seen out.new).faults }
 {
-    let mut line = LineBuffer::new();
+    let mut line = StackSink::<LINE_ROOM>::new();
     match put_each(pieces, &mut line) {
         Ok(()) => out.put(line.bytes()),
         Err(SinkFailed) => put_each(pieces, out),
