@@ -71,7 +71,7 @@ pub fn put_line<S: Sink>(
     ensures failed { OnErr result (Rose (S.seen out.old).faults (S.seen out.new).faults) }
     ensures faults_grow { (S.seen out.old).faults ≤ (S.seen out.new).faults }
 {
-    let mut line = LineBuffer::new();
+    let mut line = StackSink::<LINE_ROOM>::new();
     match put_both(first, second, &mut line) {
         Ok(()) => out.put(line.bytes()),
         Err(SinkFailed) => put_both(first, second, out),
