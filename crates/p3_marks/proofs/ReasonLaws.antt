@@ -27,7 +27,7 @@ use Rattle.p3_marks.proofs.ShownLaws.{shown_is}
 
 -- ---- one item more
 
-enumerate_push : {A : Type 0} (from : ℕ) (xs : List A) (x : A) (at : ℕ) → from + length xs ≡ at → enumerate_from from (xs ++ x ∷ []) ≡ enumerate_from from xs ++ (at, x) ∷ []
+pub enumerate_push : {A : Type 0} (from : ℕ) (xs : List A) (x : A) (at : ℕ) → from + length xs ≡ at → enumerate_from from (xs ++ x ∷ []) ≡ enumerate_from from xs ++ (at, x) ∷ []
 enumerate_push from [] x at e = let same : from ≡ at = omega (arith, e) in ap (λ (n : ℕ). (n, x) ∷ []) same
 enumerate_push from (y ∷ xs) x at e = ap (λ rest. (from, y) ∷ rest) (enumerate_push (from + 1) xs x at (omega (arith, e)))
 

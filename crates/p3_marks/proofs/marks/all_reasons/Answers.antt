@@ -19,7 +19,8 @@ loop-instance-preserved c =
     let instance = c.loop-instance.instance in
     let count = c.args.count in
     let groups = c.args.groups.now in
+    let lt : instance < length G.soft = let t = c.loop-instance-test.true in let e = c.len-instance-end.ensures in omega (arith, t, e) in
     let hard = shown_reasons count (group_at groups 0) (subject_by owner.Hard) G.hard in
     c.in_ok-push_group-2.ensures
     ∙ ap (λ number. c.loop-instance.reasons ++ shown_reasons count (group_at groups (instance + 1)) (subject_by (owner.Soft number)) (modals_at G (instance + 1))) c.in_ok-number.ensures
-    ∙ instance_more G instance c.loop-instance-test.true count groups hard c.loop-instance.reasons c.loop-instance.invariant
+    ∙ instance_more G instance lt count groups hard c.loop-instance.reasons c.loop-instance.invariant
