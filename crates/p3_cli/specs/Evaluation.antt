@@ -8,8 +8,6 @@ use Rattle.p3_tree.specs.Reports.Plans.{evaluated_lines}
 use Rattle.p3_tree.specs.Validity.{Fault, Valid, first_fault}
 use Rattle.p3_tree.specs.declared.task.Task.{Task}
 use Rattle.p3_reports.specs.Faults.{fault_named}
-use Rattle.p3_ground.specs.PlansByNumber.{AreNumbers}
-use Rattle.p3_run.specs.Runs.{Ran}
 use Rattle.p3_cli.specs.Ending.{Ending, Invalid}
 use Rattle.p3_cli.specs.Refusing.{AllTexts, IsRefusal, IsRejectedBy, task_texts}
 use Rattle.p3_cli.specs.declared.ending.Ending as code
@@ -49,12 +47,6 @@ RejectsPlan texts how = IsRefusal (given_plan texts) texts how ⊎ IsInvalidPlan
 
 abbrev pub IsRejectedPlan : AllTexts → code.Ending → Type 0
 IsRejectedPlan texts how = IsRejectedBy (RejectsPlan texts) how
-
--- ---- of a plan
-
--- it is so of the plan of the steps that a run has done
-abbrev pub OfRun : Task → Ran → (Plan → Type 0) → Type 0
-OfRun T ran Says = (plan : Plan) → AreNumbers T plan ran.plan → Says plan
 
 -- ---- of an accepted task and the text of a plan for it
 

@@ -26,10 +26,10 @@ ghost use Rattle.p3_cli.specs.Translation.{CanBeCompiled};
 
 use crate::Ending;
 use crate::acceptance::{accepted, readable_plan, spelled_task};
-use crate::found::{evaluated_report, named_fault};
+use crate::found::evaluated_report;
 use crate::texts::Texts;
 use p3_base::Side;
-use p3_eval::{PlanFault, Whole, first_fault};
+use p3_eval::{PlanFault, Whole, first_fault, named_fault};
 use p3_reports::Report;
 use std::alloc::Global;
 

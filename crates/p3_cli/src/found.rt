@@ -1,8 +1,7 @@
 //! What is found of tasks and plans, as the reports and the lines that say it want it.
 
-ghost use Rattle.std.specs.Prelude.{◌≡◌, IfOk, None, length, map, pos};
-ghost use Rattle.p3_tree.specs.Costs.{cost_places as places_of_costs};
-ghost use Rattle.p3_tree.specs.Metrics.{cost, metric_places as places_of, value};
+ghost use Rattle.std.specs.Prelude.{◌≡◌, IfOk, None, length, map};
+ghost use Rattle.p3_tree.specs.Metrics.{value};
 ghost use Rattle.p3_tree.specs.PreferenceNames.{ordered_names};
 ghost use Rattle.p3_tree.specs.Refusals.First.{task_refusal};
 ghost use Rattle.p3_tree.specs.Reports.Plans.{
@@ -12,8 +11,7 @@ ghost use Rattle.p3_tree.specs.Reports.Plans.{
   lifted_lines,
 };
 ghost use Rattle.p3_tree.specs.Reports.Tasks.{compiled_lines};
-ghost use Rattle.p3_reports.specs.Faults.{fault_named};
-ghost use Rattle.p3_reports.specs.Found.{IsQuantity, count_of};
+ghost use Rattle.p3_reports.specs.Found.{count_of};
 ghost use Rattle.p3_reports.specs.Reports.{
   compile_text,
   embed_text,
@@ -21,20 +19,18 @@ ghost use Rattle.p3_reports.specs.Reports.{
   generate_text,
   lift_text,
 };
-ghost use Rattle.p3_eval.specs.Judged.{fault_in};
-ghost use Rattle.p3_eval.specs.Runs.{BelongTogether};
-ghost use Rattle.p3_cli.specs.Evaluation.{OfRun};
+ghost use Rattle.p3_eval.specs.Runs.{BelongTogether, OfRun};
 ghost use Rattle.p3_cli.specs.Lifting.{differ_rejection};
 ghost use Rattle.p3_cli.specs.Translation.{CanBeCompiled};
 
 use p3_base::{List, Name, NoMemory};
 use p3_embed::Embedded;
-use p3_eval::{FaultKind, PlanFault, Run, Whole};
+use p3_eval::{Run, Whole, cost_of, metric_of, named_fault};
 use p3_lift::{Differ, Lifted};
 use p3_metric::metric_places;
 use p3_reports::{
-    CompileReport, EmbedReport, EvaluateReport, Fault, GenerateReport, LiftReport, Misfit,
-    NameCount, Quantity, Rejection,
+    CompileReport, EmbedReport, EvaluateReport, GenerateReport, LiftReport, NameCount, Quantity,
+    Rejection,
 };
 use p3_tree::Plan;
 use p3_types::Checked;
@@ -132,29 +128,6 @@ pub(crate) fn sampled_report(
     }
 }
 
-/// Gives what the steps of a run cost.
-fn cost_of(checked: &Checked, run: &Run<'_>) -> Quantity
-    requires { BelongTogether checked.now.task run.now.task run.now.weights }
-    ensures { OfRun checked.now.task run.now (λ plan. IsQuantity result
-        (places_of_costs checked.now.task) (pos (cost checked.now.task plan))) }
-{
-    Quantity {
-        places: checked.cost_places(),
-        units: run.total_cost(),
-    }
-}
-
-/// Gives a value of the metric with its places.
-fn metric_of(checked: &Checked, value: i128) -> Quantity
-    requires { task_refusal checked.now.side checked.now.task ≡ None }
-    ensures { IsQuantity result (places_of checked.now.task) value }
-{
-    Quantity {
-        places: metric_places(checked),
-        units: value,
-    }
-}
-
 /// Counts how often the preferences of each name are violated.
 fn violations_of(
     alloc: Global,
@@ -184,20 +157,6 @@ fn copied(alloc: Global, name: &Name) -> Result<Name, NoMemory>
     ensures { IfOk result (λ copy. copy ≡ name.now) }
 {
     Name::of(alloc, name.bytes())
-}
-
-/// Names the first fault of a plan.
-pub(crate) fn named_fault(fault: &PlanFault) -> Fault
-    ensures { result ≡ fault_named (fault_in fault.now) }
-{
-    match fault.kind {
-        FaultKind::UnknownAction => Fault::AtStep(fault.step, Misfit::UnknownAction),
-        FaultKind::Arguments => Fault::AtStep(fault.step, Misfit::Arguments),
-        FaultKind::Precondition => Fault::AtStep(fault.step, Misfit::Precondition),
-        FaultKind::NoCost => Fault::AtStep(fault.step, Misfit::NoCost),
-        FaultKind::Goal => Fault::AtGoal,
-        FaultKind::Unmet(place) => Fault::AtConstraint(place),
-    }
 }
 
 /// Gives why a plan is refused whose lifted plan differs.

@@ -6,7 +6,7 @@ use Rattle.std.proofs.Math.Seq.{drop-cons}
 use Rattle.std.proofs.lemmas.List.{length-take, take-append-drop, take_all, take_more}
 use Rattle.std.proofs.lemmas.Slice.Zip.{AllZip-long}
 use Rattle.p3_tree.specs.Goals.{hard_holds}
-use Rattle.p3_tree.specs.Plans.{Plan, arguments, cost_by, steps_fit}
+use Rattle.p3_tree.specs.Plans.{Plan, arguments, cost_by, last_state, steps_fit, visited}
 use Rattle.p3_tree.specs.States.{State}
 use Rattle.p3_tree.specs.StepNumbers.{HasNumber}
 use Rattle.p3_tree.specs.Validity.{Arguments, AtStep, Misfit, NoCost, Precondition, UnknownAction, first_fault, misfit, misfit_by}
@@ -19,7 +19,7 @@ use Rattle.p3_ground.specs.PlansByNumber.{AreNumbers}
 use Rattle.p3_run.specs.Runs.{Ran, most_steps}
 use Rattle.p3_run.specs.declared.answers.Stepped.{Stepped}
 use Rattle.p3_run.specs.declared.answers.Stepped.TheVariants as stepped
-use Rattle.p3_eval.specs.Judged.{HasDone, IsJudged, TellsOfFound, fault_in, fault_of_step, ran_with}
+use Rattle.p3_eval.specs.Judged.{HasDone, IsJudged, NamesMisfitOfFound, TellsOfFound, fault_in, fault_of_step, ran_with}
 use Rattle.p3_eval.specs.Runs.{BelongTogether, IsFaultOfAll, IsStepped, OfItsPlan, OfItsStep}
 use Rattle.p3_eval.specs.declared.fault.FaultKind.TheVariants as kind
 use Rattle.p3_eval.specs.declared.fault.PlanFault.{PlanFault}
@@ -46,6 +46,18 @@ module _ (ran : Ran) (place : ℕ) (is : place ≡ length ran.plan + 1) where
   tells_of_number number stepped.Done fitting told = fitting
   tells_of_number number stepped.Precondition fitting told = λ T all plan are step has rest. told T all plan are step has rest Precondition refl ∙ placed T plan are Precondition
   tells_of_number number stepped.NoCost fitting told = λ T all plan are step has rest. told T all plan are step has rest NoCost refl ∙ placed T plan are NoCost
+
+  -- why it does not fit, or that it fits
+  pub names_of_number : (number : ℕ) (answer : Stepped) → OfItsStep ran number (IsStepped answer) → NamesMisfitOfFound ran (found.Number number) (fault_of_step place answer)
+  names_of_number number stepped.Done fitting = λ T all plan are step has. sym (ap (option_map (AtStep (length plan + 1))) (fitting T all plan are step has))
+  names_of_number number stepped.Precondition fitting = λ T all plan are step has. sym (ap (option_map (AtStep (length plan + 1))) (fitting T all plan are step has) ∙ placed T plan are Precondition)
+  names_of_number number stepped.NoCost fitting = λ T all plan are step has. sym (ap (option_map (AtStep (length plan + 1))) (fitting T all plan are step has) ∙ placed T plan are NoCost)
+
+  pub names_of_unknown : NamesMisfitOfFound ran found.UnknownAction (Some (record { step = place; kind = kind.UnknownAction }))
+  names_of_unknown T all plan are step none = sym (ap (option_map (AtStep (length plan + 1))) (unknown T (last_state (visited T plan)) step none) ∙ placed T plan are UnknownAction)
+
+  pub names_of_arguments : NamesMisfitOfFound ran found.Arguments (Some (record { step = place; kind = kind.Arguments }))
+  names_of_arguments T all plan are step other = sym (ap (option_map (AtStep (length plan + 1))) (other_arguments T (last_state (visited T plan)) step other) ∙ placed T plan are Arguments)
 
   module _ (fit : OfItsPlan ran (λ T plan. IsTrue (steps_fit T plan))) where
     pub tells_of_unknown : TellsOfFound ran found.UnknownAction (Some (record { step = place; kind = kind.UnknownAction }))

@@ -1,5 +1,5 @@
 -- Faults as values of the code, and what judging one step more tells of a plan.
-use Rattle.std.specs.Prelude.{◌≡◌, ℕ, ◌≤◌, ◌∷◌, ◌++◌, Option, Some, None, option_map}
+use Rattle.std.specs.Prelude.{◌≡◌, ℕ, ◌+◌, ◌≤◌, ◌∷◌, ◌++◌, length, Option, Some, None, option_map}
 use Rattle.p3_tree.specs.Plans.{Plan, last_state, visited}
 use Rattle.p3_tree.specs.Validity as why
 use Rattle.p3_tree.specs.Validity.{AtConstraint, AtGoal, AtStep, Fault, first_fault, misfit}
@@ -54,7 +54,14 @@ abbrev pub TellsOf : Option PlanFault → Task → Plan → Step → Type 0
 TellsOf None T plan step = misfit T (last_state (visited T plan)) step ≡ None
 TellsOf (Some fault) T plan step = (rest : Plan) → first_fault T (plan ++ step ∷ rest) ≡ Some (fault_in fault)
 
+-- why the step does not fit behind the plan, if it does not: its fault is of the step of that number
+abbrev pub NamesMisfit : Option PlanFault → Task → Plan → Step → Type 0
+NamesMisfit fault T plan step = option_map fault_in fault ≡ option_map (AtStep (length plan + 1)) (misfit T (last_state (visited T plan)) step)
+
 -- it is so of each step that is found so
+abbrev pub NamesMisfitOfFound : Ran → Found → Option PlanFault → Type 0
+NamesMisfitOfFound ran found fault = OfItsPlan ran (λ T plan. (step : Step) → IsFound T step found → NamesMisfit fault T plan step)
+
 abbrev pub TellsOfFound : Ran → Found → Option PlanFault → Type 0
 TellsOfFound ran found fault = OfItsPlan ran (λ T plan. (step : Step) → IsFound T step found → TellsOf fault T plan step)
 

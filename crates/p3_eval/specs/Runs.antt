@@ -44,6 +44,10 @@ pub record HasTask (G : GroundTask) (w : Weights) : Type 0 where
 abbrev pub OfItsPlan : Ran → (Task → Plan → Type 0) → Type 0
 OfItsPlan ran Says = (T : Task) → BelongTogether T ran.task ran.weights → (plan : Plan) → AreNumbers T plan ran.plan → Says T plan
 
+-- it is so of the plan of the steps that a run of this task has done
+abbrev pub OfRun : Task → Ran → (Plan → Type 0) → Type 0
+OfRun T ran Says = (plan : Plan) → AreNumbers T plan ran.plan → Says plan
+
 -- it is so of the step of that number, too
 abbrev pub OfItsStep : Ran → ℕ → (Task → Plan → Step → Type 0) → Type 0
 OfItsStep ran number Says = OfItsPlan ran (λ T plan. (step : Step) → HasNumber T step number → Says T plan step)

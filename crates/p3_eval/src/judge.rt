@@ -1,11 +1,12 @@
 //! Plans judged step by step, as what each step is found.
 
-ghost use Rattle.std.specs.Prelude.{◌≡◌, ◌<◌, ◌≤◌, [], length, option_map, IfSome};
+ghost use Rattle.std.specs.Prelude.{◌≡◌, ◌+◌, ◌<◌, ◌≤◌, [], length, option_map, IfSome};
 ghost use Rattle.p3_tree.specs.Validity.{first_fault};
 ghost use Rattle.p3_run.specs.Runs.{most_steps};
 ghost use Rattle.p3_eval.specs.Judged.{
   HasItsStep,
   IsJudged,
+  NamesMisfitOfFound,
   TellsOfFound,
   fault_in,
   fault_of_step,
@@ -23,6 +24,7 @@ fn fault_of(step: u32, stepped: Stepped) -> Option<PlanFault>
     requires { 1 ≤ step }
     ensures told { result ≡ fault_of_step step stepped }
     ensures placed { IfSome result HasItsStep }
+    ensures counted { IfSome result (λ fault. fault.step ≡ step) }
 {
     match stepped {
         Stepped::Done => None,
@@ -39,11 +41,14 @@ fn fault_of(step: u32, stepped: Stepped) -> Option<PlanFault>
 
 impl<'a> Run<'a> {
     /// Does the step that is found so, where it fits. Where it does not, nothing has changed, and
-    /// the answer is the first fault of each plan that goes on with it.
+    /// the answer says why, by the number of the step behind those done: it is the first fault of
+    /// each plan that goes on with it.
     pub fn follow(&mut self, found: Found) -> Option<PlanFault>
         requires { length self.old.plan < most_steps }
         ensures told { TellsOfFound self.old found result }
+        ensures misfit { NamesMisfitOfFound self.old found result }
         ensures placed { IfSome result HasItsStep }
+        ensures counted { IfSome result (λ fault. fault.step ≡ length self.old.plan + 1) }
         ensures ran { self.new ≡ ran_with self.old found result }
     {
         let step = self.steps() + 1;

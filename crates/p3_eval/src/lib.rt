@@ -4,6 +4,7 @@
 
 mod error;
 mod fault;
+mod found;
 mod judge;
 mod laws;
 mod parts;
@@ -13,6 +14,7 @@ mod whole;
 
 pub use error::WholeFail;
 pub use fault::{FaultKind, PlanFault};
+pub use found::{cost_of, metric_of, named_fault};
 pub use laws::{
     accepted_tasks_can_be_compiled, accepted_tasks_can_be_run, runs_tell_costs_and_values,
     runs_tell_the_first_fault,

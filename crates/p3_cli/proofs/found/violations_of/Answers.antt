@@ -1,17 +1,12 @@
-use Rattle.std.proofs.Common.{◌≡◌, ◌∙◌, ◌+◌, ℕ, List, [], ◌∷◌, ◌++◌, Some, ap, arith, map, refl, sym, take}
+use Rattle.std.proofs.Common.{◌≡◌, ◌∙◌, ◌+◌, [], ◌∷◌, ◌++◌, Some, ap, arith, map, sym, take}
 use Rattle.std.specs.Option.{option_copied}
-use Rattle.std.specs.Prelude.{slice_get, zero, suc}
+use Rattle.std.specs.Prelude.{slice_get, suc}
 use Rattle.p3_reports.specs.Found.{count_of}
 use Rattle.p3_reports.specs.declared.part.NameCount.{NameCount}
 use Rattle.p3_tree.specs.Metrics.{violated}
-use Rattle.p3_tree.specs.Names.{Name}
 use Rattle.p3_tree.specs.PreferenceNames.{ordered_names}
+use Rattle.p3_eval.proofs.FoundLemmas.{map-one_more}
 use Rattle.p3_cli.proofs.found.violations_of.Goals as goal
-
-one_more : (f : Name → NameCount) (names : List Name) (k : ℕ) (word : Name) → slice_get names k ≡ Some word → map f (take (suc k) names) ≡ map f (take k names) ++ f word ∷ []
-one_more f [] k word e = absurd (cc)
-one_more f (name ∷ names) zero word e = let same : name ≡ word = cc in ap (λ one. f one ∷ []) same
-one_more f (name ∷ names) (suc k) word e = ap (λ rest. f name ∷ rest) (one_more f names k word e)
 
 pub loop-number-preserved : goal.loop-number-preserved
 loop-number-preserved c = λ plan are.
@@ -28,4 +23,4 @@ loop-number-preserved c = λ plan are.
     c.in_ok-push.ensures.ok
     ∙ ap (λ items. items ++ entry ∷ []) (c.loop-number.invariant plan are)
     ∙ ap (λ one. counted ++ one ∷ []) same
-    ∙ sym (ap (λ n. map (count_of T plan) (take n names)) next ∙ one_more (count_of T plan) names number word found)
+    ∙ sym (ap (λ n. map (count_of T plan) (take n names)) next ∙ map-one_more (count_of T plan) names number word found)

@@ -1,7 +1,7 @@
 use Rattle.std.proofs.Common.{◌≡◌, map, take}
 use Rattle.p3_tree.specs.PreferenceNames.{ordered_names}
 use Rattle.p3_reports.specs.Found.{count_of}
-use Rattle.p3_cli.specs.Evaluation.{OfRun}
+use Rattle.p3_eval.specs.Runs.{OfRun}
 use Rattle.p3_cli.proofs.found.violations_of.Given as goal
 
 abbrev pub invariant-loop-number : goal.invariant-loop-number
