@@ -13,7 +13,7 @@ use Rattle.p3_formula.specs.declared.target.Weights.{Weights}
 use Rattle.p3_formula.specs.declared.task.GroundStep.{GroundStep}
 use Rattle.p3_formula.specs.declared.task.GroundTask.{GroundTask}
 use Rattle.p3_run.specs.Groups.{modal_at}
-use Rattle.p3_run.specs.Runs.{CanBeRun, Ran, ground_state}
+use Rattle.p3_run.specs.Runs.{CanBeRun, Ran, begun, ground_state}
 use Rattle.p3_run.specs.Steps.{HasBodyBelow, IsByNumber}
 use Rattle.p3_run.proofs.FindLaws.{by_number}
 use Rattle.p3_run.proofs.RunLaws.{bodies_below, effects_sized, length-state}
@@ -130,7 +130,7 @@ module _ (ran : Ran) (marks : Marked) (prefs : List Reason) (all : IsMarked ran 
 
 module _ (ran : Ran) (can : CanBeRun ran.task ran.weights) where
   pub steps_by_number : IsByNumber ran.task.steps
-  steps_by_number = by_number 0 ran.task.steps can.ready.numbers
+  steps_by_number = by_number ran.task.step_count 0 ran.task.steps can.ready.numbers
 
   pub kept_below : (found : Found) (step : GroundStep) → kept_of ran.task found ≡ Some step → All (HasBodyBelow (length (ground_state ran.task ran.plan))) step.prefs
   kept_below (Number number) step kept = subst (λ count. All (HasBodyBelow count) step.prefs) (sym (length-state ran.task ran.weights can ran.plan)) (bodies_below ran.task ran.weights can number step kept)
@@ -147,3 +147,10 @@ module _ (ran : Ran) (can : CanBeRun ran.task ran.weights) where
   sized_after (Number number) step kept count long = subst (λ n. IsTrue (list_all (is_sized_change n) step.effects)) (sym long) (effects_sized ran.task ran.weights can number step kept)
   sized_after UnknownAction step kept count long = absurd (cc)
   sized_after Arguments step kept count long = absurd (cc)
+
+-- before the first step
+pub begun_marked : (G : GroundTask) (w : Weights) (ran : Ran) → ran ≡ begun G w → (task : GroundTask) → task ≡ G → (marks : Marked) → AreMarks task (task.initial ∷ []) marks → (prefs : List Reason) → prefs ≡ [] → IsMarked ran marks prefs
+begun_marked G w ran is task same marks all prefs none = subst (λ (r : Ran). IsMarked r marks prefs) (sym is) (record {
+  right = nothing_done G marks (subst (λ (t : GroundTask). AreMarks t (t.initial ∷ []) marks) same all);
+  told = none ∙ no_reasons G;
+})

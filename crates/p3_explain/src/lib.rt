@@ -7,5 +7,5 @@ mod explaining;
 mod walking;
 
 pub use error::ExplainFail;
-pub use explaining::explain;
+pub use explaining::{Explanation, explain, explained};
 pub use p3_base::{Reason, Showing, Subject};
