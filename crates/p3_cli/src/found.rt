@@ -153,7 +153,7 @@ fn violations_of(
 }
 
 /// Copies a name.
-fn copied(alloc: Global, name: &Name) -> Result<Name, NoMemory>
+pub(crate) fn copied(alloc: Global, name: &Name) -> Result<Name, NoMemory>
     ensures { IfOk result (λ copy. copy ≡ name.now) }
 {
     Name::of(alloc, name.bytes())

@@ -4,8 +4,10 @@
 
 mod error;
 mod explaining;
+mod naming;
 mod walking;
 
 pub use error::ExplainFail;
 pub use explaining::{Explanation, explain, explained};
+pub use naming::name_of;
 pub use p3_base::{Reason, Showing, Subject};
