@@ -11,7 +11,7 @@ use p3_cli::run;
 use std::alloc::Global;
 
 /// How many bytes the runs of a row may print.
-const ROOM: u32 = 1 << 16;
+const ROOM: u32 = 1 << 24;
 
 /// Files and a sink in memory, and the last run over them.
 #[derive(Drop)]
