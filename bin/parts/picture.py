@@ -6,6 +6,7 @@ is seen at its border. All lengths are in pixels.
 
 from dataclasses import dataclass
 from html import escape
+from itertools import groupby
 from math import ceil, cos, floor, log10, radians, sin
 
 PAD, ROW, TEXT, SMALL, TITLE = 20, 24, 13, 12, 18
@@ -198,26 +199,28 @@ def heights(values, top):
     return height, [(f"{mark:.{places}f}", height(mark)) for mark in marks]
 
 
-def stretches(values):
-    """Gives the longest stretches of states that all have a value, or all have none, behind state 0."""
-    found, start = [], 1
-    for at in range(2, len(values) + 1):
-        if at == len(values) or (values[at] is None) != (values[start] is None):
-            found.append((start, at, values[start] is not None))
-            start = at
-    return found
+def groups(plan, values):
+    """Gives the states behind state 0, those that share half a pixel together: the first one, the one
+    behind the last, and the values that they have."""
+    many = max(1, ceil(0.5 / plan.cell))
+    for start in range(1, len(values), many):
+        end = min(start + many, len(values))
+        yield start, end, [value for value in values[start:end] if value is not None]
 
 
-def curve(plan, values, height, start, end):
-    """Gives the path of the values of a stretch. Of states that share a pixel the extremes are drawn."""
-    many = ceil(0.5 / plan.cell) if plan.cell < 0.5 else 1
+def stretches(plan, values):
+    """Gives the longest stretches of groups that all have a value, or all have none."""
+    return [list(group) for _, group in groupby(groups(plan, values), lambda group: bool(group[2]))]
+
+
+def curve(plan, stretch, height):
+    """Gives the path of the values of a stretch. Of a group with many values the extremes are drawn."""
     path = []
-    for at in range(start, end, many):
-        part = values[at : min(at + many, end)]
-        path.append(("M" if not path else "L") + f"{number(plan.border(at))} {number(height(part[0]))}")
-        if many > 1:
+    for start, end, part in stretch:
+        path.append(("L" if path else "M") + f"{number(plan.border(start))} {number(height(part[0]))}")
+        if len(part) > 1:
             path.append(f"V{number(height(min(part)))}V{number(height(max(part)))}V{number(height(part[-1]))}")
-        path.append(f"H{number(plan.border(at + len(part)))}")
+        path.append(f"H{number(plan.border(end))}")
     return f'<path d="{"".join(path)}" class="{"value" if plan.cell >= 3 else "value fine"}"/>'
 
 
@@ -242,11 +245,12 @@ def metric_panel(plan, top):
     for word, y in marks if any(value is not None for value in values) else ():
         yield line(plan.left, y, plan.right, y, "grid")
         yield text(plan.left - 8, y + 4, word, "small mute end")
-    for start, end, has_value in stretches(values):
-        if has_value:
-            yield curve(plan, values, height, start, end)
+    for stretch in stretches(plan, values):
+        left, right = plan.border(stretch[0][0]), plan.border(stretch[-1][1])
+        if stretch[0][2]:
+            yield curve(plan, stretch, height)
         else:
-            box = f'x="{number(plan.border(start))}" y="{top}" width="{number(plan.cell * (end - start))}" height="{PANEL}"'
+            box = f'x="{number(left)}" y="{top}" width="{number(right - left)}" height="{PANEL}"'
             yield f'<rect {box} class="gap"/><rect {box} fill="url(#gap)"/>'
     yield from value_labels(plan, values, height)
     yield line(plan.left, top + PANEL, plan.right, top + PANEL, "axis")
@@ -287,7 +291,7 @@ def step_marks(plan, lane, y):
     if plan.cell >= 12:
         yield from (diamond(plan.border(step), y) for step in sorted(set(lane.marks)))
     else:
-        places = sorted({number(round(plan.border(step), 1)) for step in lane.marks}, key=float)
+        places = sorted({number(round(plan.border(step) * 2) / 2) for step in lane.marks}, key=float)
         yield f'<path d="{"".join(f"M{place} {number(y - 7)}v14" for place in places)}" class="thin"/>'
 
 
