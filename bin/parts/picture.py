@@ -181,7 +181,7 @@ def ticks(values):
     """Gives the round values beside which the metric is drawn, and how many decimal places they have."""
     low, high = (min(values), max(values)) if values else (0.0, 1.0)
     if low == high:
-        low, high = low - 1, high + 1
+        low, high = low - 2, high + 2
     apart = spread((high - low) / 4)
     places = max(0, -floor(log10(apart)))
     first, last = floor(low / apart), ceil(high / apart)
