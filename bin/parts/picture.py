@@ -151,10 +151,13 @@ class Plan:
         states = len(story.values)
         self.cell = min(72.0, max(19.0, 560 / states)) if states <= 70 else 1240 / states
         labels = [lane.label() + " " + lane.number for lane in self.lanes]
-        self.left = PAD + max([64.0] + [width_of(label) for label in labels]) + 12
+        self.values = [None if word is None else float(word) for word in story.values]
+        self.ticks = ticks([value for value in self.values if value is not None])
+        beside = [width_of(label) for label in labels] + [width_of(word, SMALL) for _, word in self.ticks]
+        self.left = PAD + max([64.0] + beside) + 12
         self.right = self.left + self.cell * states
         verdicts = [width_of(lane.verdict(), SMALL) for lane in self.lanes]
-        needed = [self.right + max([60.0] + verdicts) + 34]
+        needed = [self.right + max([60.0, width_of(story.values[-1] or "", TEXT + 1)] + verdicts) + 34]
         needed += [PAD + width_of(story.title(), TITLE) + PAD, PAD + width_of(story.subtitle()) + PAD]
         self.width = ceil(max(needed))
 
@@ -178,25 +181,16 @@ def chosen(lanes, most):
 
 
 def ticks(values):
-    """Gives the round values beside which the metric is drawn, and how many decimal places they have."""
-    low, high = (min(values), max(values)) if values else (0.0, 1.0)
+    """Gives the round values beside which the metric is drawn, each with its words."""
+    if not values:
+        return [(0.0, ""), (1.0, "")]
+    low, high = min(values), max(values)
     if low == high:
         low, high = low - 2, high + 2
     apart = spread((high - low) / 4)
     places = max(0, -floor(log10(apart)))
     first, last = floor(low / apart), ceil(high / apart)
-    return [at * apart for at in range(first, last + 1)], places
-
-
-def heights(values, top):
-    """Gives how a value becomes a height, and the round values with their heights."""
-    marks, places = ticks(values)
-    low, high = marks[0], marks[-1]
-
-    def height(value):
-        return top + 8 + (PANEL - 16) * (high - value) / (high - low)
-
-    return height, [(f"{mark:.{places}f}", height(mark)) for mark in marks]
+    return [(at * apart, f"{at * apart:.{places}f}") for at in range(first, last + 1)]
 
 
 def groups(plan, values):
@@ -239,12 +233,15 @@ def value_labels(plan, values, height):
 
 def metric_panel(plan, top):
     """Draws the values of the metric."""
-    values = [None if word is None else float(word) for word in plan.story.values]
-    height, marks = heights([value for value in values if value is not None], top)
+    values, (low, _), (high, _) = plan.values, plan.ticks[0], plan.ticks[-1]
+
+    def height(value):
+        return top + 8 + (PANEL - 16) * (high - value) / (high - low)
+
     yield text(PAD, top - 14, "Metric after each step", "head")
-    for word, y in marks if any(value is not None for value in values) else ():
-        yield line(plan.left, y, plan.right, y, "grid")
-        yield text(plan.left - 8, y + 4, word, "small mute end")
+    for value, word in plan.ticks:
+        yield line(plan.left, height(value), plan.right, height(value), "grid")
+        yield text(plan.left - 8, height(value) + 4, word, "small mute end")
     for stretch in stretches(plan, values):
         left, right = plan.border(stretch[0][0]), plan.border(stretch[-1][1])
         if stretch[0][2]:
