@@ -61,7 +61,7 @@ pub record IsAhead (T : Task) (plan : Plan) (ran : Ran) (slice : StepText) (late
 abbrev pub in_front : StepText → Left → Left
 in_front slice later = record { steps = slice ∷ later.steps; offence = later.offence }
 
-numbers_more : (T : Task) (front : Plan) (numbers : List ℕ) (step : Step) (number : ℕ) → AreNumbers T front numbers → HasNumber T step number → AreNumbers T (front ++ step ∷ []) (numbers ++ number ∷ [])
+pub numbers_more : (T : Task) (front : Plan) (numbers : List ℕ) (step : Step) (number : ℕ) → AreNumbers T front numbers → HasNumber T step number → AreNumbers T (front ++ step ∷ []) (numbers ++ number ∷ [])
 numbers_more T [] [] step number are has = (has, tt)
 numbers_more T [] (n ∷ numbers) step number are has = absurd are
 numbers_more T (first ∷ front) [] step number are has = absurd are

@@ -59,7 +59,7 @@ module _ (T : Task) (atoms : List Fact) (G : GroundTask) (S : StandsBy T atoms G
     n = length W
 
     long : length W ≡ length V
-    long = AllZip-long (Met T atoms G S K) W V m
+    long = sym (AllZip-long (Met T atoms G S K) W V m)
 
     same_holds : (env : Environment) (f : Formula) (form : Form) → FormStands T atoms env f form → (i : ℕ) → i < length W → tree.holds_at T W env f i ≡ sat_of.holds_at V form i
     same_holds env f form stands i lt =

@@ -1,9 +1,9 @@
 //! All lines that the program prints, put into a sink piece by piece. Nothing here takes memory.
 #![tactic(auto)]
 
+mod explanation;
 mod fault;
 mod laws;
-mod line_buffer;
 mod outside;
 mod part;
 mod piece;
@@ -11,15 +11,17 @@ mod placed;
 mod quantity;
 mod refusal;
 mod report;
+mod stack_sink;
 #[cfg(test)]
 mod tests;
 mod words;
 
+pub use explanation::{ExplainReport, NamedReason, put_explain_report};
 pub use fault::{Fault, Misfit, put_fault, put_lifted_fault};
 pub use laws::{faults_are_named, reports_are_lines};
 pub use outside::{put_no_memory, put_read_fault, put_too_long, put_usage, put_write_fault};
 pub use part::{NameCount, Part, put_part, put_parts};
-pub use piece::{Piece, put_pieces};
+pub use piece::{Piece, put_line, put_pieces};
 pub use placed::PlacedRefusal;
 pub use quantity::Quantity;
 pub use refusal::{
@@ -30,4 +32,5 @@ pub use report::{
     put_compile_report, put_embed_report, put_evaluate_report, put_generate_report,
     put_lift_report, put_report,
 };
+pub use stack_sink::StackSink;
 pub use words::{code_words, direction_word, misfit_words, role_word};

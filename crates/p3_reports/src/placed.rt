@@ -33,6 +33,16 @@ impl PlacedRefusal {
         ensures { result ≡ placed_in text.now refusal.now }
     {
         let (row, column) = place_of(text, refusal.pos.offset);
+        PlacedRefusal::at(refusal, text, row, column)
+    }
+
+    /// Gives a refusal of a text at its line and column, which are known, and what is shown of the
+    /// word at fault. It takes no longer in a longer text.
+    pub fn at(refusal: &Refusal, text: &[u8], row: u32, column: u32) -> PlacedRefusal
+        requires row { row ≡ line_of text.now refusal.now.pos.offset }
+        requires column { column ≡ column_of text.now refusal.now.pos.offset }
+        ensures { result ≡ placed_in text.now refusal.now }
+    {
         PlacedRefusal {
             code: refusal.code,
             role: refusal.pos.role,

@@ -1,44 +1,41 @@
-//! Room for a line on the stack, in which it is made before it is put at once.
+//! Room for bytes on the stack, in which what is put is made before it is put at once.
 
 ghost use Rattle.std.specs.Prelude.{◌≡◌, []};
 
 use arrayvec::ArrayVec;
 use p3_base::{Sink, SinkFailed};
 
-/// As many bytes as most lines have at most.
-const ROOM: usize = 256;
-
-/// A sink on the stack. A put fails where its bytes do not fit in what is left of the room; then it
-/// appends nothing.
+/// A sink on the stack, with room for so many bytes. A put fails where its bytes do not fit in what
+/// is left of the room; then it appends nothing.
 #[derive(Drop)]
-pub(crate) struct LineBuffer {
+pub struct StackSink<const ROOM: usize> {
     bytes: ArrayVec<u8, ROOM>,
     faults: u64,
 }
 
-impl LineBuffer {
+impl<const ROOM: usize> StackSink<ROOM> {
     /// Makes an empty one.
-    pub(crate) fn new() -> LineBuffer
+    pub fn new() -> StackSink<ROOM>
         ensures { result.bytes.items ≡ [] }
     {
-        LineBuffer {
+        StackSink {
             bytes: ArrayVec::new(),
             faults: 0,
         }
     }
 
     /// Gives what was put.
-    pub(crate) fn bytes(&self) -> &[u8]
+    pub fn bytes(&self) -> &[u8]
         ensures { result.now ≡ self.now.bytes.items }
     {
         self.bytes.as_slice()
     }
 }
 
-impl Sink for LineBuffer {
+impl<const ROOM: usize> Sink for StackSink<ROOM> {
     ghost use Rattle.std.specs.Prelude.{Some};
 
-    ghost seen = { λ line. record { written = Some line.bytes.items; faults = line.faults } };
+    ghost seen = { λ sink. record { written = Some sink.bytes.items; faults = sink.faults } };
 
     fn put(&mut self, bytes: &[u8]) -> Result<(), SinkFailed> {
         match self.bytes.try_extend_from_slice(bytes) {

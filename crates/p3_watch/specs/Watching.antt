@@ -1,0 +1,48 @@
+-- What is answered to a line of a plan that is followed.
+use Rattle.std.specs.Prelude.{◌≡◌, ℕ, ◌+◌, ◌≤◌, List, length}
+use Rattle.p3_tree.specs.Plans.{Plan}
+use Rattle.p3_tree.specs.Validity.{AtStep}
+use Rattle.p3_tree.specs.Watching.{Answer, Blank, Taken, Unfit, Refused, OneStep, answer_by, answer_to, taken_after}
+use Rattle.p3_tree.specs.declared.task.Step.{Step}
+use Rattle.p3_tree.specs.declared.task.Task.{Task}
+use Rattle.p3_ground.specs.PlansByNumber.{AreNumbers}
+use Rattle.p3_run.specs.Runs.{Ran}
+use Rattle.p3_eval.specs.Judged.{fault_in}
+use Rattle.p3_eval.specs.Runs.{OfRun}
+use Rattle.p3_watch.specs.declared.watch.Line.{Line}
+use Rattle.p3_watch.specs.declared.watch.Line.TheVariants as line
+
+-- behind the plan the code's answer is that of the definitions
+abbrev pub Says : Plan → Answer → Line → Type 0
+Says plan Blank line.Blank = Unit {0}
+Says plan (Taken step) line.Done = Unit {0}
+Says plan (Unfit kind) (line.Invalid fault) = fault_in fault ≡ AtStep (length plan + 1) kind
+Says plan (Refused offence) (line.Refused refusal) = refusal ≡ offence
+Says plan _ _ = ⊥
+
+-- so it is answered, and then the run has done the steps taken
+pub record Answers (T : Task) (plan : Plan) (answer : Answer) (new : Ran) (told : Line) : Type 0 where
+  pub says : Says plan answer told
+  pub done : AreNumbers T (taken_after plan answer) new.plan
+
+-- the answer to a line, for the plan of the steps done
+abbrev pub IsAnswered : Task → List ℕ → Ran → Ran → Line → Type 0
+IsAnswered T text old new told = OfRun T old (λ plan. Answers T plan (answer_to T plan text) new told)
+
+-- the answer to a step whose `(` stands there
+abbrev pub IsTried : Task → ℕ → Step → Ran → Ran → Line → Type 0
+IsTried T at step old new told = OfRun T old (λ plan. Answers T plan (answer_by T plan (OneStep at step)) new told)
+
+-- but for a step that is done nothing has changed
+abbrev pub IsUnchanged : Ran → Ran → Line → Type 0
+IsUnchanged old new line.Done = Unit {0}
+IsUnchanged old new _ = new ≡ old
+
+-- a refusal stands within the line
+abbrev pub IsWithin : ℕ → Line → Type 0
+IsWithin size (line.Refused refusal) = refusal.pos.offset ≤ size
+IsWithin size _ = Unit {0}
+
+-- it is so of each plan and answer that were answered so
+abbrev pub OfAnswer : Task → Ran → Line → (Plan → Answer → Type 0) → Type 0
+OfAnswer T new told Holds = (plan : Plan) (answer : Answer) → Answers T plan answer new told → Holds plan answer
