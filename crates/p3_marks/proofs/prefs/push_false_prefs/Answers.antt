@@ -1,4 +1,4 @@
-use Rattle.std.proofs.Common.{◌≡◌, ◌∙◌, ◌-◌, [], ◌∷◌, ◌++◌, get_or, sym, ap}
+use Rattle.std.proofs.Common.{◌∙◌, ◌-◌, [], ◌∷◌, ◌++◌, get_or, sym, ap}
 use Rattle.std.proofs.lemmas.List.{get_or_default}
 use Rattle.p3_base.specs.declared.showing.Showing.TheVariants.{FailsAt}
 use Rattle.p3_base.specs.declared.showing.Subject.TheVariants.{Pre}
