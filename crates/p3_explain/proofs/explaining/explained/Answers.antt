@@ -9,7 +9,6 @@ use Rattle.p3_run.specs.Runs.{Ran, most_steps}
 use Rattle.p3_eval.specs.Runs.{BelongTogether}
 use Rattle.p3_eval.proofs.RunKept.{can_be_run}
 use Rattle.p3_eval.proofs.WholeRuns.{belong_together}
-use Rattle.p3_explain.specs.Explaining.{IsExplainFail}
 use Rattle.p3_explain.specs.Walked.{IsWalked}
 use Rattle.p3_explain.proofs.ExplainLaws.{begun_together, walked_explains, walked_faults, walked_few, walked_fit, walked_fits}
 use Rattle.p3_explain.proofs.WalkLaws.{begun_marked}
