@@ -1,5 +1,5 @@
 -- What the marks of a walked plan and the false preferences of its steps come to.
-use Rattle.std.proofs.Common.{◌≡◌, ◌∙◌, ℕ, suc, ◌+◌, ◌≤◌, true, List, ◌++◌, length, refl, sym, ap, subst, arith, Option, None}
+use Rattle.std.proofs.Common.{◌≡◌, ◌∙◌, ℕ, ◌+◌, ◌≤◌, true, List, ◌++◌, length, refl, sym, ap, subst, arith, Option, None}
 use Rattle.std.specs.Prelude.{IsTrue, option_map}
 use Rattle.std.proofs.lemmas.Slice.Zip.{AllZip-long}
 use Rattle.std.proofs.Props.{props}
@@ -16,7 +16,7 @@ use Rattle.p3_formula.specs.declared.target.Weights.{Weights}
 use Rattle.p3_formula.specs.declared.task.GroundTask.{GroundTask}
 use Rattle.p3_ground.specs.PlansByNumber.{AreNumbers}
 use Rattle.p3_run.specs.Runs.{Ran, begun}
-use Rattle.p3_marks.specs.Marked.{AreMarks, Marked, shown_all}
+use Rattle.p3_marks.specs.Marked.{Marked, shown_all}
 use Rattle.p3_marks.specs.Reasons.{ground_reasons, operator_reasons, steps_reasons}
 use Rattle.p3_marks.proofs.ReasonLaws.{marks_show}
 use Rattle.p3_eval.specs.Judged.{HasDone, fault_in}

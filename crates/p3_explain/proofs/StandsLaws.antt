@@ -1,5 +1,5 @@
 -- The reasons of a ground plan are those of the plan whose steps it numbers.
-use Rattle.std.proofs.Common.{◌≡◌, ◌∙◌, ℕ, zero, suc, ◌+◌, ◌-◌, ◌<◌, refl, sym, ap, Bool, true, false, not, cond, List, [], ◌∷◌, ◌++◌, length, map, arith, Option, Some, None}
+use Rattle.std.proofs.Common.{◌≡◌, ◌∙◌, ℕ, zero, suc, ◌+◌, ◌-◌, ◌<◌, refl, sym, ap, Bool, true, false, not, cond, List, [], ◌∷◌, ◌++◌, length, map, arith}
 use Rattle.std.specs.Prelude.{filter, slice_index_or, unwrap_or, zip, if◌then◌else◌}
 use Rattle.std.specs.List.{AllZip, enumerate_from, flat_map}
 use Rattle.std.proofs.lemmas.Bool.{and_parts}
@@ -11,27 +11,24 @@ use Rattle.p3_base.specs.declared.showing.Subject.{Subject}
 use Rattle.p3_base.specs.declared.showing.Subject.TheVariants.{Hard, Soft, Pre}
 use Rattle.p3_tree.specs.States as named
 use Rattle.p3_tree.specs.States.{Environment, start}
-use Rattle.p3_tree.specs.Formulas.{holds}
 use Rattle.p3_tree.specs.Goals.{StatePref}
-use Rattle.p3_tree.specs.Plans as plans
-use Rattle.p3_tree.specs.Plans.{Move, Plan, fits, moves, moves_from, state_after, state_at, steps_fit, visited}
+use Rattle.p3_tree.specs.Plans.{Plan, moves_from, state_after, state_at, steps_fit, visited}
 use Rattle.p3_tree.specs.Constraints as tree
 use Rattle.p3_tree.specs.Constraints.{HardModal, Instance, hard_list, instances, operators, satisfies}
 use Rattle.p3_tree.specs.Explanations as told
 use Rattle.p3_tree.specs.Explanations.{instance_reasons, reasons, shown}
 use Rattle.p3_tree.specs.Metrics.{step_prefs}
-use Rattle.p3_tree.specs.StepNumbers.{HasNumber, HasStepNumbers}
+use Rattle.p3_tree.specs.StepNumbers.{HasStepNumbers}
 use Rattle.p3_tree.proofs.PlanLemmas.{fit_from, steps_fit-walk}
 use Rattle.p3_tree.specs.declared.state.Fact.{Fact}
 use Rattle.p3_tree.specs.declared.formula.Formula.{Formula}
 use Rattle.p3_tree.specs.declared.constraint.Modal.{Modal}
 use Rattle.p3_tree.specs.declared.constraint.Modal.TheVariants as modal
-use Rattle.p3_tree.specs.declared.task.Step.{Step}
 use Rattle.p3_tree.specs.declared.task.Task.{Task}
 use Rattle.p3_formula.specs.Forms.{State, truth}
 use Rattle.p3_formula.specs.GroundSat as sat_of
 use Rattle.p3_formula.specs.GroundSat.{ground_sat}
-use Rattle.p3_formula.specs.GroundPlans.{GroundPlan, ground_moves, ground_visited, state_by, step_of, visited_from}
+use Rattle.p3_formula.specs.GroundPlans.{GroundPlan, ground_visited, state_by, step_of, visited_from}
 use Rattle.p3_formula.specs.declared.form.Form.{Form}
 use Rattle.p3_formula.specs.declared.modal.GroundModal.{GroundModal}
 use Rattle.p3_formula.specs.declared.modal.GroundModal.TheVariants as ground_modal
@@ -42,7 +39,7 @@ use Rattle.p3_ground.specs.StandsFor.{FormStands, HardStands, ModalStands, PrefS
 use Rattle.p3_ground.specs.PlansByNumber.{AreNumbers}
 use Rattle.p3_ground.proofs.Validity.{AreMet, are_met, same_modal, some_visited}
 use Rattle.p3_ground.proofs.Walk.{Met, begun, kept_where_fits, next_met, reached}
-use Rattle.p3_marks.specs.Reasons.{ground_reasons, ground_shown, is_false_in, modal_reasons, move_reasons, pref_reason, pref_reasons, soft_reasons, step_reasons, steps_reasons}
+use Rattle.p3_marks.specs.Reasons.{ground_reasons, ground_shown, is_false_in, move_reasons, pref_reason, soft_reasons, step_reasons, steps_reasons}
 use Rattle.p3_marks.proofs.PlaceLaws.{again-same, gap-same, least-same, unanswered-same, unprepared-same}
 
 module _ (T : Task) (atoms : List Fact) (G : GroundTask) (S : StandsBy T atoms G) (K : HasStepNumbers T) where
@@ -59,7 +56,7 @@ module _ (T : Task) (atoms : List Fact) (G : GroundTask) (S : StandsBy T atoms G
     n = length W
 
     long : length W ≡ length V
-    long = AllZip-long (Met T atoms G S K) W V m
+    long = sym (AllZip-long (Met T atoms G S K) W V m)
 
     same_holds : (env : Environment) (f : Formula) (form : Form) → FormStands T atoms env f form → (i : ℕ) → i < length W → tree.holds_at T W env f i ≡ sat_of.holds_at V form i
     same_holds env f form stands i lt =

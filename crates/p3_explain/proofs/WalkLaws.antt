@@ -1,5 +1,5 @@
 -- The marks and the reasons of steps stay right of one step more.
-use Rattle.std.proofs.Common.{◌≡◌, ◌∙◌, ℕ, suc, ◌+◌, Bool, true, List, [], ◌∷◌, ◌++◌, length, refl, sym, ap, subst, arith, Option, Some, None}
+use Rattle.std.proofs.Common.{◌≡◌, ◌∙◌, ℕ, suc, ◌+◌, List, [], ◌∷◌, ◌++◌, length, refl, sym, ap, subst, arith, Option, Some, None}
 use Rattle.std.specs.Prelude.{IsTrue}
 use Rattle.std.specs.List.{All, enumerate_from, flat_map, list_all}
 use Rattle.std.proofs.lemmas.Grind.{flat_map-append}
@@ -18,7 +18,7 @@ use Rattle.p3_run.specs.Steps.{HasBodyBelow, IsByNumber}
 use Rattle.p3_run.proofs.FindLaws.{by_number}
 use Rattle.p3_run.proofs.RunLaws.{bodies_below, effects_sized, length-state}
 use Rattle.p3_run.proofs.WalkLaws.{front, length-moves, moves_more, state_more, visited_ends, visited_more, visited_none}
-use Rattle.p3_marks.specs.Marked.{AreMarks, CanFollow, Marked, followed}
+use Rattle.p3_marks.specs.Marked.{AreMarks, Marked, followed}
 use Rattle.p3_marks.specs.Reasons.{move_reasons, pref_reasons, step_reasons, steps_reasons}
 use Rattle.p3_marks.proofs.FollowLaws.{all_follow}
 use Rattle.p3_marks.proofs.MarkLaws.{mark_stays}

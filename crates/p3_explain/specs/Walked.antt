@@ -1,5 +1,5 @@
 -- A run whose states were marked: what is known of the marks and of the false preferences of its steps.
-use Rattle.std.specs.Prelude.{◌≡◌, ℕ, List, length, Option, None}
+use Rattle.std.specs.Prelude.{◌≡◌, List, Option, None}
 use Rattle.p3_base.specs.declared.showing.Reason.{Reason}
 use Rattle.p3_tree.specs.Plans.{Plan}
 use Rattle.p3_tree.specs.declared.task.Task.{Task}

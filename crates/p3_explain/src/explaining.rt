@@ -69,7 +69,14 @@ pub fn explained(alloc: Global, whole: &Whole, plan: &Plan) -> Result<Explanatio
     let mut run = whole.begin(alloc)?;
     let mut marks = Marks::open(alloc, task)?;
     let mut prefs = List::new(alloc);
-    match walk(&mut run, &mut marks, &mut prefs, task, whole.checked(), steps) {
+    match walk(
+        &mut run,
+        &mut marks,
+        &mut prefs,
+        task,
+        whole.checked(),
+        steps,
+    ) {
         Ok(()) => {
             let reasons = gathered(alloc, &run, &marks, &prefs, task)?;
             let fault = run.judge();

@@ -1,11 +1,11 @@
 -- Where the operators that read an atom which a change names are in one state more, so are all operators.
-use Rattle.std.proofs.Common.{◌≡◌, ◌∙◌, ℕ, suc, zero, ◌+◌, ◌<◌, ◌≤◌, ◌==◌, Bool, true, false, ◌&&◌, ◌||◌, cond, List, [], ◌∷◌, ◌++◌, length, get_or, map, take, refl, sym, ap, subst, arith, length-set}
-use Rattle.std.specs.Prelude.{◌⊎◌, fold, None}
+use Rattle.std.proofs.Common.{◌≡◌, ◌∙◌, ℕ, suc, zero, ◌+◌, ◌<◌, ◌≤◌, ◌==◌, Bool, true, false, ◌||◌, cond, List, [], ◌∷◌, ◌++◌, length, get_or, map, take, refl, sym, ap, subst, arith, length-set}
+use Rattle.std.specs.Prelude.{◌⊎◌, None}
 use Rattle.std.specs.List.{All, list_any, flat_map}
 use Rattle.std.proofs.lemmas.Bool.{cases_eq, cases_lt, and_from, or_left, or_right, or_cases, eqb-true, true≢false, ne_eqb, and_left, and_right}
 use Rattle.std.proofs.lemmas.Grind.{flat_map-append}
 use Rattle.std.proofs.lemmas.List.Sums.{fold-append}
-use Rattle.std.proofs.lemmas.List.{append-nil, take_more, get_or-map, get_or-set_same, get_or-set_other, length-append, length-map}
+use Rattle.std.proofs.lemmas.List.{append-nil, take_more, get_or-map, get_or-set_same, get_or-set_other, length-map}
 use Rattle.std.proofs.lemmas.List.Folds.{list_any-append}
 use Rattle.std.proofs.lemmas.List.Elements.{All-append, All-nil}
 use Rattle.std.proofs.Math.ListN.{get_or-eq_default}
@@ -16,7 +16,6 @@ use Rattle.p3_formula.specs.Modals.{IsModalBelow, is_read}
 use Rattle.p3_formula.specs.Next.{after}
 use Rattle.p3_formula.specs.declared.form.Change.{Change}
 use Rattle.p3_formula.specs.declared.form.Form.TheVariants.{True}
-use Rattle.p3_formula.specs.declared.modal.GroundModal.{GroundModal}
 use Rattle.p3_formula.specs.declared.modal.GroundModal.TheVariants.{AtEnd}
 use Rattle.p3_formula.specs.declared.modal.GroundSoft.{GroundSoft}
 use Rattle.p3_formula.specs.declared.task.GroundTask.{GroundTask}
@@ -27,7 +26,7 @@ use Rattle.p3_run.specs.Readers.{AreReaders, is_same, readers_at}
 use Rattle.p3_run.specs.declared.readers.Reader.{Reader}
 use Rattle.p3_run.proofs.ReaderLaws.{modal_below, same_reader}
 use Rattle.p3_marks.specs.Marks.{mark_of, next_mark, no_mark}
-use Rattle.p3_marks.specs.Marked.{AreMarks, CanFollow, CanMark, HasShape, Marked, all_begun, begun, followed, group_at, later, mark_at, named_by, place_in, renewed_all, renewed_at}
+use Rattle.p3_marks.specs.Marked.{AreMarks, CanMark, HasShape, Marked, all_begun, begun, followed, group_at, later, mark_at, named_by, place_in, renewed_all, renewed_at}
 use Rattle.p3_marks.specs.declared.mark.Mark.{Mark}
 use Rattle.p3_marks.proofs.MarkLaws.{mark_begins, mark_next, mark_stays, mark_twice}
 

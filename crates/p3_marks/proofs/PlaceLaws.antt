@@ -1,12 +1,12 @@
 -- The least place that passes a test: of one place more, of tests that agree, and whether there is one.
-use Rattle.std.proofs.Common.{◌≡◌, ◌∙◌, ℕ, zero, suc, ◌+◌, ◌<◌, ◌≤◌, nat_lt, nat_le, Bool, true, false, not, ◌&&◌, ◌||◌, cond, List, [], ◌∷◌, ◌++◌, refl, sym, ap, subst, arith, Option, Some, None, true≢false}
+use Rattle.std.proofs.Common.{◌≡◌, ◌∙◌, ℕ, zero, suc, ◌+◌, ◌<◌, ◌≤◌, nat_lt, nat_le, Bool, true, false, not, ◌&&◌, ◌||◌, [], ◌∷◌, ◌++◌, refl, sym, ap, subst, arith, Option, Some, None, true≢false}
 use Rattle.std.specs.Prelude.{find, unwrap_or, is_some, if◌then◌else◌}
 use Rattle.std.specs.Option.{option_or}
 use Rattle.std.specs.List.{range_with_len}
 use Rattle.std.proofs.lemmas.Bool.{cases_lt, le-ltb, lt-ltb, le-leb, lt-leb}
 use Rattle.std.proofs.lemmas.List.Folds.{find-append}
 use Rattle.std.proofs.Math.Bool.{and-true}
-use mathlib.Core.Logic.{◌⊎◌, ⊎_elim}
+use mathlib.Core.Logic.{⊎_elim}
 use Rattle.p3_base.specs.Connectives.{◌implies◌}
 use Rattle.p3_base.specs.Showings.{is_unanswered, is_unprepared}
 use Rattle.p3_base.specs.Trajectories.{each, some}

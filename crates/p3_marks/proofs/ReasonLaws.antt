@@ -1,6 +1,6 @@
 -- Reasons of one item more of a list, and that marks show the reasons of all operators.
-use Rattle.std.proofs.Common.{◌≡◌, ◌∙◌, ℕ, zero, suc, ◌+◌, ◌<◌, Bool, true, false, not, cond, List, [], ◌∷◌, ◌++◌, length, map, get_or, take, refl, sym, ap, arith, append_assoc, add-one}
-use Rattle.std.specs.Prelude.{flat_map, filter, slice_index_or, None}
+use Rattle.std.proofs.Common.{◌≡◌, ◌∙◌, ℕ, suc, ◌+◌, ◌<◌, Bool, true, false, not, cond, List, [], ◌∷◌, ◌++◌, length, map, get_or, take, refl, sym, ap, arith, append_assoc, add-one}
+use Rattle.std.specs.Prelude.{flat_map, filter, None}
 use Rattle.std.specs.List.{enumerate_from}
 use Rattle.std.proofs.lemmas.Grind.{flat_map-append}
 use Rattle.std.proofs.lemmas.List.{append-nil, get_or-map, length-map, length-take, map-append, take_more, get_or_default}
@@ -16,10 +16,10 @@ use Rattle.p3_formula.specs.declared.modal.GroundModal.TheVariants.{AtEnd}
 use Rattle.p3_formula.specs.declared.modal.GroundPref.{GroundPref}
 use Rattle.p3_formula.specs.declared.modal.GroundSoft.{GroundSoft}
 use Rattle.p3_formula.specs.declared.task.GroundTask.{GroundTask}
-use Rattle.p3_run.specs.Groups.{IsReader, modal_at, modals_at, modals_of}
+use Rattle.p3_run.specs.Groups.{modal_at, modals_at, modals_of}
 use Rattle.p3_run.specs.declared.readers.Reader.{Reader}
 use Rattle.p3_marks.specs.Marks.{mark_of, shown_by}
-use Rattle.p3_marks.specs.Marked.{AreMarks, Marked, group_at, mark_at, place_in, shown_all, shown_reason, shown_reasons, shown_soft, subject_by}
+use Rattle.p3_marks.specs.Marked.{AreMarks, Marked, group_at, mark_at, shown_all, shown_reason, shown_reasons, shown_soft, subject_by}
 use Rattle.p3_marks.specs.Reasons.{ground_shown, is_false_in, modal_reason, modal_reasons, operator_reasons, pref_reason, pref_reasons, soft_reasons}
 use Rattle.p3_marks.specs.declared.mark.Mark.{Mark}
 use Rattle.p3_marks.specs.declared.reasons.Owner.TheVariants as owner

@@ -1,12 +1,10 @@
 -- What a mark shows is what the places of all visited states show.
-use Rattle.std.proofs.Common.{◌≡◌, ◌∙◌, ℕ, ◌-◌, ◌<◌, ◌≤◌, nat_lt, Bool, true, false, not, ◌&&◌, cond, List, length, refl, sym, ap, subst, arith, Option, Some, None, true≢false}
+use Rattle.std.proofs.Common.{◌≡◌, ◌∙◌, ℕ, ◌<◌, nat_lt, Bool, true, not, ◌&&◌, List, length, refl, sym, ap, arith, Option, Some, None, true≢false}
 use Rattle.std.specs.Prelude.{is_some, unwrap_or, if◌then◌else◌}
-use Rattle.std.specs.Bool.{Decides, one_answer}
+use Rattle.std.specs.Bool.{one_answer}
 use Rattle.std.proofs.lemmas.Bool.{and_parts, and_from, le-ltb, lt-ltb, ltb-true}
 use Rattle.p3_base.specs.Showings.{is_unanswered, is_unprepared}
-use Rattle.p3_base.specs.Trajectories as operator
 use Rattle.p3_base.specs.Trajectories.{came_back}
-use Rattle.p3_base.specs.declared.showing.Showing.{Showing}
 use Rattle.p3_base.specs.declared.showing.Showing.TheVariants as showing
 use Rattle.p3_base.proofs.TrajectoryLemmas.{HasGap, came_tells, not_tells, not-came, not-awaited, not-early}
 use Rattle.p3_formula.specs.Forms.{State}

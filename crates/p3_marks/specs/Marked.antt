@@ -1,5 +1,5 @@
 -- The marks of all operators of a task, in groups: those of the hard constraints, and those of each instance of a preference.
-use Rattle.std.specs.Prelude.{◌≡◌, ℕ, ◌+◌, ◌<◌, ◌≤◌, List, [], ◌∷◌, ◌++◌, length, map, flat_map, fold, slice_index_or, slice_set, take}
+use Rattle.std.specs.Prelude.{◌≡◌, ℕ, ◌+◌, ◌≤◌, List, [], ◌∷◌, ◌++◌, length, map, flat_map, fold, slice_index_or, slice_set}
 use Rattle.std.specs.List.{enumerate_from}
 use Rattle.p3_base.specs.declared.showing.Reason.{Reason}
 use Rattle.p3_base.specs.declared.showing.Subject.{Subject}

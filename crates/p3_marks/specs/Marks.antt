@@ -1,5 +1,5 @@
 -- What is kept of the states visited so far for one operator: the least places that show whether it is satisfied.
-use Rattle.std.specs.Prelude.{ℕ, ◌-◌, nat_lt, Bool, true, false, not, ◌&&◌, ◌||◌, List, length, find, if◌then◌else◌, Option, Some, None, is_some}
+use Rattle.std.specs.Prelude.{ℕ, ◌-◌, nat_lt, Bool, false, not, ◌&&◌, ◌||◌, List, length, find, if◌then◌else◌, Option, Some, None, is_some}
 use Rattle.std.specs.List.{range_with_len}
 use Rattle.p3_base.specs.Showings.{is_unanswered, is_unprepared, first_place, gap_place}
 use Rattle.p3_base.specs.Trajectories.{some}

@@ -63,7 +63,14 @@ impl Marks {
         requires sized { IsTrue (list_all (is_sized_change (length state.now)) effects.now) }
         ensures { self.new ≡ marked.followed task.now next state.now effects.now self.old }
     {
-        follow_all(&mut self.groups, task, self.readers.as_slice(), effects, state, next);
+        follow_all(
+            &mut self.groups,
+            task,
+            self.readers.as_slice(),
+            effects,
+            state,
+            next,
+        );
     }
 
     /// The reasons that the marks show of so many states: those of the hard constraints, and those of
@@ -102,13 +109,7 @@ fn groups_of(alloc: Global, task: &GroundTask) -> Result<Vec<Group>, NoMemory>
 }
 
 /// The operator at a place of a group is in one state more.
-fn renew_one(
-    groups: &mut Vec<Group>,
-    modal: &GroundModal,
-    state: &Bits,
-    next: u32,
-    reader: Reader,
-)
+fn renew_one(groups: &mut Vec<Group>, modal: &GroundModal, state: &Bits, next: u32, reader: Reader)
     requires group { reader.group < length groups.old.items }
     requires place { reader.place < length (marked.group_at groups.old.items reader.group) }
     requires below { IsModalBelow (length state.now) modal.now }
@@ -211,7 +212,13 @@ fn push_group(
         (marked.group_at groups.now group) (marked.subject_by owner)
         (run.modals_at task.now group)) }
 {
-    push_reasons(reasons, owner, modals_at(task, group), &groups[group], count)
+    push_reasons(
+        reasons,
+        owner,
+        modals_at(task, group),
+        &groups[group],
+        count,
+    )
 }
 
 /// The reasons of all operators.

@@ -9,7 +9,6 @@ use Rattle.p3_run.specs.Runs.{Ran, most_steps}
 use Rattle.p3_eval.specs.Runs.{BelongTogether}
 use Rattle.p3_eval.proofs.RunKept.{can_be_run}
 use Rattle.p3_eval.proofs.WholeRuns.{belong_together}
-use Rattle.p3_explain.specs.Explaining.{IsExplainFail}
 use Rattle.p3_explain.specs.Walked.{IsWalked}
 use Rattle.p3_explain.proofs.ExplainLaws.{begun_together, walked_explains, walked_faults, walked_few, walked_fit, walked_fits}
 use Rattle.p3_explain.proofs.WalkLaws.{begun_marked}
@@ -39,7 +38,7 @@ walk-requires-clause-task c = c.ground_task-task.ensures ∙ sym (ap (λ (ran : 
 pub walk-requires-clause-together : goal.walk-requires-clause-together
 walk-requires-clause-together c =
     let whole = c.args.whole.now in
-    let run = c.in_ok-run.run in
+    let run = c.in_ok-run.run' in
     subst (λ (checked : Checked). BelongTogether checked.task run.task run.weights) (sym c.checked.ensures.checked)
     (begun_together whole.checked.task whole.ground_task whole.weights (belong_together whole) run run c.in_ok-run.ensures.begun)
 
@@ -55,14 +54,14 @@ walk-requires-clause-count c = subst (λ (checked : Checked). step_count checked
 pub walk-requires-clause-marked : goal.walk-requires-clause-marked
 walk-requires-clause-marked c =
     let whole = c.args.whole.now in
-    begun_marked whole.ground_task whole.weights c.in_ok-run.run c.in_ok-run.ensures.begun c.ground_task-task.result.now c.ground_task-task.ensures c.in_ok-marks.marks c.in_ok-marks.ensures c.new-prefs.result c.new-prefs.ensures
+    begun_marked whole.ground_task whole.weights c.in_ok-run.run' c.in_ok-run.ensures.begun c.ground_task-task.result.now c.ground_task-task.ensures c.in_ok-marks.marks c.in_ok-marks.ensures c.new-prefs.result c.new-prefs.ensures
 
 pub gathered-requires-clause-task : goal.gathered-requires-clause-task
 gathered-requires-clause-task c = c.ground_task-task.ensures ∙ sym (ap (λ (ran : Ran). ran.task) c.in_ok-run.ensures.begun) ∙ sym c.in-Ok.ensures.walked.done.task
 
 pub gathered-requires-clause-few : goal.gathered-requires-clause-few
 gathered-requires-clause-few c =
-    walked_few c.checked.result.now.task c.items-steps.result.now c.in_ok-run.run c.walk.new.run c.in-Ok.ensures.walked.done most_steps
+    walked_few c.checked.result.now.task c.items-steps.result.now c.in_ok-run.run' c.walk.new.run c.in-Ok.ensures.walked.done most_steps
     (subst (λ (list : List Step). length list ≤ most_steps) (sym c.items-steps.ensures) c.requires.few)
 
 pub gathered-requires-clause-marked : goal.gathered-requires-clause-marked
@@ -72,55 +71,50 @@ pub returns-in-Ok-clause-reasons : goal.returns-in-Ok-clause-reasons
 returns-in-Ok-clause-reasons c =
     let whole = c.args.whole.now in
     let plan = c.args.plan.now in
-    let run = c.in_ok-run.run in
+    let run = c.in_ok-run.run' in
     let now = c.walk.new.run in
     let marks = c.walk.new.marks in
     let prefs = c.walk.new.prefs in
     let walked : IsWalked whole.checked.task plan run now marks prefs =
     subst (λ (checked : Checked). IsWalked checked.task plan run now marks prefs) c.checked.ensures.checked
     (subst (λ (list : List Step). IsWalked c.checked.result.now.task list run now marks prefs) c.items-steps.ensures c.in-Ok.ensures.walked) in
-    walked_explains whole.checked.task whole.ground_task whole.weights (belong_together whole) run now c.in_ok-run.ensures.begun plan marks prefs walked c.in_ok-reasons.ensures.fit c.in_ok-reasons.reasons c.in_ok-reasons.ensures.found
+    walked_explains whole.checked.task whole.ground_task whole.weights (belong_together whole) run now c.in_ok-run.ensures.begun plan marks prefs walked c.in_ok-reasons-in-Ok.ensures.fit c.in_ok-reasons-in-Ok.reasons c.in_ok-reasons-in-Ok.ensures.found
 
 pub returns-in-Ok-clause-fault : goal.returns-in-Ok-clause-fault
 returns-in-Ok-clause-fault c =
     let whole = c.args.whole.now in
     let plan = c.args.plan.now in
-    let run = c.in_ok-run.run in
+    let run = c.in_ok-run.run' in
     let now = c.walk.new.run in
     let marks = c.walk.new.marks in
     let prefs = c.walk.new.prefs in
     let walked : IsWalked whole.checked.task plan run now marks prefs =
     subst (λ (checked : Checked). IsWalked checked.task plan run now marks prefs) c.checked.ensures.checked
     (subst (λ (list : List Step). IsWalked c.checked.result.now.task list run now marks prefs) c.items-steps.ensures c.in-Ok.ensures.walked) in
-    walked_faults whole.checked.task whole.ground_task whole.weights (belong_together whole) run now c.in_ok-run.ensures.begun plan marks prefs walked c.in_ok-reasons.ensures.fit c.judge-fault.result c.judge-fault.ensures.fault
+    walked_faults whole.checked.task whole.ground_task whole.weights (belong_together whole) run now c.in_ok-run.ensures.begun plan marks prefs walked c.in_ok-reasons-in-Ok.ensures.fit c.judge-fault.result c.judge-fault.ensures.fault
 
 pub returns-in-Ok-clause-fit : goal.returns-in-Ok-clause-fit
 returns-in-Ok-clause-fit c =
     let whole = c.args.whole.now in
     let plan = c.args.plan.now in
-    let run = c.in_ok-run.run in
+    let run = c.in_ok-run.run' in
     let now = c.walk.new.run in
     let marks = c.walk.new.marks in
     let prefs = c.walk.new.prefs in
     let walked : IsWalked whole.checked.task plan run now marks prefs =
     subst (λ (checked : Checked). IsWalked checked.task plan run now marks prefs) c.checked.ensures.checked
     (subst (λ (list : List Step). IsWalked c.checked.result.now.task list run now marks prefs) c.items-steps.ensures c.in-Ok.ensures.walked) in
-    walked_fit whole.checked.task whole.ground_task whole.weights (belong_together whole) run now c.in_ok-run.ensures.begun plan marks prefs walked c.in_ok-reasons.ensures.fit
+    walked_fit whole.checked.task whole.ground_task whole.weights (belong_together whole) run now c.in_ok-run.ensures.begun plan marks prefs walked c.in_ok-reasons-in-Ok.ensures.fit
 
 pub returns-in-Ok-clause-fits : goal.returns-in-Ok-clause-fits
 returns-in-Ok-clause-fits c =
     let whole = c.args.whole.now in
     let plan = c.args.plan.now in
-    let run = c.in_ok-run.run in
+    let run = c.in_ok-run.run' in
     let now = c.walk.new.run in
     let marks = c.walk.new.marks in
     let prefs = c.walk.new.prefs in
     let walked : IsWalked whole.checked.task plan run now marks prefs =
     subst (λ (checked : Checked). IsWalked checked.task plan run now marks prefs) c.checked.ensures.checked
     (subst (λ (list : List Step). IsWalked c.checked.result.now.task list run now marks prefs) c.items-steps.ensures c.in-Ok.ensures.walked) in
-    walked_fits whole.checked.task whole.ground_task whole.weights (belong_together whole) run now c.in_ok-run.ensures.begun plan marks prefs walked c.in_ok-reasons.ensures.fit
-
-pub returns-in-Err-clause-fail : goal.returns-in-Err-clause-fail
-returns-in-Err-clause-fail c =
-    subst (λ (checked : Checked). IsExplainFail checked.task c.args.plan.now c.in-Err.fail) c.checked.ensures.checked
-    (subst (λ (list : List Step). IsExplainFail c.checked.result.now.task list c.in-Err.fail) c.items-steps.ensures c.in-Err.ensures.fail)
+    walked_fits whole.checked.task whole.ground_task whole.weights (belong_together whole) run now c.in_ok-run.ensures.begun plan marks prefs walked c.in_ok-reasons-in-Ok.ensures.fit

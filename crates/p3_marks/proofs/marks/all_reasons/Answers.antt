@@ -1,8 +1,7 @@
-use Rattle.std.proofs.Common.{◌≡◌, ◌∙◌, ◌+◌, ◌++◌, ◌<◌, length, sym, ap, arith}
-use Rattle.std.specs.List.{enumerate_from, flat_map}
-use Rattle.std.proofs.lemmas.List.{append-nil, take_all}
+use Rattle.std.proofs.Common.{◌∙◌, ◌+◌, ◌++◌, ◌<◌, length, sym, ap, arith}
+use Rattle.std.proofs.lemmas.List.{append-nil}
 use Rattle.p3_run.specs.Groups.{modals_at}
-use Rattle.p3_marks.specs.Marked.{group_at, shown_reasons, shown_soft, subject_by}
+use Rattle.p3_marks.specs.Marked.{group_at, shown_reasons, subject_by}
 use Rattle.p3_marks.specs.declared.reasons.Owner.TheVariants as owner
 use Rattle.p3_marks.proofs.ReasonLaws.{instance_more}
 use Rattle.p3_marks.proofs.marks.all_reasons.Goals as goal

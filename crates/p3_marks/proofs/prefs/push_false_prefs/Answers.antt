@@ -1,4 +1,4 @@
-use Rattle.std.proofs.Common.{◌≡◌, ◌∙◌, ◌-◌, [], ◌∷◌, ◌++◌, get_or, sym, ap}
+use Rattle.std.proofs.Common.{◌∙◌, ◌-◌, [], ◌∷◌, ◌++◌, get_or, sym, ap}
 use Rattle.std.proofs.lemmas.List.{get_or_default}
 use Rattle.p3_base.specs.declared.showing.Showing.TheVariants.{FailsAt}
 use Rattle.p3_base.specs.declared.showing.Subject.TheVariants.{Pre}
@@ -16,13 +16,13 @@ loop-place-preserved c =
     let pref = get_or prefs place one in
     let is = get_or_default prefs place one pref c.loop-place-test.true in
     elim c.if-not-eval.branch [
-      then-not-eval+in_ok-pref+in_ok-push w ↦
-        w.reasons-is
-        ∙ w.in_ok-push.ensures.ok
-        ∙ (λ i. c.loop-place.invariant i ++ record { subject = Pre step (w.in_ok-pref.ensures i); showing = FailsAt (step - 1) } ∷ [])
-        ∙ false_more state step prefs place pref c.loop-place-test.true is c.args.reasons.now (sym c.eval.ensures ∙ w.if-not-eval.true)
+      | then-not-eval+in_ok-pref+in_ok-push w ↦
+          w.reasons-is
+          ∙ w.in_ok-push.ensures.ok
+          ∙ (λ i. c.loop-place.invariant i ++ record { subject = Pre step (w.in_ok-pref.ensures i); showing = FailsAt (step - 1) } ∷ [])
+          ∙ false_more state step prefs place pref c.loop-place-test.true is c.args.reasons.now (sym c.eval.ensures ∙ w.if-not-eval.true)
       | else-not-eval w ↦
-        w.reasons-is
-        ∙ c.loop-place.invariant
-        ∙ ap (λ list. c.args.reasons.now ++ list) (true_more state step prefs place pref c.loop-place-test.true is (sym c.eval.ensures ∙ w.if-not-eval.false))
+          w.reasons-is
+          ∙ c.loop-place.invariant
+          ∙ ap (λ list. c.args.reasons.now ++ list) (true_more state step prefs place pref c.loop-place-test.true is (sym c.eval.ensures ∙ w.if-not-eval.false))
     ]

@@ -1,5 +1,4 @@
-use Rattle.std.proofs.Common.{◌≡◌, ◌∙◌, [], ◌∷◌, ◌++◌, ap}
-use Rattle.p3_base.specs.declared.showing.Reason.{Reason}
+use Rattle.std.proofs.Common.{◌∙◌, [], ◌∷◌, ◌++◌, ap}
 use Rattle.p3_marks.specs.Marks.{shown_by}
 use Rattle.p3_marks.specs.Marked.{shown_reason, subject_by}
 use Rattle.p3_marks.proofs.ReasonLaws.{mapped_more}
