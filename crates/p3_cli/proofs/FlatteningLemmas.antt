@@ -1,7 +1,8 @@
 -- The texts of a flattened target, and the step to which an action with too many conditions belongs.
-use Rattle.std.proofs.Common.{◌≡◌, ◌∙◌, ◌≤◌, ◌<◌, ◌^◌, ℕ, true, List, length, get_or, Option, Some, None, sym, subst, arith}
+use Rattle.std.proofs.Common.{◌≡◌, ◌∙◌, ◌≤◌, ◌<◌, ◌^◌, ℕ, Bool, true, List, length, get_or, Option, Some, None, sym, subst, arith}
 use Rattle.std.specs.Prelude.{Contains, unwrap_or, slice_get}
-use Rattle.std.specs.List.{position}
+use Rattle.std.specs.List.{find, list_all}
+use Rattle.std.proofs.lemmas.List.{get_or_default}
 use Rattle.std.proofs.lemmas.List.Quantifiers.{position-Some}
 use Rattle.std.proofs.lemmas.Option.{get_or_from_slice_get, slice_get_within}
 use Rattle.p3_base.specs.declared.refusal.Code.TheVariants.{FlatTooWide}
@@ -9,6 +10,7 @@ use Rattle.p3_base.specs.declared.refusal.Refusal.{Refusal}
 use Rattle.p3_base.specs.declared.refusal.Role.TheVariants as role
 use Rattle.p3_tree.specs.Faithful.{Faithful}
 use Rattle.p3_tree.specs.Lifting.{steps}
+use Rattle.p3_tree.specs.Names.{Name}
 use Rattle.p3_tree.specs.Offences.{WellFormed}
 use Rattle.p3_tree.specs.Plans.{action_named}
 use Rattle.p3_tree.specs.Refusals.Flat.{IsWideStepAt}
@@ -18,6 +20,7 @@ use Rattle.p3_tree.specs.StepNumbers.{HasNumber, IsOwn}
 use Rattle.p3_tree.specs.declared.task.Action.{Action}
 use Rattle.p3_tree.specs.declared.task.Step.{Step}
 use Rattle.p3_tree.specs.declared.task.Task.{Task}
+use Rattle.p3_tree.proofs.OnceLemmas.{find_found}
 use Rattle.p3_tree.proofs.StepNumberLaws.{steps_have_numbers}
 use Rattle.p3_formula.specs.Targets.{Compiled, IsSized, IsWellNamed, Translates}
 use Rattle.p3_formula.specs.declared.target.Target.{Target}
@@ -25,6 +28,7 @@ use Rattle.p3_formula.specs.declared.target.TargetAction.{TargetAction}
 use Rattle.p3_formula.specs.declared.target.Weights.{Weights}
 use Rattle.p3_formula.specs.declared.task.GroundTask.{GroundTask}
 use Rattle.p3_formula.proofs.NamedLaws.{translates, well_named}
+use Rattle.p3_metric.proofs.ShortNames.{has_short_name, have_short_names}
 use Rattle.p3_flat.specs.Conditions.{is_too_wide}
 use Rattle.p3_flat.specs.Flattened.{IsFlattened, first_too_wide}
 use Rattle.p3_flat.proofs.FlatLaws.{can_be_flattened, flat_free, flat_sized, flat_translates, flat_well_named}
@@ -66,20 +70,12 @@ module _ (T : Task) (G : GroundTask) (w : Weights) (X Y : Target) (can : CanBeCo
 -- ---- the step of an action
 
 module _ (T : Task) (G : GroundTask) (w : Weights) (X : Target) (can : CanBeCompiled T G w) (lean : IsLean G w X) (place : ℕ) (first : first_too_wide X ≡ Some place) where
-  pub first_within : place < length X.actions
-  first_within = within X.actions first
-    where
-      within : (actions : List TargetAction) → position is_too_wide actions ≡ Some place → place < length actions
-      within actions is = elim actions as (λ all. position is_too_wide all ≡ Some place → place < length all) [
-        | [] ↦ λ e. absurd (cc)
-        | a ∷ all ↦ λ e. (position-Some is_too_wide (a ∷ all) place a e).0
-      ] is
-
   -- the first action that has too many conditions is one of a step that may have too many
-  pub first_of_wide_step : (action : TargetAction) → action ≡ get_or X.actions place action → IsOfWideStep T action.name
-  first_of_wide_step action is =
-      let found = position-Some is_too_wide X.actions place action first in
-      wide_actions_are_of_wide_steps T G w X can.grounding lean action (place, found.0, sym is) (subst (λ one. is_too_wide one ≡ true) (sym is) found.1)
+  pub first_of_wide_step : (d : TargetAction) → IsOfWideStep T (get_or X.actions place d).name
+  first_of_wide_step d =
+      let found = position-Some is_too_wide X.actions place d first in
+      let action = get_or X.actions place d in
+      wide_actions_are_of_wide_steps T G w X can.grounding lean action (place, found.0, get_or_default X.actions place action d found.0) found.1
 
 module _ (T : Task) (name : List ℕ) (of : IsOfWideStep T name) where
   pub number_within : of.number < length (steps T)
@@ -112,3 +108,14 @@ module _ (T : Task) (name : List ℕ) (of : IsOfWideStep T name) where
     named = sym (λ i. action_named T (same i).action) ∙ named;
     is = is;
   }
+
+-- ---- names
+
+short_action : (test : Action → Bool) (actions : List Action) (action : Action) → list_all has_short_name actions ≡ true → find test actions ≡ Some action → length action.name.name < 2 ^ 32
+short_action test actions action short found =
+    let (k, at, passes) = find_found test actions action found in
+    subst (λ (one : Action). length one.name.name < 2 ^ 32) (get_or_from_slice_get actions k action action at) (have_short_names actions short k action (slice_get_within actions k action at))
+
+pub named_short : (T : Task) (name : Name) (action : Action) → list_all has_short_name T.domain.actions ≡ true → action_named T name ≡ Some action → length action.name.name < 2 ^ 32
+unfolding action_named
+named_short T name action = short_action _ T.domain.actions action
