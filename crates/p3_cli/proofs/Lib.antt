@@ -1,5 +1,6 @@
 pub mod EmbeddingLemmas
 pub mod FaithfulLaws
+pub mod FlatteningLemmas
 pub mod GroupLemmas
 pub mod HeldLemmas
 pub mod MeaningLemmas

@@ -13,7 +13,7 @@ use Rattle.p3_base.specs.declared.refusal.Role.{Role}
 use Rattle.p3_cli.specs.Ending as ending
 use Rattle.p3_cli.specs.Ending.{Ending, Tells, ending_of, status_of, unput_status}
 use Rattle.p3_cli.specs.Outcome.{ReadsAll, WriteFails}
-use Rattle.p3_cli.specs.Product.{Accepts, Produces, Stops, texts_in}
+use Rattle.p3_cli.specs.Product.{Accepts, IsTold, Produces, Stops, texts_in}
 use Rattle.p3_cli.specs.Refusing.{IsRejectedBy}
 use Rattle.p3_tree.specs.Commands.{Command, Input, Output, inputs, outputs}
 use Rattle.p3_cli.specs.Run.{AnyFaultRose, MustComplete, MustReject, IsAccepted, IsSurelyAccepted, IsProduct, IsRejectionIn, MayBeRejectionIn, MayBeShownBy, ShownBy, Comes, Leaves, Answers, Ends, IsRejectedIn, IsStatusIn, IsAcceptedIn, SameUnder, OthersStay}
@@ -80,6 +80,17 @@ module _ (command : Command) (asked : List Input) (same : asked ≡ inputs comma
   pub done_leaves : (old mid new : Option Store) (writings : List (Output × List ℕ)) (report : List ℕ) → ReadsAll old asked found → mid ≡ old
       → map (λ written. written.0) writings ≡ outputs command → Produces command texts (texts_in writings) report → new ≡ holding_all writings mid → Leaves command old new (ending.Done report)
   done_leaves old mid new writings report read stays named made is = (writings, product_is old writings report read named made, subst (λ told. new ≡ holding_all writings told) stays is)
+
+  -- an ending of what is accepted, whose lines are told, and which writes nothing
+  pub told_ends : (old new : FilesSeen) (before after : SinkSeen) (status : ℕ) → ReadsAll old.held asked found → new.held ≡ old.held → IsTold command texts before after status
+      → (how : Ending) × Ends (Some command) old new before after status how
+  told_ends old new before after status read stays told = (
+    ending.Done told.report,
+    record {
+      answers = (all_accepted old.held read told.accepted, done_leaves old.held new.held new.held [] told.report read stays told.unwritten told.produces refl);
+      tells = told.tells;
+    },
+  )
 
   -- what is left where it was not written whole
   pub unwritten_leaves : (old mid new : Option Store) (writings : List (Output × List ℕ)) (report : List ℕ) (before after : ℕ) (how : code.Ending) → ReadsAll old asked found → mid ≡ old

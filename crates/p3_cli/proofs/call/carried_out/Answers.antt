@@ -7,8 +7,18 @@ use Rattle.p3_cli.specs.Asked.{asked_inputs, asked_command}
 use Rattle.p3_reports.specs.Reports.{report_text}
 use Rattle.p3_cli.specs.Store.{files}
 use Rattle.p3_cli.proofs.WrittenFiles.{outputs_of, texts_of}
-use Rattle.p3_cli.proofs.RunLemmas.{all_accepted, rejected_comes, done_leaves, unwritten_comes, unwritten_leaves}
+use Rattle.p3_cli.proofs.ResultLemmas.{if_ok}
+use Rattle.p3_cli.proofs.RunLemmas.{all_accepted, rejected_comes, done_leaves, told_ends, unwritten_comes, unwritten_leaves}
 use Rattle.p3_cli.proofs.call.carried_out.Goals as goal
+
+pub returns-in-Watch-clause-ended : goal.returns-in-Watch-clause-ended
+returns-in-Watch-clause-ended g c =
+    let same = ap asked_inputs c.as_slice.ensures.value ∙ c.in_ok-inputs.ensures in
+    let are = sym (ap (λ xs. map (λ text. text.items) xs) c.as_slice-in-Watch.ensures.value) in
+    if_ok c.watched.result
+    (λ status. told_ends (asked_command c.args.request.now) _ same _ _ are (g.F.Files.seen c.args.files.now) (g.F.Files.seen c.read_all.new.files) (g.S.Sink.seen c.args.out.now) (g.S.Sink.seen c.watched.new.out) status
+    c.in-Ok.ensures.ok c.read_all.ensures.held_stays)
+    c.watched.ensures.told
 
 pub returns-in-Err-product_of-clause-comes : goal.returns-in-Err-product_of-clause-comes
 returns-in-Err-product_of-clause-comes g c =

@@ -1,0 +1,11 @@
+use Rattle.std.proofs.Common.{get_or, sym, subst}
+use Rattle.p3_cli.specs.Flattening.{IsOfWideStep}
+use Rattle.p3_cli.proofs.FlatteningLemmas.{first_of_wide_step}
+use Rattle.p3_cli.proofs.flattening.wide_action.Goals as goal
+
+pub wide_step-requires : goal.wide_step-requires
+wide_step-requires c =
+    let whole = c.args.whole.now in
+    let T = whole.checked.task in
+    subst (λ actions. IsOfWideStep T (get_or actions c.args.place c.index-items-place.result).name) (sym c.items.ensures)
+    (first_of_wide_step T whole.ground_task whole.weights c.args.target.now c.requires.can c.requires.lean c.args.place c.requires.first c.index-items-place.result)
