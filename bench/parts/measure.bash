@@ -1,15 +1,18 @@
 # shellcheck shell=bash
 # What bench/compile and bench/plans share: the program, the peer, and how a run is measured.
 
-# The program to measure, `--peer` and `--instructions` among the words; what is left of them is `rest`.
+# The program to measure, `--flat`, `--peer` and `--instructions` among the words; what is left of them
+# is `rest`.
 top=$(cd "$(dirname "${BASH_SOURCE[0]}")/../.." && pwd)
 program=${PROGRAM:-$("$top/bin/parts/program")}
+command=compile
 peer=
 unit=seconds
 rest=()
 while [ $# -gt 0 ]; do
     case $1 in
         --peer) peer=$2 && shift ;;
+        --flat) command=compile-flat ;;
         --instructions) unit=millions ;;
         *) rest+=("$1") ;;
     esac
