@@ -1,7 +1,7 @@
 use Rattle.std.proofs.Common.{sym, subst}
 use Rattle.p3_flat.proofs.FlatLaws.{can_be_flattened}
 use Rattle.p3_cli.specs.Translation.{CanBeCompiled}
-use Rattle.p3_cli.proofs.FlatteningLemmas.{is_sized, is_well_named}
+use Rattle.p3_cli.proofs.FlatteningLemmas.{has_flat_text, is_sized, is_well_named}
 use Rattle.p3_cli.proofs.flattening.flat_translation_of.Goals as goal
 
 pub flatten-requires : goal.flatten-requires
@@ -24,3 +24,13 @@ written-requires-clause-named c =
     let w = c.weights.result.now in
     let can : CanBeCompiled T G w = subst (λ ground. CanBeCompiled T ground w) (sym c.ground_task.ensures) (subst (λ weights. CanBeCompiled T whole.ground_task weights) (sym c.weights.ensures.weights) c.requires) in
     is_well_named T G w c.in_ok-target.target c.in-Ok.flat can c.in_ok-target.ensures.compiled c.in-Ok.ensures.flat
+
+pub returns-in-Ok-clause-text : goal.returns-in-Ok-clause-text
+returns-in-Ok-clause-text c =
+    let whole = c.args.whole.now in
+    let T = whole.checked.task in
+    let G = c.ground_task.result.now in
+    let w = c.weights.result.now in
+    let can : CanBeCompiled T G w = subst (λ ground. CanBeCompiled T ground w) (sym c.ground_task.ensures) (subst (λ weights. CanBeCompiled T whole.ground_task weights) (sym c.weights.ensures.weights) c.requires) in
+    let made = c.in_ok-written-in-Ok in
+    has_flat_text T G w c.in_ok-target.target c.in-Ok.flat can c.in_ok-target.ensures.compiled c.in-Ok.ensures.flat made.field-0.domain.items made.field-0.problem.items made.ensures.text

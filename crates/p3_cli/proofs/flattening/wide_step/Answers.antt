@@ -35,7 +35,7 @@ unreachable-requires-in_default-action_named c =
     let same = ap (λ (one : Checked). one.task) checked.ensures.checked in
     let step = c.in_ok-step.step in
     let is = its_step T c.args.name.now c.bytes.result.now of (number_small T c.args.name.now of checked.ensures.few) c.owning_step.result c.in-Some.number step checked.result.now c.bytes.ensures.bytes
-        c.owning_step.ensures.owner c.in-Some.is same c.in_ok-step.ensures in
+    c.owning_step.ensures.owner c.in-Some.is same c.in_ok-step.ensures in
     some_action T c.args.name.now of (subst WellFormed same c.task.ensures.well_formed) step is
     (in_task T c.task.result.now step (option_copied c.action_named.result) None (λ U. action_named U step.action) (c.task.ensures.task ∙ same) c.action_named.ensures (ap option_copied c.in_default-action_named.is))
 
@@ -58,7 +58,7 @@ returns c =
     let step = c.in_ok-step.step in
     let action = c.in-Some-action_named.action.now in
     let is = its_step T c.args.name.now c.bytes.result.now of (number_small T c.args.name.now of checked.ensures.few) c.owning_step.result c.in-Some.number step checked.result.now c.bytes.ensures.bytes
-        c.owning_step.ensures.owner c.in-Some.is same c.in_ok-step.ensures in
+    c.owning_step.ensures.owner c.in-Some.is same c.in_ok-step.ensures in
     wide_step_at T c.args.name.now of step action c.flat_refusal.result is
     (in_task T c.task.result.now step (option_copied c.action_named.result) (Some action) (λ U. action_named U step.action) (c.task.ensures.task ∙ same) c.action_named.ensures (ap option_copied c.in-Some-action_named.is))
     c.flat_refusal.ensures
