@@ -13,5 +13,7 @@ pub mod SpelledLemmas
 pub mod StatusLemmas
 pub mod StoreLemmas
 pub mod TranslationLemmas
+pub mod UnconditionalLemmas
+pub mod WideLaws
 pub mod WordLaws
 pub mod WrittenFiles

@@ -8,10 +8,10 @@ use Rattle.p3_base.specs.Words.{are_different}
 use Rattle.p3_tree.specs.Commands.{Command, Output, Word, command_by, command_of, command_with, has_file_words, if_spelled, inputs, is_file_word, is_spelled, kind_of, names_of, numbered, row}
 use Rattle.p3_tree.specs.declared.command.CommandKind.{CommandKind}
 use Rattle.p3_cli.specs.Ending as ending
-use Rattle.p3_cli.specs.Ending.{Ending, status_of}
+use Rattle.p3_cli.specs.Ending.{Ending, Tells, status_of}
 use Rattle.p3_cli.specs.Meaning.{AllHold, Keeps, KeepsInRun, IsDone, IsFaithfulRun, IsLaidOutRun, OfAsked, output_names}
 use Rattle.p3_cli.specs.Product.{LaysOut, Means, Produces, texts_in}
-use Rattle.p3_cli.specs.Run.{Leaves, Tells, Answers, IsProduct}
+use Rattle.p3_cli.specs.Run.{Leaves, Answers, IsProduct}
 use Rattle.p3_cli.specs.Store.{holding_all}
 use Rattle.p3_cli.proofs.HeldLemmas.{all_held, all_written}
 use Rattle.p3_cli.proofs.RunLemmas.{kept_status}

@@ -4,13 +4,13 @@ use Rattle.p3_base.specs.declared.refusal.Refusal.{Refusal}
 use Rattle.p3_base.specs.declared.refusal.Side.TheVariants.{Source, Written}
 use Rattle.p3_tree.specs.Commands.{Command}
 use Rattle.p3_tree.specs.declared.command.CommandKind.{CommandKind}
-use Rattle.p3_tree.specs.declared.command.CommandKind.TheVariants.{Compile, Lift, Embed, Evaluate, Generate}
+use Rattle.p3_tree.specs.declared.command.CommandKind.TheVariants.{Compile, Lift, Embed, Evaluate, Generate, CompileFlat, Explain, Watch}
 use Rattle.p3_tree.specs.Lifting.{is_plain, lift}
-use Rattle.p3_tree.specs.Plans.{Plan}
 use Rattle.p3_tree.specs.PlanTexts.{plan_offence}
+use Rattle.p3_tree.specs.Plans.{Plan}
 use Rattle.p3_tree.specs.Refusals.First.{AreAccepted, IsFirstRefusal}
 use Rattle.p3_tree.specs.Samples.{sample_domain, sample_plan, sample_problem}
-use Rattle.p3_tree.specs.Validity.{Fault, Valid, first_fault}
+use Rattle.p3_tree.specs.Validity.{Fault, Valid, first_fault, step_fault}
 use Rattle.p3_tree.specs.declared.task.Task.{Task}
 use Rattle.p3_tree.proofs.RefusalLaws.{nothing_is_refused}
 use Rattle.p3_tree.proofs.TextLemmas.{one_task_at_most}
@@ -27,10 +27,11 @@ use Rattle.p3_reports.specs.declared.refusal.Rejection.{Rejection}
 use Rattle.p3_cli.specs.Ending as ending
 use Rattle.p3_cli.specs.Ending.{Ending, status_of}
 use Rattle.p3_cli.specs.Evaluation.{AreOfPlan, IsInvalidPlan, RejectsPlan, given_plan}
+use Rattle.p3_cli.specs.Explaining.{IsUnfitPlan, RejectsExplaining}
 use Rattle.p3_cli.specs.Lifting.{AreOfLift, RejectsLift, TellsFail, given_lift}
-use Rattle.p3_cli.specs.Product.{RejectsBy}
+use Rattle.p3_cli.specs.Product.{MayRejectBy, RejectsBy, StopsBy}
 use Rattle.p3_cli.specs.Refusing.{IsRefusal, AllTexts, for_lift, with_plan}
-use Rattle.p3_cli.specs.Run.{ShownBy}
+use Rattle.p3_cli.specs.Run.{MayBeShownBy, ShownBy}
 use Rattle.p3_cli.specs.Store.{Reading, Texts, TooLong, Absent}
 
 refused_status : (how : Ending) (rejection : Rejection) → how ≡ ending.Refused rejection → status_of how ≡ 2
@@ -72,6 +73,23 @@ module _ (d p q : List ℕ) where
     pub plan_accepted : Valid task plan → (how : Ending) → RejectsPlan (with_plan d p q) how → ⊥
     plan_accepted valid how (inl refused) = not_refused how refused
     plan_accepted valid how (inr wrong) = not_invalid valid how wrong
+
+    not_unfit : step_fault task plan ≡ None → (how : Ending) → IsUnfitPlan d p q how → ⊥
+    not_unfit none how wrong =
+        let one : task ≡ wrong.task = one_task_at_most d p task wrong.task of.accepted.task.reads wrong.texts.accepted.task.reads in
+        let same : plan ≡ wrong.plan = one_plan_at_most q plan wrong.plan of.spelled wrong.texts.spelled in
+        let some : step_fault task plan ≡ Some wrong.unfit.fault = (λ i. step_fault (one i) (same i)) ∙ wrong.unfit.first in cc
+
+    -- a plan whose steps all fit is explained
+    pub fitting_accepted : step_fault task plan ≡ None → (how : Ending) → RejectsExplaining (with_plan d p q) how → ⊥
+    fitting_accepted fit how (inl refused) = not_refused how refused
+    fitting_accepted fit how (inr wrong) = not_unfit fit how wrong
+
+  explained_reason : (how other : Ending) → RejectsExplaining (with_plan d p q) how → RejectsExplaining (with_plan d p q) other → status_of how ≡ status_of other
+  explained_reason how other (inl shown) (inl also) = refused_status how _ shown.says ∙ sym (refused_status other _ also.says)
+  explained_reason how other (inr shown) (inr also) = invalid_status how _ shown.unfit.says ∙ sym (invalid_status other _ also.unfit.says)
+  explained_reason how other (inl shown) (inr also) = not_refused also.task also.plan also.texts how shown
+  explained_reason how other (inr shown) (inl also) = not_refused shown.task shown.plan shown.texts other also
 
   plan_reason : (how other : Ending) → RejectsPlan (with_plan d p q) how → RejectsPlan (with_plan d p q) other → status_of how ≡ status_of other
   plan_reason how other (inl shown) (inl also) = refused_status how _ shown.says ∙ sym (refused_status other _ also.says)
@@ -191,8 +209,41 @@ one_reason Evaluate n (x ∷ y ∷ z ∷ []) how other shown also = plan_reason 
 one_reason Evaluate n (x ∷ y ∷ z ∷ u ∷ texts) how other shown also = absurd shown
 one_reason Generate n [] how other shown also = plan_reason sample_domain (sample_problem n) (sample_plan n) how other shown also
 one_reason Generate n (x ∷ texts) how other shown also = absurd shown
+one_reason CompileFlat n [] how other shown also = absurd shown
+one_reason CompileFlat n (x ∷ []) how other shown also = absurd shown
+one_reason CompileFlat n (x ∷ y ∷ []) how other shown also = refused_status how _ shown.says ∙ sym (refused_status other _ also.says)
+one_reason CompileFlat n (x ∷ y ∷ z ∷ texts) how other shown also = absurd shown
+one_reason Explain n [] how other shown also = absurd shown
+one_reason Explain n (x ∷ []) how other shown also = absurd shown
+one_reason Explain n (x ∷ y ∷ []) how other shown also = absurd shown
+one_reason Explain n (x ∷ y ∷ z ∷ []) how other shown also = explained_reason x y z how other shown also
+one_reason Explain n (x ∷ y ∷ z ∷ u ∷ texts) how other shown also = absurd shown
+one_reason Watch n [] how other shown also = absurd shown
+one_reason Watch n (x ∷ []) how other shown also = absurd shown
+one_reason Watch n (x ∷ y ∷ []) how other shown also = absurd shown
+one_reason Watch n (x ∷ y ∷ z ∷ []) how other shown also = refused_status how _ shown.says ∙ sym (refused_status other _ also.says)
+one_reason Watch n (x ∷ y ∷ z ∷ u ∷ texts) how other shown also = absurd shown
 
-pub one_status : (command : Command) (read : Reading) (how other : Ending) → ShownBy command read how → ShownBy command read other → status_of how ≡ status_of other
-one_status command (Texts texts) how other shown also = one_reason command.kind command.number texts how other shown also
-one_status command (TooLong role) how other shown also = ap status_of (shown ∙ sym also)
-one_status command Absent how other shown also = absurd shown
+-- a reason that may come, where none must
+only_may : {A : Type 0} (kind : CommandKind) (number : ℕ) (texts : List (List ℕ)) (how other : Ending) → MayRejectBy kind number texts how → RejectsBy kind number texts other → A
+only_may CompileFlat n (x ∷ y ∷ []) how other shown also = absurd (nothing_is_refused Source x y shown.shows.task shown.shows.accepted also.refusal also.shows)
+only_may CompileFlat n [] how other shown also = absurd shown
+only_may CompileFlat n (x ∷ []) how other shown also = absurd shown
+only_may CompileFlat n (x ∷ y ∷ z ∷ texts) how other shown also = absurd shown
+only_may Compile n texts how other shown also = absurd shown
+only_may Lift n texts how other shown also = absurd shown
+only_may Embed n texts how other shown also = absurd shown
+only_may Evaluate n texts how other shown also = absurd shown
+only_may Generate n texts how other shown also = absurd shown
+only_may Explain n texts how other shown also = absurd shown
+only_may Watch n texts how other shown also = absurd shown
+
+stop_reason : (kind : CommandKind) (number : ℕ) (texts : List (List ℕ)) (how other : Ending) → StopsBy kind number texts how → RejectsBy kind number texts other → status_of how ≡ status_of other
+stop_reason kind number texts how other (inl shown) also = one_reason kind number texts how other shown also
+stop_reason kind number texts how other (inr may) also = only_may kind number texts how other may also
+
+-- what is told has the status of each reason that must come
+pub stop_status : (command : Command) (read : Reading) (how other : Ending) → MayBeShownBy command read how → ShownBy command read other → status_of how ≡ status_of other
+stop_status command (Texts texts) how other shown also = stop_reason command.kind command.number texts how other shown also
+stop_status command (TooLong role) how other shown also = ap status_of (shown ∙ sym also)
+stop_status command Absent how other shown also = absurd shown

@@ -11,20 +11,23 @@ use Rattle.std.specs.FinMap.{get, get-insert, slice_cmp-IsAntisymmetric, nat_cmp
 use Rattle.p3_base.specs.Outside.{FilesSeen, SinkSeen, Store, Rose, bytes_under, holding, IsPartlyWritten}
 use Rattle.p3_base.specs.declared.refusal.Role.{Role}
 use Rattle.p3_cli.specs.Ending as ending
-use Rattle.p3_cli.specs.Ending.{Ending, ending_of, status_of, unput_status}
+use Rattle.p3_cli.specs.Ending.{Ending, Tells, ending_of, status_of, unput_status}
 use Rattle.p3_cli.specs.Outcome.{ReadsAll, WriteFails}
-use Rattle.p3_cli.specs.Product.{Accepts, Produces, Rejects, texts_in}
+use Rattle.p3_cli.specs.Product.{Accepts, Produces, Stops, texts_in}
 use Rattle.p3_cli.specs.Refusing.{IsRejectedBy}
 use Rattle.p3_tree.specs.Commands.{Command, Input, Output, inputs, outputs}
-use Rattle.p3_cli.specs.Run.{AnyFaultRose, MustComplete, MustReject, IsAccepted, IsProduct, IsRejectionIn, ShownBy, Comes, Leaves, Tells, Answers, Ends, IsRejectedIn, IsStatusIn, IsAcceptedIn, SameUnder, OthersStay}
+use Rattle.p3_cli.specs.Run.{AnyFaultRose, MustComplete, MustReject, IsAccepted, IsSurelyAccepted, IsProduct, IsRejectionIn, MayBeRejectionIn, MayBeShownBy, ShownBy, Comes, Leaves, Answers, Ends, IsRejectedIn, IsStatusIn, IsAcceptedIn, SameUnder, OthersStay}
 use Rattle.p3_cli.specs.Store.{Texts, reading, holding_all, AreFirstWritten, IsWrittenUpTo}
 use Rattle.p3_cli.specs.declared.ending.Ending as code
 use Rattle.p3_cli.specs.declared.ending.Ending.TheVariants as coded
-use Rattle.p3_cli.proofs.RejectionLemmas.{one_status}
+use Rattle.p3_cli.proofs.RejectionLemmas.{stop_status}
 
 -- what is accepted shows no refusal
 accepted_or : {A : Type 0} (store : Store) (command : Command) (how : Ending) → IsAccepted store command → IsRejectionIn store command how → A
 accepted_or store command how (texts, read, none) shown = absurd (none how (subst (λ found. ShownBy command found how) read shown))
+
+surely_accepted_or : {A : Type 0} (store : Store) (command : Command) (how : Ending) → IsSurelyAccepted store command → MayBeRejectionIn store command how → A
+surely_accepted_or store command how (texts, read, none) shown = absurd (none how (subst (λ found. MayBeShownBy command found how) read shown))
 
 -- what was read of the inputs, where it is told
 module _ (command : Command) (asked : List Input) (same : asked ≡ inputs command) (found texts : List (List ℕ)) (are : found ≡ texts) where
@@ -33,12 +36,12 @@ module _ (command : Command) (asked : List Input) (same : asked ≡ inputs comma
   all_accepted None read accepted = tt
   all_accepted (Some store) read accepted = (texts, (λ i. reading store (sym same i)) ∙ read ∙ ap Texts are, accepted)
 
-  rejected_of : (told : Option Store) (how : Ending) → ReadsAll told asked found → Rejects command texts how → IfSome told (λ store. IsRejectionIn store command how)
+  rejected_of : (told : Option Store) (how : Ending) → ReadsAll told asked found → Stops command texts how → IfSome told (λ store. MayBeRejectionIn store command how)
   rejected_of None how read refused = tt
-  rejected_of (Some store) how read refused = subst (λ shown. ShownBy command shown how) (sym ((λ i. reading store (sym same i)) ∙ read ∙ ap Texts are)) refused
+  rejected_of (Some store) how read refused = subst (λ shown. MayBeShownBy command shown how) (sym ((λ i. reading store (sym same i)) ∙ read ∙ ap Texts are)) refused
 
   -- what is refused of it is refused of what is held
-  pub rejected_comes : (old new : FilesSeen) (how : code.Ending) → ReadsAll old.held asked found → IsRejectedBy (Rejects command texts) how → Comes command old new (ending_of how)
+  pub rejected_comes : (old new : FilesSeen) (how : code.Ending) → ReadsAll old.held asked found → IsRejectedBy (Stops command texts) how → Comes command old new (ending_of how)
   rejected_comes old new coded.OutOfMemory read refused = tt
   rejected_comes old new (coded.Refused rejection) read refused = rejected_of old.held (ending.Refused rejection) read refused
   rejected_comes old new (coded.Invalid fault) read refused = rejected_of old.held (ending.Invalid fault) read refused
@@ -115,10 +118,10 @@ kept_status before after status ending.OutOfMemory tells other = elim tells [ in
 kept_status before after status ending.Usage tells other = elim tells [ inl t ↦ t.0 | inr t ↦ t.0 ]
 
 -- an ending that came has the status of each reason to make nothing
-same_status : (store : Store) (command : Command) (old : FilesSeen) (status : ℕ) (how shown : Ending) → old.held ≡ Some store → IfSome old.held (λ store. IsRejectionIn store command how)
+same_status : (store : Store) (command : Command) (old : FilesSeen) (status : ℕ) (how shown : Ending) → old.held ≡ Some store → IfSome old.held (λ store. MayBeRejectionIn store command how)
     → IsRejectionIn store command shown → status ≡ status_of how → status ≡ status_of shown
 same_status store command old status how shown is comes other kept =
-    kept ∙ one_status command (reading store (inputs command)) how shown (subst (λ told. IfSome told (λ store. IsRejectionIn store command how)) is comes) other
+    kept ∙ stop_status command (reading store (inputs command)) how shown (subst (λ told. IfSome told (λ store. MayBeRejectionIn store command how)) is comes) other
 
 rejects_held : (told : Option Store) (command : Command) (old new : FilesSeen) (before after : SinkSeen) (status : ℕ) (how : Ending) → old.held ≡ told
     → Comes command old new how → Tells before after status how
@@ -150,7 +153,7 @@ rejects None old new before after status how answers tells = if_none old.held
     if_none (Some store) = λ shown also. absurd also
 rejects (Some command) old new before after status how answers tells = rejects_held old.held command old new before after status how refl answers.0 tells
 
-pub some_status : (told : Option Store) (command : Command) (status : ℕ) (how : Ending) → status_of how ≡ status → IfSome told (λ store. IsRejectionIn store command how) → IfSome told (IsStatusIn (Some command) status)
+pub some_status : (told : Option Store) (command : Command) (status : ℕ) (how : Ending) → status_of how ≡ status → IfSome told (λ store. MayBeRejectionIn store command how) → IfSome told (IsStatusIn (Some command) status)
 some_status None command status how is shown = tt
 some_status (Some store) command status how is shown = (how, is, shown)
 
@@ -180,16 +183,16 @@ IsComplete old new before after status = AnyFaultRose old new before after ⊎ (
 
 completes_held : (told : Option Store) (command : Command) (old new : FilesSeen) (before after : SinkSeen) (status : ℕ) (how : Ending) → old.held ≡ told
     → Comes command old new how → Tells before after status how
-    → IfSome told (λ store. IsAccepted store command → IsComplete old new before after status)
+    → IfSome told (λ store. IsSurelyAccepted store command → IsComplete old new before after status)
 completes_held None command old new before after status how is comes tells = tt
 completes_held (Some store) command old new before after status (ending.Done lines) is comes tells =
     λ accepted. elim tells [ inl t ↦ inr (inl t.0) | inr t ↦ inl (inr (inr t.1)) ]
 completes_held (Some store) command old new before after status (ending.Refused rejection) is comes tells =
-    λ accepted. accepted_or store command (ending.Refused rejection) accepted (subst (λ told. IfSome told (λ store. IsRejectionIn store command (ending.Refused rejection))) is comes)
+    λ accepted. surely_accepted_or store command (ending.Refused rejection) accepted (subst (λ told. IfSome told (λ store. MayBeRejectionIn store command (ending.Refused rejection))) is comes)
 completes_held (Some store) command old new before after status (ending.Invalid fault) is comes tells =
-    λ accepted. accepted_or store command (ending.Invalid fault) accepted (subst (λ told. IfSome told (λ store. IsRejectionIn store command (ending.Invalid fault))) is comes)
+    λ accepted. surely_accepted_or store command (ending.Invalid fault) accepted (subst (λ told. IfSome told (λ store. MayBeRejectionIn store command (ending.Invalid fault))) is comes)
 completes_held (Some store) command old new before after status (ending.TooLong role) is comes tells =
-    λ accepted. accepted_or store command (ending.TooLong role) accepted (subst (λ told. IfSome told (λ store. IsRejectionIn store command (ending.TooLong role))) is comes)
+    λ accepted. surely_accepted_or store command (ending.TooLong role) accepted (subst (λ told. IfSome told (λ store. MayBeRejectionIn store command (ending.TooLong role))) is comes)
 completes_held (Some store) command old new before after status (ending.ReadFailed role) is comes tells = λ accepted. inl (inl comes.1)
 completes_held (Some store) command old new before after status (ending.WriteFailed role) is comes tells = λ accepted. inl (inr (inl comes.0))
 completes_held (Some store) command old new before after status ending.OutOfMemory is comes tells =

@@ -3,8 +3,8 @@ use Rattle.std.proofs.Common.{◌≡◌, ◌∙◌, ◌≢◌, ℕ, Option, Some
 use Rattle.p3_base.specs.Outside.{FilesSeen, SinkSeen, Rose}
 use Rattle.p3_tree.specs.Commands.{Command}
 use Rattle.p3_cli.specs.Ending as ending
-use Rattle.p3_cli.specs.Ending.{Ending, status_of, unput_status}
-use Rattle.p3_cli.specs.Run.{Answers, Comes, IsStatusIn, Tells}
+use Rattle.p3_cli.specs.Ending.{Ending, Tells, status_of, unput_status}
+use Rattle.p3_cli.specs.Run.{Answers, Comes, IsStatusIn}
 use Rattle.p3_cli.proofs.RunLemmas.{kept_status, some_status}
 
 -- an ending has another status, also where its lines cannot be put

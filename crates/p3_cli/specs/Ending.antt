@@ -1,5 +1,6 @@
 -- How a run ends: its status, and the lines that it puts.
-use Rattle.std.specs.Prelude.{ℕ, List}
+use Rattle.std.specs.Prelude.{ℕ, ◌≡◌, ◌⊎◌, List}
+use Rattle.p3_base.specs.Outside.{SinkSeen, Rose, IsPartlyPut, with_put}
 use Rattle.p3_base.specs.declared.refusal.Role.{Role}
 use Rattle.p3_tree.specs.Reports.Lines.{read_fault_line, write_fault_line, want_of_memory_line, usage_lines}
 use Rattle.p3_tree.specs.Reports.Refusals.{too_long_line}
@@ -61,3 +62,9 @@ lines_of (ReadFailed role) = read_fault_line role
 lines_of (WriteFailed role) = write_fault_line role
 lines_of OutOfMemory = want_of_memory_line
 lines_of Usage = usage_lines
+
+-- the lines are put and the status says the ending; or the sink failed, a first part of them is put, and the status 6 takes the place of 0
+abbrev pub Tells : SinkSeen → SinkSeen → ℕ → Ending → Type 0
+Tells old new status how =
+    ((status ≡ status_of how) × (new.written ≡ with_put (lines_of how) old.written))
+    ⊎ ((status ≡ unput_status how) × Rose old.faults new.faults × IsPartlyPut (lines_of how) old.written new.written)

@@ -2,6 +2,9 @@ pub mod Asked
 pub mod Embedding
 pub mod Ending
 pub mod Evaluation
+pub mod Explaining
+pub mod Flattening
+pub mod Following
 pub mod Lifting
 pub mod Meaning
 pub mod Outcome

@@ -2,10 +2,10 @@
 use Rattle.std.specs.Prelude.{ℕ, ◌≡◌, ◌⊎◌, List, Option, Some, None, IfSome, Contains, map, ◌≢◌}
 use Rattle.std.specs.Option.{option_map}
 use Rattle.std.specs.List.{AllByRecursion}
-use Rattle.p3_base.specs.Outside.{FilesSeen, SinkSeen, Store, Rose, IsPartlyPut, bytes_under, with_put}
+use Rattle.p3_base.specs.Outside.{FilesSeen, SinkSeen, Store, Rose, bytes_under}
 use Rattle.p3_cli.specs.Ending as ending
-use Rattle.p3_cli.specs.Ending.{Ending, status_of, unput_status, lines_of}
-use Rattle.p3_cli.specs.Product.{Rejects, Accepts, Produces, texts_in}
+use Rattle.p3_cli.specs.Ending.{Ending, Tells, status_of}
+use Rattle.p3_cli.specs.Product.{Rejects, Stops, Accepts, AcceptsSurely, Produces, texts_in}
 use Rattle.p3_tree.specs.Commands.{Command, Output, inputs, outputs}
 use Rattle.p3_cli.specs.Status as status
 use Rattle.p3_cli.specs.Store.{Reading, Texts, TooLong, Absent, reading, AreStored, holding_all, AreFirstWritten, IsWrittenUpTo}
@@ -20,9 +20,22 @@ ShownBy command Absent how = ⊥
 abbrev pub IsRejectionIn : Store → Command → Ending → Type 0
 IsRejectionIn store command how = ShownBy command (reading store (inputs command)) how
 
+-- the ending says why nothing is made of what was read, or why nothing may be
+abbrev pub MayBeShownBy : Command → Reading → Ending → Type 0
+MayBeShownBy command (Texts texts) how = Stops command texts how
+MayBeShownBy command (TooLong role) how = how ≡ ending.TooLong role
+MayBeShownBy command Absent how = ⊥
+
+abbrev pub MayBeRejectionIn : Store → Command → Ending → Type 0
+MayBeRejectionIn store command how = MayBeShownBy command (reading store (inputs command)) how
+
 -- all inputs are held, within their limits, and there is no reason to make nothing of them
 abbrev pub IsAccepted : Store → Command → Type 0
 IsAccepted store command = (texts : List (List ℕ)) × (reading store (inputs command) ≡ Texts texts) × Accepts command texts
+
+-- nor one that may come
+abbrev pub IsSurelyAccepted : Store → Command → Type 0
+IsSurelyAccepted store command = (texts : List (List ℕ)) × (reading store (inputs command) ≡ Texts texts) × AcceptsSurely command texts
 
 -- there is a text for each output, and the texts and the report are what the command makes of what was read
 pub record IsProduct (told : Option Store) (command : Command) (writings : List (Output × List ℕ)) (report : List ℕ) : Type 0 where
@@ -32,9 +45,9 @@ pub record IsProduct (told : Option Store) (command : Command) (writings : List 
 -- when an ending of a command comes
 abbrev pub Comes : Command → FilesSeen → FilesSeen → Ending → Type 0
 Comes command old new (ending.Done lines) = IfSome old.held (λ store. IsAccepted store command)
-Comes command old new (ending.Refused rejection) = IfSome old.held (λ store. IsRejectionIn store command (ending.Refused rejection))
-Comes command old new (ending.Invalid fault) = IfSome old.held (λ store. IsRejectionIn store command (ending.Invalid fault))
-Comes command old new (ending.TooLong role) = IfSome old.held (λ store. IsRejectionIn store command (ending.TooLong role))
+Comes command old new (ending.Refused rejection) = IfSome old.held (λ store. MayBeRejectionIn store command (ending.Refused rejection))
+Comes command old new (ending.Invalid fault) = IfSome old.held (λ store. MayBeRejectionIn store command (ending.Invalid fault))
+Comes command old new (ending.TooLong role) = IfSome old.held (λ store. MayBeRejectionIn store command (ending.TooLong role))
 Comes command old new (ending.ReadFailed role) = Contains (map (λ input. input.role) (inputs command)) role × Rose old.read_faults new.read_faults
 Comes command old new (ending.WriteFailed role) = Rose old.write_faults new.write_faults × IfSome old.held (λ store. IsAccepted store command)
 Comes command old new ending.OutOfMemory = Unit {0}
@@ -59,12 +72,6 @@ abbrev pub Answers : Option Command → FilesSeen → FilesSeen → Ending → T
 Answers None old new how = (how ≡ ending.Usage) × (new.held ≡ old.held)
 Answers (Some command) old new how = Comes command old new how × Leaves command old.held new.held how
 
--- the lines are put and the status says the ending; or the sink failed, a first part of them is put, and the status 6 takes the place of 0
-abbrev pub Tells : SinkSeen → SinkSeen → ℕ → Ending → Type 0
-Tells old new status how =
-    ((status ≡ status_of how) × (new.written ≡ with_put (lines_of how) old.written))
-    ⊎ ((status ≡ unput_status how) × Rose old.faults new.faults × IsPartlyPut (lines_of how) old.written new.written)
-
 -- how a run ends
 pub record Ends (asked : Option Command) (old new : FilesSeen) (before after : SinkSeen) (status : ℕ) (how : Ending) : Type 0 where
   pub answers : Answers asked old new how
@@ -75,14 +82,19 @@ abbrev pub IsRejectedIn : Option Command → Store → Ending → Type 0
 IsRejectedIn None store how = ⊥
 IsRejectedIn (Some command) store how = IsRejectionIn store command how
 
--- there is a reason to make nothing of it, and this is its status
-abbrev pub IsStatusIn : Option Command → ℕ → Store → Type 0
-IsStatusIn asked answered store = (how : Ending) × (status_of how ≡ answered) × IsRejectedIn asked store how
+-- or why nothing may be made of it
+abbrev pub MayBeRejectedIn : Option Command → Store → Ending → Type 0
+MayBeRejectedIn None store how = ⊥
+MayBeRejectedIn (Some command) store how = MayBeRejectionIn store command how
 
--- what the store holds is accepted for what is asked
+-- there is a reason why nothing is made of it, or may be, and this is its status
+abbrev pub IsStatusIn : Option Command → ℕ → Store → Type 0
+IsStatusIn asked answered store = (how : Ending) × (status_of how ≡ answered) × MayBeRejectedIn asked store how
+
+-- what the store holds is accepted for what is asked, and no reason may come
 abbrev pub IsAcceptedIn : Option Command → Store → Type 0
 IsAcceptedIn None store = ⊥
-IsAcceptedIn (Some command) store = IsAccepted store command
+IsAcceptedIn (Some command) store = IsSurelyAccepted store command
 
 -- where the store tells, and there is a reason to make nothing of what it holds, its status is answered, but for failed reads and want of memory
 abbrev pub MustReject : Option Command → FilesSeen → FilesSeen → ℕ → Type 0

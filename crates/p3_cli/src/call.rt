@@ -4,7 +4,7 @@ ghost use Rattle.std.specs.Prelude.{◌≡◌, ◌↔◌, IfErr, IfOk, IfSome, I
 ghost use Rattle.p3_base.specs.Outside.{Rose};
 ghost use Rattle.p3_tree.specs.Commands.{command_of, inputs};
 ghost use Rattle.p3_cli.specs.Asked.{asked_command};
-ghost use Rattle.p3_cli.specs.Ending.{Ending, ending_of};
+ghost use Rattle.p3_cli.specs.Ending.{Ending, Tells, ending_of};
 ghost use Rattle.p3_cli.specs.Meaning.{IsDone, IsFaithfulRun, IsLaidOutRun};
 ghost use Rattle.p3_cli.specs.Run.{
   AreHeld,
@@ -15,19 +15,19 @@ ghost use Rattle.p3_cli.specs.Run.{
   MustComplete,
   MustReject,
   OthersStay,
-  Tells,
 };
 ghost use Rattle.p3_cli.specs.Status as status;
 ghost use Rattle.p3_cli.specs.Store.{AreStored};
 
 use crate::asking::asked;
 use crate::ending;
-use crate::product::product_of;
+use crate::product::{product_of, watched};
 use crate::request::Request;
 use crate::status::UNPUT;
 use crate::store::{read_all, write_all};
 use crate::table::row_of;
 use p3_base::{Files, Sink, SinkFailed, Word};
+use p3_tree::CommandKind;
 use std::alloc::Global;
 
 /// Does what the words ask for, and answers the status of the process.
@@ -109,7 +109,8 @@ fn carried_through<F: Files, S: Sink>(
 /// Carries a request out: reads its inputs in order, makes its product, writes its outputs in order
 /// and then puts the report. Answers the status, or the ending of which no line has been put.
 ///
-/// A command that puts lines while it works branches off here, and answers the status in the same way.
+/// A command that puts lines while it works branches off here, and answers the status in the same
+/// way.
 fn carried_out<F: Files, S: Sink>(
     alloc: Global,
     request: &Request<'_>,
@@ -131,6 +132,9 @@ fn carried_out<F: Files, S: Sink>(
         Ok(texts) => texts,
         Err(ending) => return Err(ending),
     };
+    if let CommandKind::Watch = request.kind {
+        return watched(alloc, request, texts.as_slice(), out);
+    }
     let product = match product_of(alloc, request, texts.as_slice()) {
         Ok(product) => product,
         Err(ending) => return Err(ending),

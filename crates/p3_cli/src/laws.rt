@@ -1,18 +1,23 @@
 //! The laws of the whole: what is compiled and written for a task. Each is the contract of a
 //! function without a body.
 
-ghost use Rattle.std.specs.Prelude.{List, ℕ};
+ghost use Rattle.std.specs.Prelude.{Contains, IsTrue, List, ℕ};
 ghost use Rattle.p3_tree.specs.Faithful.{Faithful};
 ghost use Rattle.p3_tree.specs.Offences.{WellFormed};
 ghost use Rattle.p3_tree.specs.declared.task.Task.{Task};
 ghost use Rattle.p3_formula.specs.Targets.{Compiled, IsSized, IsWellNamed, Translates};
 ghost use Rattle.p3_formula.specs.declared.target.Target.{Target};
+ghost use Rattle.p3_formula.specs.declared.target.TargetAction.{TargetAction};
 ghost use Rattle.p3_formula.specs.declared.target.Weights.{Weights};
 ghost use Rattle.p3_formula.specs.declared.task.GroundTask.{GroundTask};
+ghost use Rattle.p3_compile.specs.Lean.{IsLean};
+ghost use Rattle.p3_flat.specs.Conditions.{is_too_wide};
+ghost use Rattle.p3_ground.specs.Sparse.{IsGroundingOf};
 ghost use Rattle.p3_ground.specs.StandsFor.{StandsFor};
 ghost use Rattle.p3_metric.specs.Weighed.{HasWeights, IsLinearMetric};
 ghost use Rattle.p3_writer.specs.TaskOf.{task_of};
 ghost use Rattle.p3_writer.specs.Texts.{IsDomainTextOf, IsProblemTextOf};
+ghost use Rattle.p3_cli.specs.Flattening.{IsOfWideStep};
 ghost use Rattle.p3_cli.specs.WrittenText.{HasFaithfulText};
 
 /// What is compiled for a task is a faithful translation of it.
@@ -36,4 +41,12 @@ pub fn written_targets_are_faithful_texts()
     ensures { (T : Task) (X : Target) (domain problem : List ℕ) → Faithful T (task_of X)
         → IsDomainTextOf domain (task_of X).domain → IsProblemTextOf problem (task_of X).problem
         → HasFaithfulText domain problem T }
+{}
+
+/// An action with too many conditions is one of a step that may have too many: it is named for the
+/// number of that step.
+pub fn wide_actions_have_wide_steps()
+    ensures { (T : Task) (G : GroundTask) (w : Weights) (X : Target) → IsGroundingOf T G
+        → IsLean G w X → (action : TargetAction) → Contains X.actions action
+        → IsTrue (is_too_wide action) → IsOfWideStep T action.name }
 {}

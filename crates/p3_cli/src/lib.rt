@@ -7,7 +7,10 @@ mod call;
 mod embedding;
 mod ending;
 mod evaluation;
+mod explaining;
 mod files;
+mod flattening;
+mod following;
 mod found;
 mod laws;
 mod lifting;
@@ -25,7 +28,7 @@ mod translation;
 pub use call::run;
 pub use ending::Ending;
 pub use laws::{
-    compiled_tasks_are_faithful, translating_targets_are_faithful,
+    compiled_tasks_are_faithful, translating_targets_are_faithful, wide_actions_have_wide_steps,
     written_targets_are_faithful_texts,
 };
 pub use p3_eval::{TextVerdict, judge_text};

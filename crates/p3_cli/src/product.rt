@@ -1,10 +1,10 @@
 //! What a command makes of the texts that it read.
 
-ghost use Rattle.std.specs.Prelude.{◌≡◌, ◌∷◌, [], length, map, IfOk, IfErr, OnOk};
+ghost use Rattle.std.specs.Prelude.{◌≡◌, ◌≢◌, ◌∷◌, [], length, map, IfOk, IfErr, OnErr, OnOk};
 ghost use Rattle.p3_tree.specs.Commands.{inputs, row, source_task};
 ghost use Rattle.p3_reports.specs.Reports.{report_text};
 ghost use Rattle.p3_cli.specs.Asked.{asked_command};
-ghost use Rattle.p3_cli.specs.Product.{Accepts, Produces, Rejects};
+ghost use Rattle.p3_cli.specs.Product.{Accepts, IsTold, Produces, Stops};
 ghost use Rattle.p3_cli.specs.Refusing.{
   IsRejectedBy,
   all_texts,
@@ -13,16 +13,20 @@ ghost use Rattle.p3_cli.specs.Refusing.{
   with_plan,
 };
 ghost use Rattle.p3_cli.specs.Store.{AreWithin, nameless};
-ghost use Rattle.p3_tree.specs.declared.command.CommandKind.TheVariants.{Evaluate, Lift};
+ghost use Rattle.p3_tree.specs.declared.command.CommandKind.TheVariants.{Evaluate, Lift, Watch};
 
 use crate::Ending;
 use crate::embedding::embed;
 use crate::evaluation::evaluate;
+use crate::explaining::explain;
+use crate::flattening::flat_translate;
+use crate::following::follow;
 use crate::lifting::lift;
 use crate::request::Request;
 use crate::sampling::sample;
 use crate::texts::Texts;
 use crate::translation::translate;
+use p3_base::Sink;
 use p3_reports::Report;
 use p3_tree::CommandKind;
 use std::alloc::Global;
@@ -36,14 +40,16 @@ pub(crate) struct Product {
     pub(crate) report: Report,
 }
 
-/// Carries a request out on the texts that were read.
+/// Carries a request out on the texts that were read. One that puts lines while it works is carried
+/// out by `watched`.
 pub(crate) fn product_of(
     alloc: Global,
     request: &Request<'_>,
     texts: &[Vec<u8>],
 ) -> Result<Product, Ending>
-    requires { AreWithin (inputs (asked_command request.now))
+    requires within { AreWithin (inputs (asked_command request.now))
         (map (λ text. text.items) texts.now) }
+    requires at_the_end { request.now.kind ≢ Watch }
     ensures many { IfOk result (λ product.
         length product.texts.items ≡ length request.now.writes.now) }
     ensures ok { IfOk result (λ product.
@@ -52,7 +58,7 @@ pub(crate) fn product_of(
     ensures accepted { OnOk result
         (Accepts (asked_command request.now) (map (λ text. text.items) texts.now)) }
     ensures err { IfErr result (IsRejectedBy
-        (Rejects (asked_command request.now) (map (λ text. text.items) texts.now))) }
+        (Stops (asked_command request.now) (map (λ text. text.items) texts.now))) }
 {
     match request.kind {
         CommandKind::Compile => Ok(translate(alloc, &texts_of_task(texts))?.product(alloc)?),
@@ -63,7 +69,36 @@ pub(crate) fn product_of(
             report: evaluate(alloc, &texts_of_plan(texts))?,
         }),
         CommandKind::Generate => Ok(sample(alloc, request.number)?.product(alloc)?),
+        CommandKind::CompileFlat => {
+            Ok(flat_translate(alloc, &texts_of_task(texts))?.product(alloc)?)
+        }
+        CommandKind::Explain => Ok(Product {
+            texts: Vec::new(alloc),
+            report: explain(alloc, &texts_of_plan(texts))?,
+        }),
+        CommandKind::Watch => unreachable!(),
     }
+}
+
+/// Carries `watch` out on the texts that were read: puts its lines, and answers the status, or the
+/// ending of which no line has been put.
+pub(crate) fn watched<S: Sink>(
+    alloc: Global,
+    request: &Request<'_>,
+    texts: &[Vec<u8>],
+    out: &mut S,
+) -> Result<u8, Ending>
+    requires within { AreWithin (inputs (asked_command request.now))
+        (map (λ text. text.items) texts.now) }
+    requires watch { request.now.kind ≡ Watch }
+    ensures told { IfOk result
+        (IsTold (asked_command request.now) (map (λ text. text.items) texts.now)
+        (S.seen out.old) (S.seen out.new)) }
+    ensures err { IfErr result (IsRejectedBy
+        (Stops (asked_command request.now) (map (λ text. text.items) texts.now))) }
+    ensures unput { OnErr result (out.new ≡ out.old) }
+{
+    follow(alloc, &texts_of_plan(texts), out)
 }
 
 /// Takes the texts of a task from those that were read.

@@ -66,6 +66,30 @@ const GENERATE: Row = Row {
     writes: &[Role::Domain, Role::Problem, Role::Plan],
 };
 
+/// Translates a task into one without conditional effects.
+const COMPILE_FLAT: Row = Row {
+    word: b"compile-flat",
+    is_numbered: false,
+    reads: &[Role::Domain, Role::Problem],
+    writes: &[Role::WrittenDomain, Role::WrittenProblem],
+};
+
+/// Tells why a plan has its value.
+const EXPLAIN: Row = Row {
+    word: b"explain",
+    is_numbered: false,
+    reads: &[Role::Domain, Role::Problem, Role::Plan],
+    writes: &[],
+};
+
+/// Judges each line of what is to be a plan.
+const WATCH: Row = Row {
+    word: b"watch",
+    is_numbered: false,
+    reads: &[Role::Domain, Role::Problem, Role::Plan],
+    writes: &[],
+};
+
 /// All commands.
 const KINDS: &[CommandKind] = &[
     CommandKind::Compile,
@@ -73,6 +97,9 @@ const KINDS: &[CommandKind] = &[
     CommandKind::Embed,
     CommandKind::Evaluate,
     CommandKind::Generate,
+    CommandKind::CompileFlat,
+    CommandKind::Explain,
+    CommandKind::Watch,
 ];
 
 /// Gives the row of a command.
@@ -85,6 +112,9 @@ pub(crate) fn row_of(kind: CommandKind) -> Row
         CommandKind::Embed => EMBED,
         CommandKind::Evaluate => EVALUATE,
         CommandKind::Generate => GENERATE,
+        CommandKind::CompileFlat => COMPILE_FLAT,
+        CommandKind::Explain => EXPLAIN,
+        CommandKind::Watch => WATCH,
     }
 }
 

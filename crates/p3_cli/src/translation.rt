@@ -2,9 +2,16 @@
 
 ghost use Rattle.std.specs.Prelude.{◌≡◌, ◌∷◌, [], map, IfOk, IfErr};
 ghost use Rattle.p3_tree.specs.Reports.Tasks.{compiled_lines};
+ghost use Rattle.p3_formula.specs.Targets.{IsSized, IsWellNamed};
 ghost use Rattle.p3_reports.specs.Reports.{report_text};
 ghost use Rattle.p3_cli.specs.Refusing.{IsRefusedTask, all_texts};
-ghost use Rattle.p3_cli.specs.Translation.{CanBeCompiled, HasLayout, IsLaidOut, IsTranslation};
+ghost use Rattle.p3_cli.specs.Translation.{
+  AreTextsOf,
+  CanBeCompiled,
+  HasLayout,
+  IsLaidOut,
+  IsTranslation,
+};
 ghost use Rattle.p3_cli.specs.WrittenText.{HasFaithfulText};
 
 use crate::Ending;
@@ -15,6 +22,7 @@ use crate::texts::Texts;
 use p3_base::{NoMemory, Side};
 use p3_compile::compile;
 use p3_eval::Whole;
+use p3_formula::Target;
 use p3_reports::Report;
 use p3_writer::{write_domain, write_problem};
 use std::alloc::Global;
@@ -69,9 +77,27 @@ fn translation_of(alloc: Global, whole: &Whole) -> Result<Translation, NoMemory>
         report_text made.report ≡ compiled_lines whole.now.checked.task) }
 {
     let target = compile(alloc, whole.ground_task(), whole.weights())?;
+    written(alloc, whole, &target)
+}
+
+/// Writes a target of a task of which nothing is refused, and makes the report.
+pub(crate) fn written(
+    alloc: Global,
+    whole: &Whole,
+    target: &Target,
+) -> Result<Translation, NoMemory>
+    requires can { CanBeCompiled
+        whole.now.checked.task whole.now.ground_task whole.now.weights }
+    requires sized { IsSized target.now }
+    requires named { IsWellNamed target.now }
+    ensures text { IfOk result (λ made.
+        AreTextsOf target.now made.domain.items made.problem.items) }
+    ensures report { IfOk result (λ made.
+        report_text made.report ≡ compiled_lines whole.now.checked.task) }
+{
     Ok(Translation {
-        domain: write_domain(alloc, &target)?,
-        problem: write_problem(alloc, &target)?,
+        domain: write_domain(alloc, target)?,
+        problem: write_problem(alloc, target)?,
         report: Report::Compile(compiled_report(whole)),
     })
 }

@@ -99,7 +99,7 @@ module _ (T : Task) where
       behind_fitting 1 (start T) plan rest (sym (steps_fit-walk T plan) ∙ f)
       ∙ ap (λ s. slice_get (faults_from (1 + length plan) s rest) 0) (sym (last_state-walk T plan))
 
-  no_step_fault : (plan : Plan) → steps_fit T plan ≡ true → step_fault T plan ≡ None
+  pub no_step_fault : (plan : Plan) → steps_fit T plan ≡ true → step_fault T plan ≡ None
   no_step_fault plan f = ap (step_fault T) (sym (append-nil plan)) ∙ fitting_fault plan [] f
 
   -- the step behind those that fit is the first fault where it does not fit

@@ -6,7 +6,7 @@ ghost use Rattle.p3_tree.specs.Names.{Name};
 ghost use Rattle.p3_tree.specs.Plans.{steps_fit};
 ghost use Rattle.p3_tree.specs.PreferenceNames.{ordered_names};
 ghost use Rattle.p3_tree.specs.Validity.{first_fault};
-ghost use Rattle.p3_run.specs.Runs.{begun, most_steps, ran_after};
+ghost use Rattle.p3_run.specs.Runs.{begun, ground_state, most_steps, ran_after};
 ghost use Rattle.p3_eval.specs.Runs.{
   HasTask,
   IsFaultOfAll,
@@ -17,7 +17,7 @@ ghost use Rattle.p3_eval.specs.Runs.{
 };
 
 use p3_base::NoMemory;
-use p3_formula::{GroundTask, Weights};
+use p3_formula::{Bits, GroundTask, Weights};
 use p3_run::{GroundRun, Stepped, Verdict};
 use std::alloc::Global;
 use std::marker::Model;
@@ -80,6 +80,13 @@ impl<'a> Run<'a> {
         ensures { OfItsPlan self.now (λ T plan. first_fault T plan ≡ fault_of result) }
     {
         self.ground_run.finish()
+    }
+
+    /// The state that they lead to, as bits of the ground task's atoms.
+    pub fn state(&self) -> &Bits
+        ensures { result.now ≡ ground_state self.now.task self.now.plan }
+    {
+        self.ground_run.state()
     }
 
     /// How many steps are done. All of them fit.

@@ -1,25 +1,28 @@
--- The name of each preference of a step is one of the ordered names.
+-- The name of each preference of a step, and of each instance of one, is one of the ordered names.
 use Rattle.std.proofs.Common.{◌≡◌, ◌∙◌, ◌⊎◌, inl, inr, ⊎_elim, ℕ, zero, suc, refl, sym, ap, Bool, true, false, not, List, [], ◌∷◌, ◌++◌, Option, Some, None, cond, fold}
-use Rattle.std.specs.Prelude.{slice_get, filter, flat_map, nat_lt}
+use Rattle.std.specs.Prelude.{slice_get, filter, flat_map, map, nat_lt}
 use Rattle.std.proofs.lemmas.Bool.{true≢false}
 use Rattle.std.proofs.lemmas.Slice.Eq.{bytes_eq-Decides}
 use mathlib.Core.Former.{Count, one_more}
-use Rattle.p3_tree.specs.Folds.{fold_goals, fold_one_goal}
+use Rattle.p3_tree.specs.Folds.{fold_constraints, fold_goals, fold_one_constraint, fold_one_goal}
 use Rattle.p3_tree.specs.Names.{Name, same_name}
 use Rattle.p3_tree.specs.Types.{once_each}
 use Rattle.p3_tree.specs.States.{Environment}
 use Rattle.p3_tree.specs.Bindings.{bind}
+use Rattle.p3_tree.specs.Constraints.{Instance, at_end, instances, instances_of, instances_of_all, instances_of_one}
 use Rattle.p3_tree.specs.Goals.{StatePref, prefs, prefs_layer, named}
 use Rattle.p3_tree.specs.Plans.{action_named, arguments}
 use Rattle.p3_tree.specs.Metrics.{step_prefs, prefs_by}
-use Rattle.p3_tree.specs.PreferenceNames.{Named, named_at, named_in_goal, goal_names_layer, named_in_constraint, named_in_domain, named_in_problem, placed, in_text_order, ordered_names}
+use Rattle.p3_tree.specs.PreferenceNames.{Named, named_at, named_in_goal, goal_names_layer, constraint_names_layer, named_in_constraint, named_in_domain, named_in_problem, placed, in_text_order, ordered_names}
+use Rattle.p3_tree.specs.declared.constraint.Constraint.{Constraint, Row_of-Constraint, end_of-Constraint, more_of-Constraint}
+use Rattle.p3_tree.specs.declared.constraint.Constraint.TheVariants as constraint
 use Rattle.p3_tree.specs.declared.goal.PreGoal.{PreGoal, Row_of-PreGoal, end_of-PreGoal, more_of-PreGoal}
 use Rattle.p3_tree.specs.declared.goal.PreGoal.TheVariants as goal
 use Rattle.p3_tree.specs.declared.term.Ref.{Ref}
 use Rattle.p3_tree.specs.declared.task.Action.{Action}
 use Rattle.p3_tree.specs.declared.task.Step.{Step}
 use Rattle.p3_tree.specs.declared.task.Task.{Task}
-use Rattle.p3_tree.proofs.OnceLemmas.{Some-injective, find_found, Has, in_append, in_left, in_right, in_flat, flat_has, map_at}
+use Rattle.p3_tree.proofs.OnceLemmas.{Some-injective, find_found, Has, in_append, in_left, in_right, in_flat, in_map, flat_has, map_at}
 
 -- some entry has the name
 abbrev HasNamed : List Named → Name → Type 0
@@ -80,6 +83,55 @@ module _ (T : Task) (name : Name) where
       by None e = λ i pref at same. absurd (cc)
       by (Some action) e = let (k, at, holds) = find_found (λ (other : Action). same_name other.name.name step.action) T.domain.actions action e in action_prefs_named action (k, at) (arguments action step)
 
+  -- ---- in constraints
+
+  -- where an instance of the list has the name, the entry has it
+  abbrev AreInstancesIn : List Instance → List Named → Type 0
+  AreInstancesIn list entries = (i : ℕ) (instance : Instance) → slice_get list i ≡ Some instance → instance.name ≡ Some name → HasNamed entries name
+
+  mutual
+    unfolding instances_of instances_of_all instances_of_one named_in_constraint
+
+    instances_named : (tree : Constraint) (env : Environment) → AreInstancesIn (instances_of T tree env) (named_in_constraint tree)
+    instances_named (constraint.Both' _ parts) env i instance at e = all_instances_named parts env i instance at e
+    instances_named (constraint.Each' variables _ body) env i instance at e =
+        let (k, inner, here, own) = in_flat (instances_of_one T body) (bind T env variables) i instance at in
+        one_instances_named body inner own.0 instance own.1 e
+    instances_named (constraint.Single modal) env i instance at e = absurd (cc)
+    instances_named (constraint.Soft' at own _ body) env zero instance here e =
+        named_left (named_at at own) (fold_one_constraint constraint_names_layer body) name
+        (soft_named at own (ap (λ (other : Instance). other.name) (Some-injective _ instance here) ∙ e))
+    instances_named (constraint.Soft' at own _ body) env (suc i) instance here e = absurd (cc)
+
+    all_instances_named : {n : Count} (row : Row_of-Constraint n) (env : Environment) → AreInstancesIn (instances_of_all T row env) (flat_map (λ part. part) (fold_constraints constraint_names_layer row))
+    all_instances_named end_of-Constraint env i instance at e = absurd (cc)
+    all_instances_named (more_of-Constraint part rest) env i instance at e =
+        ⊎_elim (λ found. named_left (named_in_constraint part) (flat_map (λ part. part) (fold_constraints constraint_names_layer rest)) name (instances_named part env found.0 instance found.1 e))
+        (λ found. named_right (named_in_constraint part) (flat_map (λ part. part) (fold_constraints constraint_names_layer rest)) name (all_instances_named rest env found.0 instance found.1 e))
+        (in_append (instances_of T part env) (instances_of_all T rest env) i instance at)
+
+    one_instances_named : {n : Count} (row : Row_of-Constraint (one_more n)) (env : Environment) → AreInstancesIn (instances_of_one T row env) (fold_one_constraint constraint_names_layer row)
+    one_instances_named (more_of-Constraint part rest) env i instance at e = instances_named part env i instance at e
+
+  goal_instances_named : AreInstancesIn (map at_end (prefs T [] T.problem.goal.body)) (named_in_goal T.problem.goal.body)
+  goal_instances_named i instance at e =
+      let (pref, here, is) = in_map at_end (prefs T [] T.problem.goal.body) i instance at in
+      prefs_named T.problem.goal.body [] i pref here (ap (λ (other : Instance). other.name) is ∙ e)
+
+  -- the name is in the domain, or in the problem
+  task_instances_named : (i : ℕ) (instance : Instance) → slice_get (instances T) i ≡ Some instance → instance.name ≡ Some name
+      → HasNamed (named_in_domain T.domain) name ⊎ HasNamed (named_in_problem T.problem) name
+  unfolding instances
+  task_instances_named i instance at e =
+      let own = instances_of T T.problem.constraints.body [] in
+      let goals = map at_end (prefs T [] T.problem.goal.body) in
+      ⊎_elim (λ found. inl (named_left (named_in_constraint T.domain.constraints.body) _ name (instances_named T.domain.constraints.body [] found.0 instance found.1 e)))
+      (λ found. inr
+      (⊎_elim (λ has. named_left (named_in_constraint T.problem.constraints.body) (named_in_goal T.problem.goal.body) name (instances_named T.problem.constraints.body [] has.0 instance has.1 e))
+      (λ has. named_right (named_in_constraint T.problem.constraints.body) (named_in_goal T.problem.goal.body) name (goal_instances_named has.0 instance has.1 e))
+      (in_append own goals found.0 instance found.1)))
+      (in_append (instances_of T T.domain.constraints.body []) (own ++ goals) i instance at)
+
 -- ---- in the order of the text
 
 placed_has : (entry : Named) (sorted : List Named) → Has (placed entry sorted) entry
@@ -136,11 +188,21 @@ once_has (first ∷ names) (suc k) name at = by (same_name name first) refl (onc
     by true same rest = (0, ap Some (sym ((bytes_eq-Decides name first).0 same)))
     by false apart rest = let found = filter_has (λ other. not (same_name other first)) (once_each names) rest.0 name rest.1 (ap not apart) in (suc found.0, found.1)
 
--- ---- the law
+-- ---- the laws
 
 pub step_name_is_ordered : (T : Task) (step : Step) (i : ℕ) (pref : StatePref) (name : Name) → slice_get (step_prefs T step) i ≡ Some pref → pref.name ≡ Some name → Has (ordered_names T) name
 unfolding ordered_names
 step_name_is_ordered T step i pref name at e =
     let found = text_order_has (named_in_domain T.domain) name (step_prefs_named T name step i pref at e) in
     let has = in_left (in_text_order (named_in_domain T.domain)) (in_text_order (named_in_problem T.problem)) found.0 name found.1 in
+    once_has _ has.0 name has.1
+
+pub instance_name_is_ordered : (T : Task) (i : ℕ) (instance : Instance) (name : Name) → slice_get (instances T) i ≡ Some instance → instance.name ≡ Some name → Has (ordered_names T) name
+unfolding ordered_names
+instance_name_is_ordered T i instance name at e =
+    let first = in_text_order (named_in_domain T.domain) in
+    let second = in_text_order (named_in_problem T.problem) in
+    let has = ⊎_elim (λ found. let here = text_order_has (named_in_domain T.domain) name found in in_left first second here.0 name here.1)
+        (λ found. in_right first second name (text_order_has (named_in_problem T.problem) name found))
+        (task_instances_named T name i instance at e) in
     once_has _ has.0 name has.1

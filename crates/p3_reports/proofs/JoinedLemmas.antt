@@ -1,6 +1,8 @@
 -- Texts of several things, one behind another: the things before a place, at it, and behind it.
-use Rattle.std.proofs.Common.{◌≡◌, ◌∙◌, ℕ, zero, suc, ◌<◌, List, [], ◌∷◌, ◌++◌, length, get_or, take, drop, sym, ap, append_assoc, arith}
+use Rattle.std.proofs.Common.{◌≡◌, ◌∙◌, ℕ, zero, suc, ◌+◌, add-one, ◌<◌, List, [], ◌∷◌, ◌++◌, length, get_or, take, drop, sym, ap, append_assoc, arith}
 use Rattle.std.specs.List.{flat_map, fold}
+use Rattle.std.proofs.Math.Seq.{take-suc}
+use Rattle.std.proofs.lemmas.Grind.{flat_map-append}
 use Rattle.std.proofs.lemmas.List.{append-nil}
 use Rattle.p3_reports.specs.Joined.{joined}
 
@@ -11,6 +13,16 @@ module _ {A : Type 0} (text : A → List ℕ) where
 
   pub joined-flat_map : (things : List A) → joined text things ≡ flat_map text things
   joined-flat_map things = fold_from [] things
+
+  -- the texts up to a place
+  pub up_to : (things : List A) (k : ℕ) (thing : A) → k < length things → thing ≡ get_or things k thing
+      → flat_map text (take (k + 1) things) ≡ flat_map text (take k things) ++ text thing
+  up_to things k thing low is =
+      ap (λ count. flat_map text (take count things)) (add-one k)
+      ∙ ap (flat_map text) (take-suc things k thing low)
+      ∙ flat_map-append text (take k things) (get_or things k thing ∷ [])
+      ∙ ap (λ more. flat_map text (take k things) ++ more) (append-nil (text (get_or things k thing)))
+      ∙ ap (λ one. flat_map text (take k things) ++ text one) (sym is)
 
   -- the texts before a place, at it, and behind it
   pub around : (things : List A) (k : ℕ) (thing : A) → k < length things → thing ≡ get_or things k thing

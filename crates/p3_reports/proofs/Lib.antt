@@ -1,3 +1,4 @@
+pub mod ExplainedLaws
 pub mod FaultLemmas
 pub mod FoundLaws
 pub mod JoinedLemmas

@@ -5,11 +5,15 @@ use Rattle.std.proofs.Math.Seq.{take-append-add}
 use Rattle.std.proofs.lemmas.List.{take_all, take_min, take-append-le}
 use Rattle.p3_base.specs.Outside.{IsPartlyPut, IsPut, with_put}
 use Rattle.p3_reports.specs.Joined.{joined}
-use Rattle.p3_reports.proofs.JoinedLemmas.{around, joined-flat_map}
+use Rattle.p3_reports.proofs.JoinedLemmas.{around, joined-flat_map, up_to}
 
 with_put-with_put : (xs ys : List ℕ) (told : Option (List ℕ)) → with_put ys (with_put xs told) ≡ with_put (xs ++ ys) told
 with_put-with_put xs ys None = refl
 with_put-with_put xs ys (Some written) = ap Some (append_assoc written xs ys)
+
+-- bytes, and then more
+pub both_put : (xs ys : List ℕ) (old mid new : Option (List ℕ)) → IsPut xs old mid → IsPut ys mid new → IsPut (xs ++ ys) old new
+both_put xs ys old mid new first second = second ∙ ap (with_put ys) first ∙ with_put-with_put xs ys old
 
 -- a first part of the bytes is a first part of more
 pub partly_first : (xs ys : List ℕ) (old new : Option (List ℕ)) → IsPartlyPut xs old new → IsPartlyPut (xs ++ ys) old new
@@ -33,6 +37,13 @@ module _ {A : Type 0} (text : A → List ℕ) (things : List A) where
   -- the texts of all things are put
   pub all_put : (k : ℕ) (old new : Option (List ℕ)) → length things ≤ k → IsPut (flat_map text (take k things)) old new → IsPut (flat_map text things) old new
   all_put k old new past is = is ∙ ap (λ some. with_put (flat_map text some) old) (take_all k things past)
+
+  -- the text at a place is put behind those of the things before it
+  pub one_more_put : (k : ℕ) (thing : A) (old mid new : Option (List ℕ)) → k < length things → thing ≡ get_or things k thing
+      → IsPut (flat_map text (take k things)) old mid → IsPut (text thing) mid new → IsPut (flat_map text (take (k + 1) things)) old new
+  one_more_put k thing old mid new low is before at =
+      both_put (flat_map text (take k things)) (text thing) old mid new before at
+      ∙ ap (λ whole. with_put whole old) (sym (up_to text things k thing low is))
 
   -- the texts of the things before a place are put, and a first part of the text at it
   pub partly_put : (k : ℕ) (thing : A) (old mid new : Option (List ℕ)) → k < length things → thing ≡ get_or things k thing

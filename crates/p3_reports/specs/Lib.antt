@@ -1,3 +1,4 @@
+pub mod Explained
 pub mod Faults
 pub mod Found
 pub mod Joined

@@ -4,6 +4,7 @@ use Rattle.std.specs.Fmt.{decimal, signed_decimal}
 use Rattle.p3_tree.specs.Reports.Lines.{entry, line}
 use Rattle.p3_tree.specs.Reports.Plans.{steps_line}
 use Rattle.p3_tree.specs.Reports.Tasks.{direction_name, scale_line}
+use Rattle.p3_reports.specs.Explained.{explain_text}
 use Rattle.p3_reports.specs.Parts.{counts_text, quantity_text}
 use Rattle.p3_reports.specs.declared.report.CompileReport.{CompileReport}
 use Rattle.p3_reports.specs.declared.report.EmbedReport.{EmbedReport}
@@ -56,3 +57,4 @@ report_text (report.Embed found) = embed_text found
 report_text (report.Evaluate found) = evaluate_text found
 report_text (report.Lift found) = lift_text found
 report_text (report.Generate found) = generate_text found
+report_text (report.Explain found) = explain_text found

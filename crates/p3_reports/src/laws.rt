@@ -3,6 +3,7 @@
 ghost use Rattle.std.specs.Prelude.{◌≡◌, ℕ, ℤ};
 ghost use Rattle.p3_tree.specs.Plans.{Plan};
 ghost use Rattle.p3_tree.specs.Validity.{Fault};
+ghost use Rattle.p3_tree.specs.Reports.Explanations.{explained_lines};
 ghost use Rattle.p3_tree.specs.Reports.Plans.{
   embedded_lines,
   evaluated_lines,
@@ -11,6 +12,7 @@ ghost use Rattle.p3_tree.specs.Reports.Plans.{
 };
 ghost use Rattle.p3_tree.specs.Reports.Tasks.{compiled_lines};
 ghost use Rattle.p3_tree.specs.declared.task.Task.{Task};
+ghost use Rattle.p3_reports.specs.Explained.{IsExplainReport, explain_text};
 ghost use Rattle.p3_reports.specs.Faults.{fault_named, fault_of};
 ghost use Rattle.p3_reports.specs.Found.{
   IsCompileReport,
@@ -26,6 +28,7 @@ ghost use Rattle.p3_reports.specs.Reports.{
   generate_text,
   lift_text,
 };
+ghost use Rattle.p3_reports.specs.declared.explanation.ExplainReport.{ExplainReport};
 ghost use Rattle.p3_reports.specs.declared.report.CompileReport.{CompileReport};
 ghost use Rattle.p3_reports.specs.declared.report.EmbedReport.{EmbedReport};
 ghost use Rattle.p3_reports.specs.declared.report.EvaluateReport.{EvaluateReport};
@@ -45,6 +48,8 @@ pub fn reports_are_lines()
     ensures generate { (T : Task) (plan : Plan) (len : ℕ) (cost : ℤ) (report : GenerateReport)
         → IsGenerateReport T plan len cost report
         → generate_text report ≡ generated_lines T plan len cost }
+    ensures explain { (T : Task) (plan : Plan) (report : ExplainReport)
+        → IsExplainReport T plan report → explain_text report ≡ explained_lines T plan }
 {}
 
 /// The fault that the code names for one of the definitions is that one.

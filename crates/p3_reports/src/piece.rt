@@ -1,6 +1,7 @@
 //! Pieces of lines, and how they are put one behind another.
 
-ghost use Rattle.std.specs.Prelude.{◌≡◌, ◌≤◌, OnErr, OnOk};
+ghost use Rattle.std.specs.Prelude.{◌≡◌, ◌≤◌, ◌++◌, OnErr, OnOk};
+ghost use Rattle.p3_tree.specs.Reports.Lines.{line};
 ghost use Rattle.p3_tree.specs.Reports.Quantities.{shown_quantity};
 ghost use Rattle.p3_base.specs.Outside.{IsPartlyPut, IsPut, Rose};
 ghost use Rattle.p3_reports.specs.Pieces.{piece_text, pieces_text};
@@ -53,6 +54,47 @@ pub fn put_pieces<S: Sink>(pieces: &[Piece<'_>], out: &mut S) -> Result<(), Sink
         Ok(()) => out.put(line.bytes()),
         Err(SinkFailed) => put_each(pieces, out),
     }
+}
+
+/// Puts a line of two parts, each of some pieces. Where it has no more bytes than most lines, it is
+/// put at once.
+pub fn put_line<S: Sink>(
+    first: &[Piece<'_>],
+    second: &[Piece<'_>],
+    out: &mut S,
+) -> Result<(), SinkFailed>
+    ensures ok { OnOk result (IsPut (line (pieces_text first.now ++ pieces_text second.now))
+        (S.seen out.old).written (S.seen out.new).written) }
+    ensures partly { OnErr result
+        (IsPartlyPut (line (pieces_text first.now ++ pieces_text second.now))
+        (S.seen out.old).written (S.seen out.new).written) }
+    ensures failed { OnErr result (Rose (S.seen out.old).faults (S.seen out.new).faults) }
+    ensures faults_grow { (S.seen out.old).faults ≤ (S.seen out.new).faults }
+{
+    let mut line = StackSink::<LINE_ROOM>::new();
+    match put_both(first, second, &mut line) {
+        Ok(()) => out.put(line.bytes()),
+        Err(SinkFailed) => put_both(first, second, out),
+    }
+}
+
+/// Puts a line of two parts, each piece by itself.
+fn put_both<S: Sink>(
+    first: &[Piece<'_>],
+    second: &[Piece<'_>],
+    out: &mut S,
+) -> Result<(), SinkFailed>
+    ensures ok { OnOk result (IsPut (line (pieces_text first.now ++ pieces_text second.now))
+        (S.seen out.old).written (S.seen out.new).written) }
+    ensures partly { OnErr result
+        (IsPartlyPut (line (pieces_text first.now ++ pieces_text second.now))
+        (S.seen out.old).written (S.seen out.new).written) }
+    ensures failed { OnErr result (Rose (S.seen out.old).faults (S.seen out.new).faults) }
+    ensures faults_grow { (S.seen out.old).faults ≤ (S.seen out.new).faults }
+{
+    put_each(first, out)?;
+    put_each(second, out)?;
+    put_text("\n", out)
 }
 
 /// Puts pieces, each by itself.

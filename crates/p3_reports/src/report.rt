@@ -11,6 +11,7 @@ ghost use Rattle.p3_reports.specs.Reports.{
   report_text,
 };
 
+use crate::explanation::{ExplainReport, put_explain_report};
 use crate::part::{NameCount, Part, put_parts};
 use crate::quantity::Quantity;
 use p3_base::{Direction, List, Sink, SinkFailed};
@@ -93,6 +94,8 @@ pub enum Report {
     Lift(LiftReport),
     /// `generate` is done.
     Generate(GenerateReport),
+    /// `explain` is done.
+    Explain(ExplainReport),
 }
 
 /// Puts a report.
@@ -110,6 +113,7 @@ pub fn put_report<S: Sink>(report: &Report, out: &mut S) -> Result<(), SinkFaile
         Report::Evaluate(report) => put_evaluate_report(report, out),
         Report::Lift(report) => put_lift_report(report, out),
         Report::Generate(report) => put_generate_report(report, out),
+        Report::Explain(report) => put_explain_report(report, out),
     }
 }
 

@@ -8,7 +8,7 @@ ghost use Rattle.p3_run.specs.Steps.{IsByNumber, numbered_step};
 use p3_formula::GroundStep;
 
 /// The step of the number, found by halving, where it is kept.
-pub(crate) fn step_at(steps: &[GroundStep], number: u32) -> Option<&GroundStep>
+pub fn step_at(steps: &[GroundStep], number: u32) -> Option<&GroundStep>
     requires { IsByNumber steps.now }
     ensures { option_copied result ≡ numbered_step steps.now number }
 {

@@ -13,4 +13,7 @@ mod stages;
 mod tallies;
 
 pub use answers::{Stepped, Verdict};
+pub use finding::step_at;
+pub use modals::{group_count, modal_at, modals_at};
+pub use readers::{Reader, readers_of};
 pub use running::GroundRun;

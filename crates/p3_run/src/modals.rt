@@ -8,7 +8,7 @@ use crate::readers::Reader;
 use p3_formula::{GroundModal, GroundTask};
 
 /// How many groups there are.
-pub(crate) fn group_count(task: &GroundTask) -> usize
+pub fn group_count(task: &GroundTask) -> usize
     requires { length task.now.soft ≤ 100000 }
     ensures { result ≡ length (watched.modals_of task.now) }
 {
@@ -16,7 +16,7 @@ pub(crate) fn group_count(task: &GroundTask) -> usize
 }
 
 /// The operators of a group.
-pub(crate) fn modals_at(task: &GroundTask, group: usize) -> &[GroundModal]
+pub fn modals_at(task: &GroundTask, group: usize) -> &[GroundModal]
     requires { group < length (watched.modals_of task.now) }
     ensures { result.now ≡ watched.modals_at task.now group }
 {
@@ -28,7 +28,7 @@ pub(crate) fn modals_at(task: &GroundTask, group: usize) -> &[GroundModal]
 }
 
 /// The operator that reads.
-pub(crate) fn modal_at(task: &GroundTask, reader: Reader) -> &GroundModal
+pub fn modal_at(task: &GroundTask, reader: Reader) -> &GroundModal
     requires { watched.IsReader task.now reader }
     ensures { result.now ≡ watched.modal_at task.now reader }
 {

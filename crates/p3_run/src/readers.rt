@@ -14,11 +14,11 @@ use std::alloc::Global;
 
 /// The operator at a place of a group reads an atom.
 #[derive(Clone, Copy, Debug, Drop)]
-pub(crate) struct Reader {
+pub struct Reader {
     /// The group.
-    pub(crate) group: usize,
+    pub group: usize,
     /// The place.
-    pub(crate) place: usize,
+    pub place: usize,
 }
 
 /// Whether the operator is the last of those.
@@ -130,8 +130,12 @@ fn no_readers(alloc: Global, count: usize) -> Result<Vec<List<Reader>>, NoMemory
     Ok(readers)
 }
 
-/// For each atom the operators that read it.
-pub(crate) fn readers_of(alloc: Global, task: &GroundTask) -> Result<Vec<List<Reader>>, NoMemory>
+/// Files the operators by the atoms that they read: for each atom those that read it.
+///
+/// # Errors
+///
+/// Want of memory.
+pub fn readers_of(alloc: Global, task: &GroundTask) -> Result<Vec<List<Reader>>, NoMemory>
     requires below { HasAtomsBelow task.now }
     requires few { length task.now.soft ≤ 100000 }
     ensures { IfOk result (λ readers. AreReaders task.now readers.items) }

@@ -2,13 +2,13 @@ use Rattle.std.proofs.Common.{◌≡◌, ◌∙◌, ℕ, List, length, map, refl
 use Rattle.std.proofs.lemmas.List.{length-map}
 use Rattle.p3_tree.specs.Commands.{row}
 use Rattle.p3_tree.specs.declared.command.CommandKind.{CommandKind}
-use Rattle.p3_tree.specs.declared.command.CommandKind.TheVariants.{Compile, Embed, Evaluate, Generate, Lift}
+use Rattle.p3_tree.specs.declared.command.CommandKind.TheVariants.{Compile, CompileFlat, Embed, Evaluate, Explain, Generate, Lift}
 use Rattle.p3_reports.specs.Reports.{report_text}
 use Rattle.p3_cli.specs.Asked.{asked_command}
 use Rattle.p3_cli.specs.Product.{AcceptsBy}
 use Rattle.p3_cli.specs.Refusing.{all_texts}
 use Rattle.p3_cli.specs.Store.{AreWithin, nameless}
-use Rattle.p3_cli.proofs.ProductLemmas.{compile_accepts, embed_accepts, evaluate_accepts, generate_accepts, lift_accepts, nothing_read, within_kind}
+use Rattle.p3_cli.proofs.ProductLemmas.{compile_accepts, embed_accepts, evaluate_accepts, explain_accepts, flat_accepts, generate_accepts, lift_accepts, nothing_read, within_kind}
 use Rattle.p3_cli.proofs.product.product_of.Goals as goal
 
 -- what is accepted of a kind of command, of a request of that kind
@@ -56,10 +56,24 @@ pub returns-in_ok-product-in-Generate-clause-accepted : goal.returns-in_ok-produ
 returns-in_ok-product-in-Generate-clause-accepted c =
     let made = c.in_ok-sample-in-Generate in
     let number = c.args.request.now.number in
-    let none = nothing_read _ (within_kind Generate (asked_command c.args.request.now) _ c.in-Generate.is c.args.request.now.all_reads c.requires) in
+    let none = nothing_read _ (within_kind Generate (asked_command c.args.request.now) _ c.in-Generate.is c.args.request.now.all_reads c.requires.within) in
     of_kind Generate c.args.request.now.kind number _ c.in-Generate.is
     (subst (AcceptsBy Generate number) none (generate_accepts number made.field-0.sample.domain made.field-0.sample.problem made.field-0.sample.plan (report_text made.field-0.report) made.ensures.means))
 
 pub returns-in_ok-product-in-Generate-clause-many : goal.returns-in_ok-product-in-Generate-clause-many
 returns-in_ok-product-in-Generate-clause-many c =
     as_many _ (λ text. text.items) _ Generate c.args.request.now.kind c.args.request.now.writes.now c.in_ok-product-in-Generate.ensures.texts c.in-Generate.is c.args.request.now.all_writes refl
+
+pub returns-in_ok-product-in-CompileFlat-clause-accepted : goal.returns-in_ok-product-in-CompileFlat-clause-accepted
+returns-in_ok-product-in-CompileFlat-clause-accepted c =
+    let texts = all_texts c.texts_of_task-in-CompileFlat.result in
+    let made = c.in_ok-flat_translate-in-CompileFlat in
+    of_kind CompileFlat c.args.request.now.kind c.args.request.now.number _ c.in-CompileFlat.is
+    (flat_accepts c.args.request.now.number _ texts c.texts_of_task-in-CompileFlat.ensures.read made.field-0.domain.items made.field-0.problem.items (report_text made.field-0.report) made.ensures.means)
+
+pub returns-in_ok-explain-in-Explain-clause-accepted : goal.returns-in_ok-explain-in-Explain-clause-accepted
+returns-in_ok-explain-in-Explain-clause-accepted c =
+    let texts = all_texts c.texts_of_plan-in-Explain.result in
+    let made = c.in_ok-explain-in-Explain in
+    of_kind Explain c.args.request.now.kind c.args.request.now.number _ c.in-Explain.is
+    (explain_accepts _ texts c.texts_of_plan-in-Explain.ensures.read c.args.request.now.number (report_text made.field-0) made.ensures.report)

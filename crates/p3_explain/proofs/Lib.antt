@@ -1,0 +1,4 @@
+pub mod WalkLaws
+pub mod StandsLaws
+pub mod FaultLaws
+pub mod ExplainLaws

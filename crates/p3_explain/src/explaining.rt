@@ -1,0 +1,111 @@
+//! Why a plan satisfies its constraints and preferences, or does not.
+
+ghost use Rattle.std.specs.Prelude.{◌≡◌, ◌+◌, ◌≤◌, ◌++◌, None, length, option_map, IfErr, IfOk, IsTrue, OnOk};
+ghost use Rattle.p3_tree.specs.Explanations.{reasons};
+ghost use Rattle.p3_tree.specs.PlanTexts.{step_limit};
+ghost use Rattle.p3_tree.specs.Plans.{steps_fit};
+ghost use Rattle.p3_tree.specs.Validity.{first_fault, step_fault};
+ghost use Rattle.p3_run.specs.Runs.{most_steps};
+ghost use Rattle.p3_marks.specs.Marked.{shown_all};
+ghost use Rattle.p3_eval.specs.Judged.{fault_in};
+ghost use Rattle.p3_eval.specs.Runs.{OfItsPlan};
+ghost use Rattle.p3_explain.specs.Explaining.{IsExplainFail};
+ghost use Rattle.p3_explain.specs.Walked.{IsMarked};
+
+use crate::ExplainFail;
+use crate::walking::walk;
+use p3_base::{List, NoMemory, Reason};
+use p3_eval::{PlanFault, Run, Whole};
+use p3_formula::GroundTask;
+use p3_marks::Marks;
+use p3_tree::Plan;
+use std::alloc::Global;
+
+/// What is told of a plan whose steps fit.
+#[derive(Debug, Drop)]
+pub struct Explanation {
+    /// The first fault of the plan, if it has one: it is valid where it has none.
+    pub fault: Option<PlanFault>,
+    /// The states that show why its constraints and preferences are satisfied or not.
+    pub reasons: List<Reason>,
+}
+
+/// Explains a plan whose steps fit: for each hard constraint, for each operator of the preference
+/// instances, and for each false precondition preference of a step, the states that show it.
+///
+/// # Errors
+///
+/// The first step that does not fit. And want of memory.
+pub fn explain(alloc: Global, whole: &Whole, plan: &Plan) -> Result<List<Reason>, ExplainFail>
+    requires few { length plan.now ≤ step_limit }
+    ensures reasons { IfOk result (λ found. found ≡ reasons whole.now.checked.task plan.now) }
+    ensures fits { OnOk result (step_fault whole.now.checked.task plan.now ≡ None) }
+    ensures fail { IfErr result (IsExplainFail whole.now.checked.task plan.now) }
+{
+    match explained(alloc, whole, plan) {
+        Ok(Explanation { fault: _, reasons }) => Ok(reasons),
+        Err(fail) => Err(fail),
+    }
+}
+
+/// Explains a plan whose steps fit, and judges it in the same run. A step costs about what it costs
+/// to judge it, and what the operators that read its changes cost.
+///
+/// # Errors
+///
+/// The first step that does not fit. And want of memory.
+pub fn explained(alloc: Global, whole: &Whole, plan: &Plan) -> Result<Explanation, ExplainFail>
+    requires few { length plan.now ≤ step_limit }
+    ensures reasons { IfOk result
+        (λ found. found.reasons ≡ reasons whole.now.checked.task plan.now) }
+    ensures fault { IfOk result (λ found. first_fault whole.now.checked.task plan.now
+        ≡ option_map fault_in found.fault) }
+    ensures fit { OnOk result (IsTrue (steps_fit whole.now.checked.task plan.now)) }
+    ensures fits { OnOk result (step_fault whole.now.checked.task plan.now ≡ None) }
+    ensures fail { IfErr result (IsExplainFail whole.now.checked.task plan.now) }
+{
+    let task = whole.ground_task();
+    let steps = plan.items();
+    let mut run = whole.begin(alloc)?;
+    let mut marks = Marks::open(alloc, task)?;
+    let mut prefs = List::new(alloc);
+    match walk(&mut run, &mut marks, &mut prefs, task, whole.checked(), steps) {
+        Ok(()) => {
+            let reasons = gathered(alloc, &run, &marks, &prefs, task)?;
+            let fault = run.judge();
+            Ok(Explanation { fault, reasons })
+        }
+        Err(fail) => Err(fail),
+    }
+}
+
+/// The reasons that the marks of a run show, and behind them those of the false preferences.
+fn gathered(
+    alloc: Global,
+    run: &Run<'_>,
+    marks: &Marks,
+    prefs: &List<Reason>,
+    task: &GroundTask,
+) -> Result<List<Reason>, NoMemory>
+    requires task { task.now ≡ run.now.task }
+    requires few { length run.now.plan ≤ most_steps }
+    requires marked { IsMarked run.now marks.now prefs.now }
+    ensures found { IfOk result (λ found. found ≡ shown_all run.now.task
+        (length run.now.plan + 1) marks.now.groups ++ prefs.now) }
+    ensures fit { OfItsPlan run.now (λ T plan. IsTrue (steps_fit T plan)) }
+{
+    let count = run.steps() + 1;
+    let mut reasons = marks.reasons(alloc, task, count)?;
+    append(&mut reasons, prefs.items())?;
+    Ok(reasons)
+}
+
+/// Puts more reasons behind the others.
+fn append(reasons: &mut List<Reason>, more: &[Reason]) -> Result<(), NoMemory>
+    ensures { OnOk result (reasons.new ≡ reasons.old ++ more.now) }
+{
+    for reason in more {
+        reasons.push(*reason)?;
+    }
+    Ok(())
+}

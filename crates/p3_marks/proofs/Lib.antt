@@ -1,0 +1,5 @@
+pub mod PlaceLaws
+pub mod MarkLaws
+pub mod ShownLaws
+pub mod FollowLaws
+pub mod ReasonLaws
