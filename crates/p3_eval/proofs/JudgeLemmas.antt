@@ -19,12 +19,12 @@ use Rattle.p3_types.specs.Finds.{IsFound}
 use Rattle.p3_types.specs.declared.finding.Found.TheVariants as found
 use Rattle.p3_types.specs.declared.finding.Found.{Found}
 use Rattle.p3_ground.specs.PlansByNumber.{AreNumbers}
-use Rattle.p3_run.specs.Runs.{Ran, most_steps}
+use Rattle.p3_run.specs.Runs.{Ran, most_steps, ran_after}
 use Rattle.p3_eval.specs.Judged.{TellsOf, TellsOfFound, fault_in, ran_with}
 use Rattle.p3_eval.specs.Runs.{BelongTogether, OfItsPlan}
 use Rattle.p3_eval.specs.declared.fault.PlanFault.{PlanFault}
 use Rattle.p3_eval.proofs.JudgeLaws.{other_arguments, unknown}
-use Rattle.p3_eval.specs.Judging.{Follows, Goes, GoesOn, HasDone, HasStep, IsFirstFault}
+use Rattle.p3_eval.specs.Judging.{Follows, Goes, GoesOn, HasDone, HasStep, IsFirstFault, IsFollowed}
 
 -- ---- a step
 

@@ -1,5 +1,5 @@
 -- What each run keeps, and what its answers say of the tasks that it is of.
-use Rattle.std.proofs.Common.{◌≡◌, ◌∙◌, ℕ, suc, ◌-◌, ◌^◌, ◌<◌, refl, sym, ap, Bool, true, false, not, ◌&&◌, List, [], ◌∷◌, ◌++◌, length, arith, Option, Some, None, pos}
+use Rattle.std.proofs.Common.{◌≡◌, ◌∙◌, ℕ, suc, ◌+◌, ◌-◌, ◌^◌, ◌<◌, refl, sym, ap, Bool, true, false, not, ◌&&◌, List, [], ◌∷◌, ◌++◌, length, arith, Option, Some, None, pos}
 use Rattle.std.specs.Prelude.{ℤ, IfSome, is_some, slice_get, slice_index_or, zip, if◌then◌else◌}
 use Rattle.std.specs.List.{list_all}
 use Rattle.std.proofs.Props.{props}

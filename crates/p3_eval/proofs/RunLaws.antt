@@ -11,6 +11,7 @@ use Rattle.p3_base.specs.declared.refusal.Direction.TheVariants.{Minimize, Maxim
 use Rattle.p3_tree.specs.States as named
 use Rattle.p3_tree.specs.States.{start}
 use Rattle.p3_tree.specs.Goals.{hard_holds}
+use Rattle.p3_tree.specs.Costs.{initial_cost}
 use Rattle.p3_tree.specs.Metrics.{cost, direction, loss, loss_at, metric_quantity, signed, value, violated}
 use Rattle.p3_tree.specs.Plans.{Plan, arguments, action_named, cost_by, fits, fits_by, last_state, moves_from, state_after, step_cost, steps_fit, visited}
 use Rattle.p3_tree.specs.Constraints.{hard_list}

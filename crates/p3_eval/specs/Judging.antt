@@ -1,5 +1,6 @@
 -- What judging the text of a plan answers: its first fault, or that it is valid.
 use Rattle.std.specs.Prelude.{◌≡◌, ℕ, ◌≤◌, List, [], ◌∷◌, ◌++◌, Option, Some, None, option_map}
+use Rattle.p3_base.specs.declared.refusal.Refusal.{Refusal}
 use Rattle.p3_tree.specs.Limits.{step_count}
 use Rattle.p3_tree.specs.Plans.{Plan}
 use Rattle.p3_tree.specs.PlanTexts.{IsPlanText, plan_offence}

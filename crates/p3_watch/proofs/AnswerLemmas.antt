@@ -24,7 +24,7 @@ use Rattle.p3_eval.specs.Judged.{NamesMisfitOfFound, TellsOfFound, fault_in, ran
 use Rattle.p3_eval.specs.Judging.{HasStep, IsRunOf}
 use Rattle.p3_eval.specs.Runs.{BelongTogether, OfRun}
 use Rattle.p3_eval.specs.declared.fault.PlanFault.{PlanFault}
-use Rattle.p3_eval.proofs.JudgeLemmas.{goes_on, numbers_more}
+use Rattle.p3_eval.proofs.JudgeLemmas.{goes_on}
 use Rattle.p3_watch.specs.Watching.{Answers, IsAnswered, IsTried, IsWithin}
 use Rattle.p3_watch.specs.declared.watch.Line.{Line}
 use Rattle.p3_watch.specs.declared.watch.Line.TheVariants as line
@@ -100,6 +100,13 @@ module _ (bytes : List ℕ) (slice : PlanStep) where
   step_short is = short_by (line_text bytes) is
 
 -- ---- steps
+
+-- one step more, with its number
+numbers_more : (T : Task) (plan : Plan) (numbers : List ℕ) (own : Step) (number : ℕ) → AreNumbers T plan numbers → HasNumber T own number → AreNumbers T (plan ++ own ∷ []) (numbers ++ number ∷ [])
+numbers_more T [] [] own number are has = (has, tt)
+numbers_more T [] (n ∷ numbers) own number are has = absurd are
+numbers_more T (first ∷ plan) [] own number are has = absurd are
+numbers_more T (first ∷ plan) (n ∷ numbers) own number are has = (are.0, numbers_more T plan numbers own number are.1 has)
 
 module _ (T : Task) (at : ℕ) (own : Step) (old : Ran) where
   long : (plan : Plan) → AreNumbers T plan old.plan → length plan ≡ length old.plan

@@ -18,14 +18,8 @@ use Rattle.p3_reports.specs.Found.{IsMetric, IsQuantity}
 use Rattle.p3_reports.specs.Parts.{quantity_text}
 use Rattle.p3_reports.specs.declared.quantity.Quantity.{Quantity}
 use Rattle.p3_reports.proofs.FoundLaws.{quantity_is}
-use Rattle.p3_reports.proofs.PutLemmas.{partly_first, partly_second}
+use Rattle.p3_reports.proofs.PutLemmas.{both_put, partly_first, partly_second}
 use Rattle.p3_watch.specs.Violations.{violated_entry, violated_lines}
-
--- ---- puts one after another
-
-pub then_put : (xs ys : List ℕ) (old mid new : Option (List ℕ)) → IsPut xs old mid → IsPut ys mid new → IsPut (xs ++ ys) old new
-then_put xs ys None mid new first second = second ∙ ap (with_put ys) first
-then_put xs ys (Some written) mid new first second = second ∙ ap (with_put ys) first ∙ ap Some (append_assoc written xs ys)
 
 -- ---- the names
 
@@ -52,7 +46,7 @@ module _ (text : Name → List ℕ) where
       → IsPut (flat_map text (take k names)) old mid → IsPut (text name) mid new → IsPut (flat_map text (take (k + 1) names)) old new
   put_at names k name old mid new is before now =
       subst (λ whole. IsPut whole old new) (sym (ap (λ n. flat_map text (take n names)) (add-one k) ∙ taken_more names k name is))
-      (then_put (flat_map text (take k names)) (text name) old mid new before now)
+      (both_put (flat_map text (take k names)) (text name) old mid new before now)
 
 -- ---- all lines
 
@@ -80,7 +74,7 @@ module _ (T : Task) (plan : Plan) (steps : ℕ) (paid worth : Quantity) (long : 
 
       module _ (late : Option (List ℕ)) (names : IsPut (violated_lines T plan) mid late) where
         both : IsPut (before_names steps paid ++ violated_lines T plan) old late
-        both = then_put (before_names steps paid) (violated_lines T plan) old mid late first names
+        both = both_put (before_names steps paid) (violated_lines T plan) old mid late first names
 
         pub metric_partly : (new : Option (List ℕ)) → IsPartlyPut (entry (codes "metric") (quantity_text worth)) late new → IsPartlyPut (evaluated_lines T plan) old new
         metric_partly new partly =
@@ -90,4 +84,4 @@ module _ (T : Task) (plan : Plan) (steps : ℕ) (paid worth : Quantity) (long : 
         pub all_put : (new : Option (List ℕ)) → IsPut (entry (codes "metric") (quantity_text worth)) late new → IsPut (evaluated_lines T plan) old new
         all_put new last =
             subst (λ whole. IsPut whole old new) lines_are
-            (then_put (before_names steps paid ++ violated_lines T plan) (entry (codes "metric") (quantity_text worth)) old late new both last)
+            (both_put (before_names steps paid ++ violated_lines T plan) (entry (codes "metric") (quantity_text worth)) old late new both last)

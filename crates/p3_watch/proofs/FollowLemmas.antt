@@ -8,14 +8,13 @@ use Rattle.p3_tree.specs.Reports.Watching.{block, blocks, watch_lines}
 use Rattle.p3_tree.specs.Watching.{Piece, answer_to, lines_from, taken_after}
 use Rattle.p3_tree.specs.declared.task.Task.{Task}
 use Rattle.p3_ground.specs.PlansByNumber.{AreNumbers}
-use Rattle.p3_reports.proofs.PutLemmas.{partly_first, partly_second}
+use Rattle.p3_reports.proofs.PutLemmas.{both_put, partly_first, partly_second}
 use Rattle.p3_run.specs.Runs.{Ran}
 use Rattle.p3_watch.specs.Following.{IsFollowed}
 use Rattle.p3_watch.specs.Lines.{line_at, line_len}
 use Rattle.p3_watch.specs.Watching.{IsAnswered, OfAnswer}
 use Rattle.p3_watch.specs.declared.watch.Line.{Line}
 use Rattle.p3_watch.proofs.BlockLemmas.{none_put}
-use Rattle.p3_watch.proofs.EvaluatedLemmas.{then_put}
 use Rattle.p3_watch.proofs.LineLemmas.{line_ahead}
 
 -- the lines behind one of so many bytes
@@ -91,6 +90,6 @@ module _ (T : Task) (text : List ℕ) (old : Option (List ℕ)) where
             plan = taken_after follows.plan answer;
             numbers = answers.done;
             bytes = follows.bytes ++ own;
-            put = then_put follows.bytes own old mid late follows.put (put follows.plan answer answers);
+            put = both_put follows.bytes own old mid late follows.put (put follows.plan answer answers);
             all = ap (λ rest. follows.bytes ++ own ++ blocks T text (taken_after follows.plan answer) rest) (lines_same text at (line_len (drop at text)) next is) ∙ whole;
           }

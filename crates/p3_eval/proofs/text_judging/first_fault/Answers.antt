@@ -1,7 +1,8 @@
-use Rattle.std.proofs.Common.{◌∙◌, ap, sym, subst}
-use Rattle.p3_plans.specs.Steps.{Left, left}
+use Rattle.std.proofs.Common.{◌≡◌, ◌∙◌, ◌+◌, ◌<◌, ap, sym, refl, subst, length, arith, None, Some}
+use Rattle.p3_plans.specs.Steps.{Left, StepText, left}
 use Rattle.p3_eval.specs.Judging.{Follows}
-use Rattle.p3_eval.proofs.JudgeLemmas.{fault_behind, fault_here, follows_first, follows_more, has_done, has_room, has_step, not_refused}
+use Rattle.p3_run.specs.Runs.{most_steps}
+use Rattle.p3_eval.proofs.JudgeLemmas.{fault_behind, fault_here, follows_first, follows_more, has_done, has_room, has_step, in_front, not_refused}
 use Rattle.p3_eval.proofs.text_judging.first_fault.Goals as goal
 
 pub loop-slice-init : goal.loop-slice-init
