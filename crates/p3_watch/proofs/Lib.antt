@@ -1,0 +1,7 @@
+pub mod AnswerLemmas
+pub mod BlockLemmas
+pub mod EvaluatedLemmas
+pub mod FollowLemmas
+pub mod LineLemmas
+pub mod OffsetLemmas
+pub mod PlaceLemmas

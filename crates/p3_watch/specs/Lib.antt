@@ -1,3 +1,4 @@
+pub mod Following
 pub mod Lines
 pub mod Violations
 pub mod Watching

@@ -1,6 +1,7 @@
 //! The lines of a text, one after another, and where they stand.
 
-ghost use Rattle.std.specs.Prelude.{◌≡◌, ◌+◌, ◌<◌, ◌≤◌, ◌↔◌, IsTrue, drop, length};
+ghost use Rattle.std.specs.Prelude.{◌≡◌, ◌+◌, ◌<◌, ◌≤◌, ◌↔◌, IsTrue, drop, length, min, position};
+ghost use Rattle.p3_base.specs.Place.{is_line_feed};
 ghost use Rattle.p3_tree.specs.Sides.{plan_byte_limit};
 ghost use Rattle.p3_watch.specs.Lines.{IsStart, line_at, line_len};
 
@@ -32,7 +33,8 @@ impl Start {
     /// Gives the line that begins there, without its line feed.
     pub(crate) fn line(self, text: &[u8]) -> &[u8]
         requires { self.offset ≤ length text.now }
-        ensures { result.now ≡ line_at text.now self.offset }
+        ensures line { result.now ≡ line_at text.now self.offset }
+        ensures len { length result.now ≡ line_len (drop self.offset text.now) }
     {
         let rest = &text[self.offset as usize..];
         &rest[..before_line_feed(rest)]
@@ -45,7 +47,7 @@ impl Start {
         requires short { length text.now ≤ plan_byte_limit }
         requires len { len ≡ line_len (drop self.offset text.now) }
         ensures start { IsStart text.now result }
-        ensures offset { drop result.offset text.now ≡ drop (self.offset + len + 1) text.now }
+        ensures offset { result.offset ≡ min (length text.now) (self.offset + len + 1) }
     {
         let end = text.len().min(self.offset as usize + len + 1);
         Start {
@@ -59,8 +61,15 @@ impl Start {
 fn before_line_feed(bytes: &[u8]) -> usize
     ensures { result ≡ line_len bytes.now }
 {
-    match bytes.iter().position(|byte| *byte == b'\n') {
+    match first_line_feed(bytes) {
         Some(place) => place,
         None => bytes.len(),
     }
+}
+
+/// Finds the first line feed.
+fn first_line_feed(bytes: &[u8]) -> Option<usize>
+    ensures { result ≡ position is_line_feed bytes.now }
+{
+    bytes.iter().position(|byte| *byte == b'\n')
 }

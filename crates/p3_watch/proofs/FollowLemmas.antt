@@ -1,0 +1,95 @@
+-- The loop over the lines of a text: the blocks that are put and those that are left make up all.
+use Rattle.std.proofs.Common.{◌≡◌, ◌∙◌, ℕ, ◌+◌, ◌<◌, ◌≤◌, Bool, true, false, ltb-true, ltb-false, drop-drop, List, [], ◌∷◌, ◌++◌, length, take, drop, refl, sym, ap, subst, arith, append_assoc, length-drop, Option, Some, None}
+use Rattle.std.specs.Prelude.{min, nat_lt}
+use Rattle.std.proofs.lemmas.List.{append-nil, drop_all}
+use Rattle.p3_base.specs.Outside.{IsPartlyPut, IsPut}
+use Rattle.p3_tree.specs.Plans.{Plan}
+use Rattle.p3_tree.specs.Reports.Watching.{block, blocks, watch_lines}
+use Rattle.p3_tree.specs.Watching.{Piece, answer_to, lines_from, taken_after}
+use Rattle.p3_tree.specs.declared.task.Task.{Task}
+use Rattle.p3_ground.specs.PlansByNumber.{AreNumbers}
+use Rattle.p3_reports.proofs.PutLemmas.{both_put, partly_first, partly_second}
+use Rattle.p3_run.specs.Runs.{Ran}
+use Rattle.p3_watch.specs.Following.{IsFollowed}
+use Rattle.p3_watch.specs.Lines.{line_at, line_len}
+use Rattle.p3_watch.specs.Watching.{IsAnswered, OfAnswer}
+use Rattle.p3_watch.specs.declared.watch.Line.{Line}
+use Rattle.p3_watch.proofs.BlockLemmas.{none_put}
+use Rattle.p3_watch.proofs.LineLemmas.{line_ahead}
+
+-- the lines behind one of so many bytes
+lines_same : (text : List ℕ) (at len next : ℕ) → next ≡ min (length text) (at + len + 1) → lines_from next (drop next text) ≡ lines_from (at + len + 1) (drop (len + 1) (drop at text))
+unfolding lines_from
+lines_same text at len next is = by (nat_lt next (length text)) refl ∙ ap (lines_from (at + len + 1)) (sym rest)
+  where
+    place : at + (len + 1) ≡ at + len + 1
+    place = omega arith
+
+    rest : drop (len + 1) (drop at text) ≡ drop (at + len + 1) text
+    rest = drop-drop (len + 1) at text ∙ ap (λ n. drop n text) place
+
+    by : (b : Bool) → nat_lt next (length text) ≡ b → lines_from next (drop next text) ≡ lines_from (at + len + 1) (drop (at + len + 1) text)
+    by true e =
+        let low = ltb-true next (length text) e in
+        let same : next ≡ at + len + 1 = omega (arith, low, is) in
+        ap (λ n. lines_from n (drop n text)) same
+    by false e =
+        let past = ltb-false next (length text) e in
+        let far : length text ≤ at + len + 1 = omega (arith, past, is) in
+        ap (lines_from next) (drop_all next text past) ∙ sym (ap (lines_from (at + len + 1)) (drop_all (at + len + 1) text far))
+
+module _ (T : Task) (text : List ℕ) (old : Option (List ℕ)) where
+  -- before the first line
+  pub follows_first : (ran : Ran) (at : ℕ) → ran.plan ≡ [] → at ≡ 0 → IsFollowed T text old old ran at
+  unfolding watch_lines
+  follows_first ran at none first = record {
+    plan = [];
+    numbers = subst (AreNumbers T []) (sym none) tt;
+    bytes = [];
+    put = none_put old;
+    all = ap (λ n. blocks T text [] (lines_from n (drop n text))) first;
+  }
+
+  module _ (mid : Option (List ℕ)) (ran : Ran) (at : ℕ) (follows : IsFollowed T text old mid ran at) where
+    -- behind the last line
+    pub follows_end : length text ≤ at → IsPut (watch_lines T text) old mid
+    unfolding blocks lines_from
+    follows_end past =
+        let none : blocks T text follows.plan (lines_from at (drop at text)) ≡ [] = ap (λ rest. blocks T text follows.plan (lines_from at rest)) (drop_all at text past) in
+        subst (λ whole. IsPut whole old mid) (sym (append-nil follows.bytes) ∙ ap (λ rest. follows.bytes ++ rest) (sym none) ∙ follows.all) follows.put
+
+    -- at a line
+    module _ (low : at < length text) (new : Ran) (told : Line) (answered : IsAnswered T (line_at text at) ran new told) where
+      abbrev own : List ℕ
+      own = block T text at follows.plan (answer_to T follows.plan (line_at text at))
+
+      abbrev later : List ℕ
+      later = blocks T text (taken_after follows.plan (answer_to T follows.plan (line_at text at))) (lines_from (at + line_len (drop at text) + 1) (drop (line_len (drop at text) + 1) (drop at text)))
+
+      ahead : blocks T text follows.plan (lines_from at (drop at text)) ≡ own ++ later
+      unfolding blocks
+      ahead = let some : 0 < length (drop at text) = omega (arith, low, length-drop at text) in ap (blocks T text follows.plan) (line_ahead at (drop at text) some)
+
+      whole : follows.bytes ++ own ++ later ≡ watch_lines T text
+      whole = append_assoc follows.bytes own later ∙ ap (λ rest. follows.bytes ++ rest) (sym ahead) ∙ follows.all
+
+      -- a first part of its block is put
+      pub partly_there : (late : Option (List ℕ)) → OfAnswer T new told (λ plan answer. IsPartlyPut (block T text at plan answer) mid late) → IsPartlyPut (watch_lines T text) old late
+      partly_there late partly =
+          subst (λ all. IsPartlyPut all old late) whole
+          (partly_first (follows.bytes ++ own) later old late
+          (partly_second follows.bytes own old mid late follows.put (partly follows.plan (answer_to T follows.plan (line_at text at)) (answered follows.plan follows.numbers))))
+
+      -- its block is put
+      pub follows_more : (late : Option (List ℕ)) (next : ℕ) → next ≡ min (length text) (at + line_len (drop at text) + 1)
+          → OfAnswer T new told (λ plan answer. IsPut (block T text at plan answer) mid late) → IsFollowed T text old late new next
+      follows_more late next is put =
+          let answer = answer_to T follows.plan (line_at text at) in
+          let answers = answered follows.plan follows.numbers in
+          record {
+            plan = taken_after follows.plan answer;
+            numbers = answers.done;
+            bytes = follows.bytes ++ own;
+            put = both_put follows.bytes own old mid late follows.put (put follows.plan answer answers);
+            all = ap (λ rest. follows.bytes ++ own ++ blocks T text (taken_after follows.plan answer) rest) (lines_same text at (line_len (drop at text)) next is) ∙ whole;
+          }
