@@ -1,28 +1,50 @@
 //! What `watch` makes of the texts of a task and of what is to be a plan for it.
 
-ghost use Rattle.std.specs.Prelude.{◌≡◌, IfErr, IfOk, OnErr};
+ghost use Rattle.std.specs.Prelude.{◌≡◌, ◌≤◌, [], IfErr, IfOk, OnErr, length};
+ghost use Rattle.p3_tree.specs.Reports.Watching.{watch_lines};
+ghost use Rattle.p3_tree.specs.Sides.{plan_byte_limit};
+ghost use Rattle.p3_eval.specs.Judging.{IsRunOf};
+ghost use Rattle.p3_cli.specs.Ending.{Done, Tells};
 ghost use Rattle.p3_cli.specs.Following.{IsFollowed};
 ghost use Rattle.p3_cli.specs.Refusing.{IsRefusedTask, all_texts};
 
 use crate::Ending;
+use crate::acceptance::{accepted, spelled_task};
+use crate::status::{DONE, UNPUT};
 use crate::texts::Texts;
-use p3_base::Sink;
+use p3_base::{Side, Sink};
+use p3_watch::{Followed, Watch};
 use std::alloc::Global;
 
 /// Follows what a text says line by line, for the task that the two other texts spell: puts the
 /// lines as it goes, and answers the status, or the ending of which no line has been put.
-///
-/// TEMPORARY: the body is a stub until the crate that watches is there.
 pub(crate) fn follow<S: Sink>(
-    _alloc: Global,
-    _texts: &Texts<'_>,
-    _out: &mut S,
+    alloc: Global,
+    texts: &Texts<'_>,
+    out: &mut S,
 ) -> Result<u8, Ending>
     ensures followed { IfOk result (IsFollowed
-        _texts.now.domain.now _texts.now.problem.now _texts.now.plan.now
-        (S.seen _out.old) (S.seen _out.new)) }
-    ensures err { IfErr result (IsRefusedTask (all_texts _texts.now)) }
-    ensures unput { OnErr result (_out.new ≡ _out.old) }
+        texts.now.domain.now texts.now.problem.now texts.now.plan.now
+        (S.seen out.old) (S.seen out.new)) }
+    ensures err { IfErr result (IsRefusedTask (all_texts texts.now)) }
+    ensures unput { OnErr result (out.new ≡ out.old) }
 {
-    Err(Ending::OutOfMemory)
+    let task = spelled_task(alloc, Side::Source, texts)?;
+    let whole = accepted(alloc, Side::Source, texts, task)?;
+    let mut watch = Watch::open(alloc, &whole)?;
+    Ok(followed(&mut watch, texts.plan, out))
+}
+
+/// Follows a text by a run of no step, and answers the status.
+fn followed<S: Sink>(watch: &mut Watch<'_>, text: &[u8], out: &mut S) -> u8
+    requires begins { watch.old.run.plan ≡ [] }
+    requires of { IsRunOf watch.old.whole.now.checked.task watch.old.run }
+    requires short { length text.now ≤ plan_byte_limit }
+    ensures { Tells (S.seen out.old) (S.seen out.new) result
+        (Done (watch_lines watch.old.whole.now.checked.task text.now)) }
+{
+    match p3_watch::follow(watch, text, out) {
+        Followed::Done => DONE,
+        Followed::SinkFailed => UNPUT,
+    }
 }
