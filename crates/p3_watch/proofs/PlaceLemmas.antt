@@ -62,8 +62,8 @@ module _ (text : List ℕ) (start : ℕ) (within : start ≤ length text) where
               ∙ suffix_len-take_yes stays text (start + d + 1) 0 some enough (ap (λ n. not (is_line_feed (get_or text n 0))) back ∙ ap not own)
               ∙ ap (λ n. 1 + behind_feed text n) back ∙ ap (λ n. 1 + n) before.column ∙ add-one-left d;
         } where
-        add-one-left : (n : ℕ) → 1 + n ≡ suc n
-        add-one-left n = omega arith
+          add-one-left : (n : ℕ) → 1 + n ≡ suc n
+          add-one-left n = omega arith
 
     -- behind the line feed of the line
     module _ (ends : line_len (drop start text) < length (drop start text)) where
@@ -110,13 +110,13 @@ pub starts_behind : (text : List ℕ) (start new : Start) (len : ℕ) → IsStar
 starts_behind text start new len is some long row at = record {
   within = omega (arith, at);
   begins = λ low.
-    let place : new.offset ≡ start.offset + line_len (drop start.offset text) + 1 = omega (arith, at, low, long) in
-    let more : line_len (drop start.offset text) < length (drop start.offset text) = omega (arith, place, low, length-drop start.offset text) in
-    let begins : Begins text start = is.begins some in
-    record {
-      row = row ∙ ap (λ n. n + 1) begins.row ∙ sym (next_row text start.offset is.within begins.column more) ∙ ap (line_of text) (sym place);
-      column = ap (column_of text) place ∙ next_column text start.offset is.within begins.column more;
-    };
+      let place : new.offset ≡ start.offset + line_len (drop start.offset text) + 1 = omega (arith, at, low, long) in
+      let more : line_len (drop start.offset text) < length (drop start.offset text) = omega (arith, place, low, length-drop start.offset text) in
+      let begins : Begins text start = is.begins some in
+      record {
+        row = row ∙ ap (λ n. n + 1) begins.row ∙ sym (next_row text start.offset is.within begins.column more) ∙ ap (line_of text) (sym place);
+        column = ap (column_of text) place ∙ next_column text start.offset is.within begins.column more;
+      };
 }
 
 -- the start of a text

@@ -1,4 +1,4 @@
-use Rattle.std.proofs.Common.{◌≡◌, ◌∙◌, ℕ, List, Some, ap, arith, subst, sym}
+use Rattle.std.proofs.Common.{◌≡◌, ◌∙◌, Some, ap, arith, subst, sym}
 use Rattle.std.specs.Option.{option_copied}
 use Rattle.std.specs.Prelude.{slice_get}
 use Rattle.p3_base.specs.Outside.{IsPartlyPut, IsPut}
@@ -30,9 +30,9 @@ loop-number-preserved g c =
     let after = c.in_ok-put_part.ensures.faults_grow in
     record {
       put = λ plan are.
-        let count : c.violations.result ≡ violated T plan word = c.violations.ensures T c.requires plan are word found in
-        let same : violated_line c.bytes.result.now c.violations.result ≡ violated_entry T plan word = λ i. violated_line (c.bytes.ensures.bytes i) (count i) in
-        put_at (violated_entry T plan) (ordered_names T) c.loop-number.number word _ _ _ found (c.loop-number.invariant.put plan are)
-        (subst (λ text. IsPut text (g.S.Sink.seen c.loop-number.out).written (g.S.Sink.seen c.put_part.new.out).written) same c.in_ok-put_part.ensures.ok);
+          let count : c.violations.result ≡ violated T plan word = c.violations.ensures T c.requires plan are word found in
+          let same : violated_line c.bytes.result.now c.violations.result ≡ violated_entry T plan word = λ i. violated_line (c.bytes.ensures.bytes i) (count i) in
+          put_at (violated_entry T plan) (ordered_names T) c.loop-number.number word _ _ _ found (c.loop-number.invariant.put plan are)
+          (subst (λ text. IsPut text (g.S.Sink.seen c.loop-number.out).written (g.S.Sink.seen c.put_part.new.out).written) same c.in_ok-put_part.ensures.ok);
       faults_grow = omega (arith, before, after);
     }

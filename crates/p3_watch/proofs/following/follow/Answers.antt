@@ -1,9 +1,9 @@
-use Rattle.std.proofs.Common.{◌≡◌, ◌∙◌, ◌+◌, ◌<◌, ◌≤◌, List, ℕ, ap, arith, drop, length, min, refl, subst}
+use Rattle.std.proofs.Common.{◌∙◌, ◌+◌, ◌<◌, ap, arith, length, min, refl, subst}
 use Rattle.p3_base.specs.Outside.{IsPartlyPut, IsPut}
 use Rattle.p3_tree.specs.Reports.Watching.{block}
 use Rattle.p3_eval.specs.Judging.{IsRunOf}
 use Rattle.p3_eval.specs.declared.whole.Whole.{Whole}
-use Rattle.p3_watch.specs.Lines.{line_at, line_len}
+use Rattle.p3_watch.specs.Lines.{line_at}
 use Rattle.p3_watch.specs.Watching.{IsAnswered, OfAnswer}
 use Rattle.p3_watch.proofs.FollowLemmas.{follows_end, follows_first, follows_more, partly_there}
 use Rattle.p3_watch.proofs.PlaceLemmas.{is_inside, text_starts, told_there}
