@@ -1,5 +1,5 @@
 -- What is answered to a line, by what the line has and what following its step tells.
-use Rattle.std.proofs.Common.{◌≡◌, ◌∙◌, ℕ, ◌+◌, ◌<◌, ◌≤◌, Bool, true, false, List, [], ◌∷◌, ◌++◌, length, take, drop, refl, sym, ap, subst, arith, le-ltb, lt-ltb, length-drop, Option, Some, None}
+use Rattle.std.proofs.Common.{◌≡◌, ◌∙◌, ℕ, ◌+◌, ◌<◌, ◌≤◌, Bool, true, false, List, [], ◌∷◌, ◌++◌, length, drop, refl, sym, ap, subst, arith, le-ltb, lt-ltb, length-drop, Option, Some, None}
 use Rattle.std.specs.Prelude.{if◌then◌else◌, nat_lt, option_map}
 use Rattle.std.proofs.lemmas.List.{length-take}
 use Rattle.std.proofs.lemmas.Slice.Zip.{AllZip-long}
@@ -21,7 +21,7 @@ use Rattle.p3_types.specs.declared.finding.Found.TheVariants as found
 use Rattle.p3_ground.specs.PlansByNumber.{AreNumbers}
 use Rattle.p3_run.specs.Runs.{Ran, most_steps}
 use Rattle.p3_eval.specs.Judged.{NamesMisfitOfFound, TellsOfFound, fault_in, ran_with}
-use Rattle.p3_eval.specs.Judging.{HasStep, IsRunOf}
+use Rattle.p3_eval.specs.Judging.{IsRunOf}
 use Rattle.p3_eval.specs.Runs.{BelongTogether, OfRun}
 use Rattle.p3_eval.specs.declared.fault.PlanFault.{PlanFault}
 use Rattle.p3_eval.proofs.JudgeLemmas.{goes_on}
@@ -155,7 +155,6 @@ still_of T old found.Arguments fault of = of
 
 module _ (T : Task) (at : ℕ) (text : List ℕ) (old new : Ran) (finds : Found) (together : BelongTogether T old.task old.weights) (room : length old.plan < most_steps)
     (known : (own : Step) → IsPlanText text (own ∷ []) → IsFound T own finds) where
-
   pub done_is : TellsOfFound old finds None → NamesMisfitOfFound old finds None → new ≡ ran_with old finds None
       → (own : Step) → IsPlanText text (own ∷ []) → IsTried T at own old new line.Done
   done_is tells names same own spelled plan are =

@@ -1,13 +1,12 @@
 -- The block of a line, by what it comes to.
-use Rattle.std.proofs.Common.{◌≡◌, ◌∙◌, ℕ, ◌+◌, List, [], ◌∷◌, ◌++◌, length, refl, sym, ap, subst, Option, Some, None}
+use Rattle.std.proofs.Common.{◌∙◌, ℕ, List, [], ◌∷◌, ◌++◌, refl, sym, ap, subst, Option, Some, None}
 use Rattle.std.proofs.lemmas.List.{append-nil}
-use Rattle.p3_base.specs.Outside.{IsPut, with_put}
+use Rattle.p3_base.specs.Outside.{IsPut}
 use Rattle.p3_base.specs.declared.refusal.Refusal.{Refusal}
-use Rattle.p3_tree.specs.Plans.{Plan}
 use Rattle.p3_tree.specs.Reports.Plans.{fault_line}
 use Rattle.p3_tree.specs.Reports.Refusals.{refusal_line}
 use Rattle.p3_tree.specs.Reports.Watching.{block, judged_lines, moved}
-use Rattle.p3_tree.specs.Watching.{Answer, Blank, Taken, Unfit, Refused}
+use Rattle.p3_tree.specs.Watching.{Blank, Taken, Unfit, Refused}
 use Rattle.p3_tree.specs.declared.task.Task.{Task}
 use Rattle.p3_reports.specs.Faults.{fault_named, fault_of}
 use Rattle.p3_reports.proofs.FaultLemmas.{fault_is}
@@ -15,7 +14,7 @@ use Rattle.p3_run.specs.Runs.{Ran}
 use Rattle.p3_eval.specs.Judged.{fault_in}
 use Rattle.p3_eval.specs.Runs.{OfRun}
 use Rattle.p3_eval.specs.declared.fault.PlanFault.{PlanFault}
-use Rattle.p3_watch.specs.Watching.{Answers, OfAnswer}
+use Rattle.p3_watch.specs.Watching.{OfAnswer}
 use Rattle.p3_watch.specs.declared.watch.Line.TheVariants as line
 
 pub none_put : (told : Option (List ℕ)) → IsPut [] told told

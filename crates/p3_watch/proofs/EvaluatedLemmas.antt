@@ -3,23 +3,22 @@ use Rattle.std.proofs.Common.{◌≡◌, ◌∙◌, ℕ, zero, suc, ◌+◌, Lis
 use Rattle.std.proofs.lemmas.List.{append-nil, take-append-drop}
 use Rattle.std.proofs.lemmas.List.Concat.{flat_map-append}
 use Rattle.std.specs.Prelude.{codes, flat_map, pos, slice_get}
-use Rattle.std.specs.Fmt.{decimal}
-use Rattle.std.proofs.lemmas.Slice.Zip.{AllZip-long}
-use Rattle.p3_base.specs.Outside.{IsPartlyPut, IsPut, with_put}
+use Rattle.p3_base.specs.Outside.{IsPartlyPut, IsPut}
 use Rattle.p3_tree.specs.Costs.{cost_places}
-use Rattle.p3_tree.specs.Metrics.{cost, metric_places, value}
+use Rattle.p3_tree.specs.Metrics.{cost}
 use Rattle.p3_tree.specs.Names.{Name}
 use Rattle.p3_tree.specs.Plans.{Plan}
 use Rattle.p3_tree.specs.Reports.Lines.{entry, line}
-use Rattle.p3_tree.specs.Reports.Plans.{evaluated_lines, metric_line, steps_line}
-use Rattle.p3_tree.specs.Reports.Quantities.{shown_quantity}
+use Rattle.p3_tree.specs.Reports.Plans.{evaluated_lines, fault_line, metric_line, steps_line}
+use Rattle.p3_tree.specs.Reports.Watching.{judged_by, judged_lines}
+use Rattle.p3_tree.specs.Validity.{Fault, first_fault}
 use Rattle.p3_tree.specs.declared.task.Task.{Task}
 use Rattle.p3_reports.specs.Found.{IsMetric, IsQuantity}
 use Rattle.p3_reports.specs.Parts.{quantity_text}
 use Rattle.p3_reports.specs.declared.quantity.Quantity.{Quantity}
 use Rattle.p3_reports.proofs.FoundLaws.{quantity_is}
 use Rattle.p3_reports.proofs.PutLemmas.{both_put, partly_first, partly_second}
-use Rattle.p3_watch.specs.Violations.{violated_entry, violated_lines}
+use Rattle.p3_watch.specs.Violations.{violated_lines}
 
 -- ---- the names
 
@@ -54,34 +53,47 @@ module _ (text : Name → List ℕ) where
 abbrev pub before_names : ℕ → Quantity → List ℕ
 before_names steps paid = line (codes "valid") ++ steps_line steps ++ entry (codes "cost") (quantity_text paid)
 
-module _ (T : Task) (plan : Plan) (steps : ℕ) (paid worth : Quantity) (long : steps ≡ length plan) (costs : IsQuantity paid (cost_places T) (pos (cost T plan))) (metric : IsMetric T plan worth) where
-  lines_are : before_names steps paid ++ violated_lines T plan ++ entry (codes "metric") (quantity_text worth) ≡ evaluated_lines T plan
-  lines_are = λ i. line (codes "valid") ++ steps_line (long i) ++ entry (codes "cost") (quantity_is costs i) ++ violated_lines T plan ++ entry (codes "metric") (quantity_is metric i)
+pub metric_is : (T : Task) (plan : Plan) (worth : Quantity) → IsMetric T plan worth → entry (codes "metric") (quantity_text worth) ≡ metric_line T plan
+metric_is T plan worth is = λ i. entry (codes "metric") (quantity_is is i)
+
+module _ (T : Task) (plan : Plan) (steps : ℕ) (paid : Quantity) (long : steps ≡ length plan) (costs : IsQuantity paid (cost_places T) (pos (cost T plan))) where
+  lines_are : before_names steps paid ++ violated_lines T plan ++ metric_line T plan ≡ evaluated_lines T plan
+  lines_are = λ i. line (codes "valid") ++ steps_line (long i) ++ entry (codes "cost") (quantity_is costs i) ++ violated_lines T plan ++ metric_line T plan
 
   module _ (old : Option (List ℕ)) where
     pub first_partly : (new : Option (List ℕ)) → IsPartlyPut (before_names steps paid) old new → IsPartlyPut (evaluated_lines T plan) old new
     first_partly new partly =
         subst (λ whole. IsPartlyPut whole old new) lines_are
-        (partly_first (before_names steps paid ++ violated_lines T plan) (entry (codes "metric") (quantity_text worth)) old new
+        (partly_first (before_names steps paid ++ violated_lines T plan) (metric_line T plan) old new
         (partly_first (before_names steps paid) (violated_lines T plan) old new partly))
 
     module _ (mid : Option (List ℕ)) (first : IsPut (before_names steps paid) old mid) where
       pub names_partly : (new : Option (List ℕ)) → IsPartlyPut (violated_lines T plan) mid new → IsPartlyPut (evaluated_lines T plan) old new
       names_partly new partly =
           subst (λ whole. IsPartlyPut whole old new) lines_are
-          (partly_first (before_names steps paid ++ violated_lines T plan) (entry (codes "metric") (quantity_text worth)) old new
+          (partly_first (before_names steps paid ++ violated_lines T plan) (metric_line T plan) old new
           (partly_second (before_names steps paid) (violated_lines T plan) old mid new first partly))
 
       module _ (late : Option (List ℕ)) (names : IsPut (violated_lines T plan) mid late) where
         both : IsPut (before_names steps paid ++ violated_lines T plan) old late
         both = both_put (before_names steps paid) (violated_lines T plan) old mid late first names
 
-        pub metric_partly : (new : Option (List ℕ)) → IsPartlyPut (entry (codes "metric") (quantity_text worth)) late new → IsPartlyPut (evaluated_lines T plan) old new
+        pub metric_partly : (new : Option (List ℕ)) → IsPartlyPut (metric_line T plan) late new → IsPartlyPut (evaluated_lines T plan) old new
         metric_partly new partly =
             subst (λ whole. IsPartlyPut whole old new) lines_are
-            (partly_second (before_names steps paid ++ violated_lines T plan) (entry (codes "metric") (quantity_text worth)) old late new both partly)
+            (partly_second (before_names steps paid ++ violated_lines T plan) (metric_line T plan) old late new both partly)
 
-        pub all_put : (new : Option (List ℕ)) → IsPut (entry (codes "metric") (quantity_text worth)) late new → IsPut (evaluated_lines T plan) old new
-        all_put new last =
+        pub lines_put : (new : Option (List ℕ)) → IsPut (metric_line T plan) late new → IsPut (evaluated_lines T plan) old new
+        lines_put new last =
             subst (λ whole. IsPut whole old new) lines_are
-            (both_put (before_names steps paid ++ violated_lines T plan) (entry (codes "metric") (quantity_text worth)) old late new both last)
+            (both_put (before_names steps paid ++ violated_lines T plan) (metric_line T plan) old late new both last)
+
+-- ---- what is judged
+
+pub judged_valid : (T : Task) (plan : Plan) → first_fault T plan ≡ None → evaluated_lines T plan ≡ judged_lines T plan
+unfolding judged_lines
+judged_valid T plan none = sym (ap (judged_by T plan) none)
+
+pub judged_invalid : (T : Task) (plan : Plan) (fault : Fault) → first_fault T plan ≡ Some fault → fault_line fault ≡ judged_lines T plan
+unfolding judged_lines
+judged_invalid T plan fault is = sym (ap (judged_by T plan) is)

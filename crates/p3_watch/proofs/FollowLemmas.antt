@@ -1,11 +1,10 @@
 -- The loop over the lines of a text: the blocks that are put and those that are left make up all.
-use Rattle.std.proofs.Common.{◌≡◌, ◌∙◌, ℕ, ◌+◌, ◌<◌, ◌≤◌, Bool, true, false, ltb-true, ltb-false, drop-drop, List, [], ◌∷◌, ◌++◌, length, take, drop, refl, sym, ap, subst, arith, append_assoc, length-drop, Option, Some, None}
+use Rattle.std.proofs.Common.{◌≡◌, ◌∙◌, ℕ, ◌+◌, ◌<◌, ◌≤◌, Bool, true, false, ltb-true, ltb-false, drop-drop, List, [], ◌++◌, length, drop, refl, sym, ap, subst, arith, append_assoc, length-drop, Option}
 use Rattle.std.specs.Prelude.{min, nat_lt}
 use Rattle.std.proofs.lemmas.List.{append-nil, drop_all}
 use Rattle.p3_base.specs.Outside.{IsPartlyPut, IsPut}
-use Rattle.p3_tree.specs.Plans.{Plan}
 use Rattle.p3_tree.specs.Reports.Watching.{block, blocks, watch_lines}
-use Rattle.p3_tree.specs.Watching.{Piece, answer_to, lines_from, taken_after}
+use Rattle.p3_tree.specs.Watching.{answer_to, lines_from, taken_after}
 use Rattle.p3_tree.specs.declared.task.Task.{Task}
 use Rattle.p3_ground.specs.PlansByNumber.{AreNumbers}
 use Rattle.p3_reports.proofs.PutLemmas.{both_put, partly_first, partly_second}

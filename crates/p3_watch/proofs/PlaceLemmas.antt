@@ -1,12 +1,15 @@
 -- Where the bytes of a line stand in the text.
-use Rattle.std.proofs.Common.{◌≡◌, ◌∙◌, ℕ, zero, suc, ◌+◌, ◌-◌, ◌<◌, ◌≤◌, Bool, true, false, List, length, get_or, take, drop, sym, ap, subst, arith, add-one, add-zero, length-drop}
-use Rattle.std.specs.Prelude.{count_by, min, not}
+use Rattle.std.proofs.Common.{◌≡◌, ◌∙◌, ℕ, zero, suc, ◌+◌, ◌-◌, ◌<◌, ◌≤◌, Bool, true, false, List, length, get_or, take, drop, refl, sym, ap, subst, arith, add-zero, length-drop, ltb-false, ltb-true, true≢false}
+use Rattle.std.specs.Prelude.{IsTrue, count_by, min, nat_lt, not}
 use Rattle.std.specs.List.{after_last, suffix_len}
 use Rattle.std.proofs.lemmas.List.{get_or-drop, length-take}
 use Rattle.std.proofs.lemmas.List.Sums.{count_by_more_no, count_by_more_yes, count_by-le-length, fails_before_first, passes_at_first, prefix_len-le-length, suffix_len-le-length, suffix_len-take_no, suffix_len-take_yes}
 use Rattle.p3_base.specs.Place.{is_line_feed, line_of, column_of}
 use Rattle.p3_base.specs.declared.refusal.Refusal.{Refusal}
-use Rattle.p3_watch.specs.Lines.{Begins, IsInLine, IsStart, line_len}
+use Rattle.p3_watch.specs.Lines.{Begins, IsInLine, IsStart, IsToldThere, line_len}
+use Rattle.p3_watch.specs.Watching.{IsWithin}
+use Rattle.p3_watch.specs.declared.watch.Line.{Line}
+use Rattle.p3_watch.specs.declared.watch.Line.TheVariants as line
 use Rattle.p3_watch.specs.declared.lines.Start.{Start}
 
 abbrev stays : ℕ → Bool
@@ -59,8 +62,8 @@ module _ (text : List ℕ) (start : ℕ) (within : start ≤ length text) where
               ∙ suffix_len-take_yes stays text (start + d + 1) 0 some enough (ap (λ n. not (is_line_feed (get_or text n 0))) back ∙ ap not own)
               ∙ ap (λ n. 1 + behind_feed text n) back ∙ ap (λ n. 1 + n) before.column ∙ add-one-left d;
         } where
-        add-one-left : (n : ℕ) → 1 + n ≡ suc n
-        add-one-left n = omega arith
+          add-one-left : (n : ℕ) → 1 + n ≡ suc n
+          add-one-left n = omega arith
 
     -- behind the line feed of the line
     module _ (ends : line_len (drop start text) < length (drop start text)) where
@@ -107,11 +110,34 @@ pub starts_behind : (text : List ℕ) (start new : Start) (len : ℕ) → IsStar
 starts_behind text start new len is some long row at = record {
   within = omega (arith, at);
   begins = λ low.
-    let place : new.offset ≡ start.offset + line_len (drop start.offset text) + 1 = omega (arith, at, low, long) in
-    let more : line_len (drop start.offset text) < length (drop start.offset text) = omega (arith, place, low, length-drop start.offset text) in
-    let begins : Begins text start = is.begins some in
-    record {
-      row = row ∙ ap (λ n. n + 1) begins.row ∙ sym (next_row text start.offset is.within begins.column more) ∙ ap (line_of text) (sym place);
-      column = ap (column_of text) place ∙ next_column text start.offset is.within begins.column more;
-    };
+      let place : new.offset ≡ start.offset + line_len (drop start.offset text) + 1 = omega (arith, at, low, long) in
+      let more : line_len (drop start.offset text) < length (drop start.offset text) = omega (arith, place, low, length-drop start.offset text) in
+      let begins : Begins text start = is.begins some in
+      record {
+        row = row ∙ ap (λ n. n + 1) begins.row ∙ sym (next_row text start.offset is.within begins.column more) ∙ ap (line_of text) (sym place);
+        column = ap (column_of text) place ∙ next_column text start.offset is.within begins.column more;
+      };
 }
+
+-- the start of a text
+pub text_starts : (text : List ℕ) (start : Start) → start.offset ≡ 0 → start.row ≡ 1 → IsStart text start
+text_starts text start first row = record {
+  within = omega (arith, first);
+  begins = λ some. record {
+    row = row ∙ ap (line_of text) (sym first);
+    column = ap (column_of text) first;
+  };
+}
+
+pub is_inside : (size at : ℕ) → (size ≤ at → IsTrue false) → at < size
+is_inside size at more = by (nat_lt at size) refl where
+  by : (b : Bool) → nat_lt at size ≡ b → at < size
+  by true e = ltb-true at size e
+  by false e = absurd (true≢false (sym (more (ltb-false at size e))))
+
+-- what a line comes to stands in that line
+pub told_there : (text : List ℕ) (start : Start) (size : ℕ) (told : Line) → IsStart text start → start.offset < length text → size ≡ line_len (drop start.offset text) → IsWithin size told → IsToldThere text start told
+told_there text start size line.Blank is low long within = tt
+told_there text start size line.Done is low long within = tt
+told_there text start size (line.Invalid fault) is low long within = tt
+told_there text start size (line.Refused refusal) is low long within = in_line text start refusal is.within (is.begins low) (subst (λ n. refusal.pos.offset ≤ n) long within)

@@ -38,11 +38,7 @@ pub(crate) fn put_judged<S: Sink>(
 }
 
 /// Puts the lines of a valid plan.
-fn put_evaluated<S: Sink>(
-    checked: &Checked,
-    run: &Run<'_>,
-    out: &mut S,
-) -> Result<(), SinkFailed>
+fn put_evaluated<S: Sink>(checked: &Checked, run: &Run<'_>, out: &mut S) -> Result<(), SinkFailed>
     requires together { BelongTogether checked.now.task run.now.task run.now.weights }
     requires accepted { task_refusal checked.now.side checked.now.task ≡ None }
     ensures ok { OnOk result (OfRun checked.now.task run.now
@@ -62,11 +58,7 @@ fn put_evaluated<S: Sink>(
 }
 
 /// Puts how often the preferences of each name are violated.
-fn put_violations<S: Sink>(
-    checked: &Checked,
-    run: &Run<'_>,
-    out: &mut S,
-) -> Result<(), SinkFailed>
+fn put_violations<S: Sink>(checked: &Checked, run: &Run<'_>, out: &mut S) -> Result<(), SinkFailed>
     requires { BelongTogether checked.now.task run.now.task run.now.weights }
     ensures ok { OnOk result (OfRun checked.now.task run.now
         (λ plan. IsPut (violated_lines checked.now.task plan)

@@ -47,6 +47,7 @@ impl<'a> Watch<'a> {
         ensures begun { IfOk result (λ watch. watch.run.plan ≡ []) }
         ensures of { IfOk result (λ watch. IsRunOf whole.now.checked.task watch.run) }
     {
+        // The steps of the task are few enough to be found.
         let _checked = whole.checked();
         let run = whole.begin(alloc)?;
         Ok(Watch { whole, run })

@@ -1,4 +1,4 @@
-use Rattle.std.proofs.Common.{◌∙◌, sym}
+use Rattle.std.proofs.Common.{sym}
 use Rattle.p3_watch.proofs.LineLemmas.{at_end, at_feed}
 use Rattle.p3_watch.proofs.lines.before_line_feed.Goals as goal
 

@@ -1,8 +1,4 @@
-use Rattle.std.proofs.Common.{◌≤◌, length, arith, subst}
-use Rattle.p3_plans.specs.Lines.{IsLineStep}
-use Rattle.p3_plans.specs.declared.line.LineStep.{LineStep}
-use Rattle.p3_plans.specs.declared.line.LineStep.TheVariants as step
-use Rattle.p3_tree.specs.Watching.{line_text}
+use Rattle.std.proofs.Common.{arith}
 use Rattle.p3_watch.proofs.AnswerLemmas.{bad_is, bad_within, blank_is, step_is, step_short, step_within}
 use Rattle.p3_watch.proofs.watch.Watch.line.Goals as goal
 
