@@ -10,8 +10,8 @@ pub returns : goal.returns
 returns c =
     let T = c.args.whole.now.checked.task in
     let plan = c.args.plan.now in
-    let report : ExplainReport = record { fault = c.first_named.result; reasons = c.in_ok-named_reasons.field-0 } in
+    let report : ExplainReport = record { fault = c.first_named.result; reasons = c.in_ok-reasons.reasons } in
     explain_report_is T plan report (record {
       fault = c.first_named.ensures ∙ sym (ap (option_map fault_named) c.requires.fault);
-      reasons = c.in_ok-named_reasons.ensures ∙ ap (map (named_in T plan)) (c.items.ensures ∙ c.requires.reasons);
+      reasons = c.in_ok-reasons.ensures ∙ ap (map (named_in T plan)) (c.items.ensures ∙ c.requires.reasons);
     })
