@@ -53,8 +53,8 @@ impl<'a> Watch<'a> {
         Ok(Watch { whole, run })
     }
 
-    /// Tells what a line comes to behind the steps done. Its step is done where it fits; else nothing
-    /// has changed. It takes no memory.
+    /// Tells what a line comes to behind the steps done. Its step is done where it fits; else
+    /// nothing has changed. It takes no memory.
     pub fn line(&mut self, line: &[u8]) -> Line
         requires of { IsRunOf self.old.whole.now.checked.task self.old.run }
         requires short { length line.now ≤ plan_byte_limit }
