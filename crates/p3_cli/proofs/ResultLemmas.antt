@@ -12,3 +12,7 @@ if_ok (Err error) more is = tt
 pub if_err : {A E : Type 0} {P Q : E → Type 0} (result : Result A E) → ((error : E) → P error → Q error) → IfErr result P → IfErr result Q
 if_err (Ok answer) more is = tt
 if_err (Err error) more is = more error is
+
+pub if_both : {A E : Type 0} {P Q R : A → Type 0} (result : Result A E) → ((answer : A) → P answer → Q answer → R answer) → IfOk result P → IfOk result Q → IfOk result R
+if_both (Ok answer) more first second = more answer first second
+if_both (Err error) more first second = tt

@@ -1,0 +1,29 @@
+use Rattle.std.proofs.Common.{inr}
+use Rattle.p3_tree.specs.Refusals.Flat.{IsWideStepAt}
+use Rattle.p3_cli.specs.Flattening.{StopsFlat}
+use Rattle.p3_cli.specs.Refusing.{Says, all_texts}
+use Rattle.p3_cli.proofs.ResultLemmas.{if_both, if_err}
+use Rattle.p3_cli.proofs.SpelledLemmas.{says_more}
+use Rattle.p3_cli.proofs.flattening.flat_translate.Goals as goal
+
+pub returns-clause-means : goal.returns-clause-means
+returns-clause-means c =
+    let whole = c.in_ok-whole in
+    if_both c.flat_translation_of.result (λ made text told. record {
+      task = whole.whole.checked.task;
+      accepted = whole.ensures.accepted;
+      text = text;
+      told = told;
+    }) c.flat_translation_of.ensures.text c.flat_translation_of.ensures.report
+
+pub returns-clause-err : goal.returns-clause-err
+returns-clause-err c =
+    let texts = all_texts c.args.texts.now in
+    let whole = c.in_ok-whole in
+    if_err c.flat_translation_of.result
+    (says_more (Says texts (IsWideStepAt whole.whole.checked.task)) (StopsFlat texts) (λ how said. inr (record {
+      refusal = said.refusal;
+      shows = record { task = whole.whole.checked.task; accepted = whole.ensures.accepted; at = said.shows };
+      says = said.says;
+    })))
+    c.flat_translation_of.ensures.err
