@@ -3,7 +3,7 @@ use Rattle.std.proofs.Common.{◌≡◌, ◌∙◌, ◌≤◌, ◌⊎◌, ℕ, L
 use Rattle.p3_base.specs.Outside.{SinkSeen}
 use Rattle.p3_base.specs.declared.refusal.Role.{Role}
 use Rattle.p3_base.specs.declared.refusal.Side.TheVariants.{Source, Written}
-use Rattle.p3_tree.specs.Commands.{Command, Word, input, inputs, output, outputs, row}
+use Rattle.p3_tree.specs.Commands.{Command, Word, input, inputs, output, row}
 use Rattle.p3_tree.specs.declared.command.CommandKind.{CommandKind}
 use Rattle.p3_tree.specs.declared.command.CommandKind.TheVariants.{Compile, CompileFlat, Embed, Evaluate, Explain, Generate, Lift, Watch}
 use Rattle.p3_tree.specs.PlanTexts.{IsPlanText, plan_offence, step_limit}
@@ -19,12 +19,12 @@ use Rattle.p3_cli.specs.Embedding.{IsEmbedding}
 use Rattle.p3_cli.specs.Ending.{Ending}
 use Rattle.p3_cli.specs.Evaluation.{AreOfPlan, IsEvaluation, IsFaultOf, IsRejectedPlan, IsReportOf, OfText, RejectsPlan, given_plan}
 use Rattle.p3_cli.specs.Explaining.{IsExplained, IsExplanation, IsUnexplained, IsUnfit, RejectsExplaining}
-use Rattle.p3_cli.specs.Flattening.{HasFlatText, IsFlatTranslation, IsStoppedFlat, StopsFlat}
+use Rattle.p3_cli.specs.Flattening.{IsFlatTranslation, IsStoppedFlat, StopsFlat}
 use Rattle.p3_cli.specs.Following.{IsFollowed}
 use Rattle.p3_lift.specs.Lifting.{IsLiftFail}
 use Rattle.p3_lift.specs.declared.answers.LiftFail.{LiftFail}
 use Rattle.p3_cli.specs.Lifting.{IsLifting, RejectsLift, TellsFail}
-use Rattle.p3_cli.specs.Product.{Accepts, AcceptsBy, IsTold, Produces, ProducesBy, Stops, StopsBy}
+use Rattle.p3_cli.specs.Product.{AcceptsBy, IsTold, ProducesBy, Stops, StopsBy}
 use Rattle.p3_cli.specs.Refusing.{AllTexts, AreAcceptedFor, IsRefusal, IsRefusedFor, IsRefusedTask, IsRejectedBy, Says, for_lift, only_task, with_plan}
 use Rattle.p3_cli.specs.Sampling.{IsSampling}
 use Rattle.p3_cli.specs.Store.{AreWithin, nameless}

@@ -1,9 +1,9 @@
 -- An action with too many conditions is one of a step that may have as many.
-use Rattle.std.proofs.Common.{◌≡◌, ◌∙◌, ℕ, ◌+◌, ◌*◌, ◌<◌, ◌≤◌, ◌==◌, Bool, true, false, not, ◌&&◌, ◌||◌, cond, List, [], ◌∷◌, ◌++◌, length, map, refl, sym, ap, subst, arith, true≢false, length-append, Option, Some, None, inl, inr}
-use Rattle.std.specs.Prelude.{count_by, flat_map, fold, if◌then◌else◌, Contains, slice_get}
+use Rattle.std.proofs.Common.{◌≡◌, ◌∙◌, ℕ, ◌+◌, ◌<◌, ◌≤◌, ◌==◌, Bool, true, false, not, ◌||◌, cond, List, [], ◌∷◌, ◌++◌, length, map, refl, sym, ap, subst, arith, true≢false, Option, Some, None, inl, inr}
+use Rattle.std.specs.Prelude.{count_by, flat_map, if◌then◌else◌, Contains, slice_get}
 use Rattle.std.specs.List.{All, AllZip, list_all, list_any}
 use Rattle.std.specs.Option.{option_map_or}
-use Rattle.std.proofs.lemmas.Bool.{and_parts, and_from}
+use Rattle.std.proofs.lemmas.Bool.{and_parts}
 use Rattle.std.proofs.lemmas.List.Elements.{All-contains, All-head, All-tail}
 use Rattle.std.proofs.lemmas.List.Sums.{sum_by-append, sum_by-cons}
 use Rattle.std.proofs.lemmas.Bool.Decides.{nat_tests}
@@ -20,12 +20,11 @@ use Rattle.p3_tree.specs.Refusals.Flat.{most_conditions}
 use Rattle.p3_tree.specs.States.{Environment}
 use Rattle.p3_tree.specs.Touching.{all_operators, can_touch, conds, has_literal_of, looks_back}
 use Rattle.p3_tree.proofs.StateLemmas.{same_fact-Decides}
-use Rattle.p3_formula.specs.Forms.{has_atoms, is_other}
+use Rattle.p3_formula.specs.Forms.{is_other}
 use Rattle.p3_formula.specs.Modals.{forms_of, is_read, modal_has, touches}
 use Rattle.p3_formula.specs.Simplified.{is_value}
 use Rattle.p3_formula.specs.Unconditional.{is_conditional}
 use Rattle.p3_formula.specs.declared.form.Change.{Change}
-use Rattle.p3_formula.specs.declared.form.Form.{Form}
 use Rattle.p3_formula.specs.declared.form.Form.TheVariants.{True}
 use Rattle.p3_formula.specs.declared.modal.GroundModal.{GroundModal}
 use Rattle.p3_formula.specs.declared.modal.GroundModal.TheVariants as made
@@ -33,9 +32,8 @@ use Rattle.p3_formula.specs.declared.modal.GroundSoft.{GroundSoft}
 use Rattle.p3_formula.specs.declared.target.Target.{Target}
 use Rattle.p3_formula.specs.declared.target.TargetAction.{TargetAction}
 use Rattle.p3_formula.specs.declared.target.Weights.{Weights}
-use Rattle.p3_formula.specs.declared.task.GroundStep.{GroundStep}
 use Rattle.p3_formula.specs.declared.task.GroundTask.{GroundTask}
-use Rattle.p3_formula.proofs.ReadAtoms.{all_have_more_of, same_number}
+use Rattle.p3_formula.proofs.ReadAtoms.{all_have_more_of}
 use Rattle.p3_compile.specs.Lean.{IsLean, busy_modals, is_busy}
 use Rattle.p3_ground.specs.Sparse.{AtItsStep, HasFewChanges, HasOwnAtoms, IsGroundingOf, PartsHaveOwnAtoms, is_atom_of}
 use Rattle.p3_ground.specs.StandsFor.{HardStands, ModalStands, SoftStands}

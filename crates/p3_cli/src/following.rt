@@ -18,11 +18,7 @@ use std::alloc::Global;
 
 /// Follows what a text says line by line, for the task that the two other texts spell: puts the
 /// lines as it goes, and answers the status, or the ending of which no line has been put.
-pub(crate) fn follow<S: Sink>(
-    alloc: Global,
-    texts: &Texts<'_>,
-    out: &mut S,
-) -> Result<u8, Ending>
+pub(crate) fn follow<S: Sink>(alloc: Global, texts: &Texts<'_>, out: &mut S) -> Result<u8, Ending>
     ensures followed { IfOk result (IsFollowed
         texts.now.domain.now texts.now.problem.now texts.now.plan.now
         (S.seen out.old) (S.seen out.new)) }

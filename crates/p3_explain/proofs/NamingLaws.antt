@@ -1,5 +1,5 @@
 -- The numbers of preference names in a ground task are those of the names in the task for which it stands.
-use Rattle.std.proofs.Common.{◌≡◌, ◌∙◌, ℕ, zero, suc, refl, sym, ap, subst, Bool, true, false, List, [], ◌∷◌, Option, Some, None}
+use Rattle.std.proofs.Common.{◌≡◌, ◌∙◌, ℕ, zero, suc, refl, sym, ap, subst, true, false, List, [], ◌∷◌, Option, Some, None}
 use Rattle.std.specs.Prelude.{option_and_then, position, slice_get, IsSomeAnd, MatchOption}
 use Rattle.std.specs.List.{AllZip}
 use Rattle.std.proofs.lemmas.Bool.{and_parts, true≢false}
@@ -28,7 +28,7 @@ use Rattle.p3_formula.specs.declared.modal.GroundPref.{GroundPref}
 use Rattle.p3_formula.specs.declared.modal.GroundSoft.{GroundSoft}
 use Rattle.p3_formula.specs.declared.task.GroundStep.{GroundStep}
 use Rattle.p3_formula.specs.declared.task.GroundTask.{GroundTask}
-use Rattle.p3_types.specs.Finds.{HasOtherArguments, IsFound}
+use Rattle.p3_types.specs.Finds.{IsFound}
 use Rattle.p3_types.specs.declared.finding.Found.{Found}
 use Rattle.p3_types.specs.declared.finding.Found.TheVariants.{Arguments, Number, UnknownAction}
 use Rattle.p3_ground.specs.PlansByNumber.{AreNumbers}
@@ -108,6 +108,7 @@ module _ (T : Task) (atoms : List Fact) (G : GroundTask) (S : StandsBy T atoms G
             let own = K.own number step has in
             let same = Some-injective own.action is.action (sym own.named ∙ is.named) in
             absurd (true≢false (sym own.args ∙ ap (λ (action : Action). are_arguments T action.params step.args) same ∙ is.args))
+
         by : (o : Option Step) → o ≡ Some step → (p : Option ℕ) → MatchOption o (Unit {0}) (λ x. IsSomeAnd p (HasNumber T x)) → (found : Found) → IsFound T step found
             → (n : ℕ) × (found ≡ Number n) × HasNumber T step n
         by None e p zipped = absurd (cc)

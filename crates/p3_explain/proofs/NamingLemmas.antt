@@ -1,5 +1,5 @@
 -- Of a whole task: its steps stand by rising number, and names are a set.
-use Rattle.std.proofs.Common.{◌≡◌, ◌∙◌, ◌-◌, ℕ, List, Option, Some, ap, sym, true}
+use Rattle.std.proofs.Common.{◌≡◌, ◌∙◌, ◌-◌, ℕ, Option, Some, ap, sym, true}
 use Rattle.std.specs.Prelude.{option_and_then, slice_get}
 use Rattle.std.proofs.Props.{props}
 use Rattle.std.proofs.Math.Bool.{Bool-set}

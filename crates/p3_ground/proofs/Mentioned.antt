@@ -203,6 +203,6 @@ instance_name_is_ordered T i instance name at e =
     let first = in_text_order (named_in_domain T.domain) in
     let second = in_text_order (named_in_problem T.problem) in
     let has = ⊎_elim (λ found. let here = text_order_has (named_in_domain T.domain) name found in in_left first second here.0 name here.1)
-        (λ found. in_right first second name (text_order_has (named_in_problem T.problem) name found))
-        (task_instances_named T name i instance at e) in
+    (λ found. in_right first second name (text_order_has (named_in_problem T.problem) name found))
+    (task_instances_named T name i instance at e) in
     once_has _ has.0 name has.1

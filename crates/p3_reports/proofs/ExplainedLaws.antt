@@ -1,6 +1,6 @@
 -- What is found of a plan whose steps fit is printed as the definitions of its lines say.
 use Rattle.std.proofs.Common.{◌≡◌, ◌∙◌, ◌++◌, ap, refl}
-use Rattle.std.specs.Prelude.{List, Option, Some, None, codes, flat_map, map, option_map}
+use Rattle.std.specs.Prelude.{Option, Some, None, codes, flat_map, option_map}
 use Rattle.std.proofs.lemmas.List.Folds.{flat_map-map}
 use Rattle.p3_base.specs.declared.showing.Reason.{Reason}
 use Rattle.p3_base.specs.declared.showing.Subject.{Subject}

@@ -7,7 +7,6 @@ use Rattle.p3_reports.specs.Reports.{report_text}
 use Rattle.p3_cli.specs.Asked.{asked_command}
 use Rattle.p3_cli.specs.Product.{AcceptsBy}
 use Rattle.p3_cli.specs.Refusing.{all_texts}
-use Rattle.p3_cli.specs.Store.{AreWithin, nameless}
 use Rattle.p3_cli.proofs.ProductLemmas.{compile_accepts, embed_accepts, evaluate_accepts, explain_accepts, flat_accepts, generate_accepts, lift_accepts, nothing_read, within_kind}
 use Rattle.p3_cli.proofs.product.product_of.Goals as goal
 

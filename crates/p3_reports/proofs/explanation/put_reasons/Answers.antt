@@ -1,4 +1,3 @@
-use Rattle.std.specs.Prelude.{◌≤◌}
 use Rattle.std.proofs.Common.{arith}
 use Rattle.p3_reports.specs.Explained.{reason_text}
 use Rattle.p3_reports.proofs.PutLemmas.{all_put, on_err, one_more_put, partly_put}
