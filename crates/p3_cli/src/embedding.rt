@@ -32,6 +32,7 @@ use p3_reports::Report;
 use p3_tree::Plan;
 use p3_writer::{write_domain, write_problem};
 use std::alloc::Global;
+use std::mem::forget;
 
 /// The texts of a translation of a task and of the source of a plan, and the report.
 #[derive(Drop)]
@@ -79,6 +80,8 @@ pub(crate) fn embed(alloc: Global, texts: &Texts<'_>) -> Result<Embedding, Endin
         Err(ending) => return Err(ending),
     };
     let made = embedding_of(alloc, &whole, &target, &embedded)?;
+    forget((whole, target));
+    forget((plan, embedded));
     Ok(made)
 }
 

@@ -32,6 +32,7 @@ use p3_base::Side;
 use p3_eval::{PlanFault, Whole, first_fault, named_fault};
 use p3_reports::Report;
 use std::alloc::Global;
+use std::mem::forget;
 
 /// Judges the plan that a text spells, for the task that the two other texts spell: the report of a
 /// valid plan.
@@ -42,7 +43,9 @@ pub(crate) fn evaluate(alloc: Global, texts: &Texts<'_>) -> Result<Report, Endin
     ensures err { IfErr result (IsRejectedPlan (all_texts texts.now)) }
 {
     let whole = judged_task(alloc, texts)?;
-    judged(alloc, &whole, texts.plan)
+    let report = judged(alloc, &whole, texts.plan)?;
+    forget(whole);
+    Ok(report)
 }
 
 /// Accepts the task for which a plan is judged, where nothing is refused of it and of that plan.

@@ -29,6 +29,7 @@ use p3_explain::{ExplainFail, Explanation, explained, name_of};
 use p3_reports::{ExplainReport, Fault, NamedReason, Report};
 use p3_tree::Plan;
 use std::alloc::Global;
+use std::mem::forget;
 
 /// Explains the plan that a text spells, for the task that the two other texts spell.
 pub(crate) fn explain(alloc: Global, texts: &Texts<'_>) -> Result<Report, Ending>
@@ -39,7 +40,9 @@ pub(crate) fn explain(alloc: Global, texts: &Texts<'_>) -> Result<Report, Ending
 {
     let whole = judged_task(alloc, texts)?;
     let plan = plan_of(alloc, texts.plan)?;
-    report_of(alloc, &whole, &plan)
+    let report = report_of(alloc, &whole, &plan)?;
+    forget((whole, plan));
+    Ok(report)
 }
 
 /// Explains a plan of an accepted task, where each of its steps fits.

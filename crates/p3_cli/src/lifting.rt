@@ -33,6 +33,7 @@ use p3_plans::write_plan;
 use p3_reports::{Rejection, Report};
 use p3_tree::Task;
 use std::alloc::Global;
+use std::mem::forget;
 
 /// The text of a lifted plan, and the report.
 #[derive(Drop)]
@@ -73,6 +74,8 @@ pub(crate) fn lift(alloc: Global, texts: &Texts<'_>) -> Result<Lifting, Ending>
         Err(fail) => return Err(unlifted(&fail)),
     };
     let made = lifting_of(alloc, &source, &lifted)?;
+    forget((source, written));
+    forget((plan, lifted));
     Ok(made)
 }
 

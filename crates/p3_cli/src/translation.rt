@@ -26,6 +26,7 @@ use p3_formula::Target;
 use p3_reports::Report;
 use p3_writer::{write_domain, write_problem};
 use std::alloc::Global;
+use std::mem::forget;
 
 /// The texts of a translation of a task, and the report.
 #[derive(Drop)]
@@ -63,6 +64,7 @@ pub(crate) fn translate(alloc: Global, texts: &Texts<'_>) -> Result<Translation,
     let task = spelled_task(alloc, Side::Source, texts)?;
     let whole = accepted(alloc, Side::Source, texts, task)?;
     let made = translation_of(alloc, &whole)?;
+    forget(whole);
     Ok(made)
 }
 
@@ -77,7 +79,9 @@ fn translation_of(alloc: Global, whole: &Whole) -> Result<Translation, NoMemory>
         report_text made.report ≡ compiled_lines whole.now.checked.task) }
 {
     let target = compile(alloc, whole.ground_task(), whole.weights())?;
-    written(alloc, whole, &target)
+    let made = written(alloc, whole, &target)?;
+    forget(target);
+    Ok(made)
 }
 
 /// Writes a target of a task of which nothing is refused, and makes the report.

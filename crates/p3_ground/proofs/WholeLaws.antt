@@ -227,3 +227,10 @@ marked-more set kept kept' yielded rest items step left left' mark are before is
           ∙ sym (filter-append (λ (made : GroundStep). may_hold set made.pre) yielded (step ∷ [])),
       behind ∙ ap (drop 1) marks,
     )
+
+-- where all are marked, none is left out
+pub all-marked : (set : forms.State) (steps : List GroundStep) → list_all (λ mark. mark) (steps_that_may set steps) ≡ true → steps ≡ steps_over set steps
+all-marked set [] all = refl
+all-marked set (step ∷ steps) all =
+    let parts = and_parts (may_hold set step.pre) (list_all (λ mark. mark) (steps_that_may set steps)) all in
+    ap (λ kept. step ∷ kept) (all-marked set steps parts.1) ∙ (λ i. if sym parts.0 i then step ∷ steps_over set steps else steps_over set steps)

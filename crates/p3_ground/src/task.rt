@@ -2,6 +2,7 @@
 
 ghost use Rattle.std.specs.Prelude.{◌≡◌, ◌++◌, ◌∷◌, [], false, drop as drop_first, if◌then◌else◌};
 ghost use Rattle.std.specs.Prelude.{slice_index_or, IfOk, IfErr, OnOk};
+ghost use Rattle.std.specs.List.{list_all};
 ghost use Rattle.p3_reach.specs.Closed.{steps_that_may};
 ghost use Rattle.p3_formula.specs.Forms.{State};
 ghost use Rattle.p3_ground.specs.Pruned.{pruned, steps_over};
@@ -52,8 +53,15 @@ fn behind_first(marks: &[bool]) -> &[bool]
     }
 }
 
-/// The steps that are marked.
-fn marked_steps(
+/// Tells whether all marks are set.
+fn are_all_set(marks: &[bool]) -> bool
+    ensures { result ≡ list_all (λ mark. mark) marks.now }
+{
+    marks.iter().all(|mark| *mark)
+}
+
+/// Takes the marked steps one by one.
+fn sifted_steps(
     alloc: Global,
     steps: List<GroundStep>,
     marks: &[bool],
@@ -68,6 +76,21 @@ fn marked_steps(
         left = behind_first(left);
     }
     Ok(kept)
+}
+
+/// Gives the steps that are marked. Where all are, they stay where they lie.
+fn marked_steps(
+    alloc: Global,
+    steps: List<GroundStep>,
+    marks: &[bool],
+) -> Result<List<GroundStep>, NoMemory>
+    ensures { IfOk result (λ kept. (set : State) → marks.now ≡ steps_that_may set steps
+        → kept ≡ steps_over set steps) }
+{
+    if are_all_set(marks) {
+        return Ok(steps);
+    }
+    sifted_steps(alloc, steps, marks)
 }
 
 /// Takes the steps out.

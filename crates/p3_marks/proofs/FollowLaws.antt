@@ -142,7 +142,7 @@ module _ (readers : List (List Reader)) (effects : List Change) (place : ℕ) (w
   abbrev change : Change
   change = get_or effects place one
 
-  named_more : named_by readers (take (place + 1) effects) ≡ named_by readers (take place effects) ++ readers_at readers change.atom
+  pub named_more : named_by readers (take (place + 1) effects) ≡ named_by readers (take place effects) ++ readers_at readers change.atom
   named_more =
       let each = λ (c : Change). readers_at readers c.atom in
       ap (flat_map each) (take_more effects place one within)

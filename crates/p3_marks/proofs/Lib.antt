@@ -2,4 +2,5 @@ pub mod PlaceLaws
 pub mod MarkLaws
 pub mod ShownLaws
 pub mod FollowLaws
+pub mod PendingLaws
 pub mod ReasonLaws

@@ -15,7 +15,7 @@ use crate::group::Group;
 use crate::reasons::{Owner, push_reasons};
 use p3_base::{List, NoMemory, Reason, as_number};
 use p3_formula::{Bits, Change, GroundModal, GroundTask};
-use p3_run::{Reader, modal_at, modals_at, readers_of};
+use p3_run::{Pending, Reader, modal_at, modals_at, readers_of};
 use std::alloc::Global;
 use std::marker::Model;
 
@@ -23,6 +23,8 @@ use std::marker::Model;
 #[derive(Drop)]
 pub struct Marks {
     readers: Vec<List<Reader>>,
+    // The atoms of a step whose readers have still to follow.
+    pending: Pending,
     // Those of the hard constraints, and behind them those of each instance.
     groups: Vec<Group>,
 }
@@ -51,8 +53,13 @@ impl Marks {
         ensures { IfOk result (marked.AreMarks task.now (task.now.initial ∷ [])) }
     {
         let readers = readers_of(alloc, task)?;
+        let pending = Pending::of(alloc, task.atoms)?;
         let groups = groups_of(alloc, task)?;
-        Ok(Marks { readers, groups })
+        Ok(Marks {
+            readers,
+            pending,
+            groups,
+        })
     }
 
     /// The operators that read an atom which a change names are in one state more, at the next
@@ -67,6 +74,7 @@ impl Marks {
             &mut self.groups,
             task,
             self.readers.as_slice(),
+            &mut self.pending,
             effects,
             state,
             next,
@@ -173,11 +181,13 @@ fn follow_atom(
     renew_all(groups, task, readers[atom].items(), state, next);
 }
 
-/// The operators that read an atom which a change names are in one state more.
+/// The operators that read an atom which a change names are in one state more. Each atom is looked
+/// at once, however many changes name it.
 fn follow_all(
     groups: &mut Vec<Group>,
     task: &GroundTask,
     readers: &[List<Reader>],
+    pending: &mut Pending,
     effects: &[Change],
     state: &Bits,
     next: u32,
@@ -190,9 +200,12 @@ fn follow_all(
         groups.old.items (marked.named_by readers.now effects.now) }
     ensures can { CanMark task.now groups.new.items }
 {
+    pending.name_all(effects);
     for place in 0..effects.len() {
         let atom = effects[place].atom;
-        follow_atom(groups, task, readers, atom, state, next);
+        if pending.take(atom) {
+            follow_atom(groups, task, readers, atom, state, next);
+        }
     }
 }
 

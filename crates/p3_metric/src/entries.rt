@@ -59,6 +59,13 @@ pub(crate) fn is_within_bound(number: i128) -> bool
     number < WEIGHT_BOUND && -WEIGHT_BOUND < number
 }
 
+/// Makes entries without any.
+pub(crate) fn no_entries<'t>(alloc: Global, key: Key) -> Entries<'t>
+    ensures { (name : List ℕ) → number_at result name ≡ pos 0 }
+{
+    IndexMap::with_hasher(alloc, key)
+}
+
 /// Adds to the number of the name, and says whether the sum is below the bound of weights.
 fn add<'t>(entries: &mut Entries<'t>, name: &'t [u8], number: i128) -> Result<bool, NoMemory>
     requires fits { unsigned_abs (number_at entries.old name.now +ℤ number) < 2 ^ 127 }

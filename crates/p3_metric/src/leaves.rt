@@ -1,22 +1,13 @@
 //! The forms of numbers, counts and the total cost.
 
-ghost use Rattle.std.specs.Prelude.{◌≡◌, ℕ, List, pos, true, false, IfOk};
-ghost use Rattle.p3_metric.specs.Entries.{number_at};
+ghost use Rattle.std.specs.Prelude.{◌≡◌, pos, true, false, IfOk};
 ghost use Rattle.p3_metric.specs.Forms.{IsLeaf, nothing_each, one_each};
 
-use crate::entries::{Entries, one_entry};
+use crate::entries::{no_entries, one_entry};
 use crate::linear::Linear;
-use indexmap::IndexMap;
 use p3_base::NoMemory;
 use p3_names::Key;
 use std::alloc::Global;
-
-/// Entries without any.
-fn no_entries<'t>(alloc: Global, key: Key) -> Entries<'t>
-    ensures { (name : List ℕ) → number_at result name ≡ pos 0 }
-{
-    IndexMap::with_hasher(alloc, key)
-}
 
 /// The form of a number.
 pub(crate) fn constant<'t>(alloc: Global, key: Key, digits: u64, places: u32) -> Linear<'t>

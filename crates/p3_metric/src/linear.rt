@@ -37,7 +37,7 @@ ghost use Rattle.p3_metric.specs.Forms.{
   IsSum,
 };
 
-use crate::entries::{Entries, Judged, combined, is_within_bound, scaled};
+use crate::entries::{Entries, Judged, combined, is_within_bound, no_entries, scaled};
 use p3_base::NoMemory;
 use std::alloc::Global;
 
@@ -191,12 +191,26 @@ pub(crate) fn plus<'t>(
     Ok(measure(form, within))
 }
 
-/// The numbers, each times the factor.
+/// Makes the numbers, each times 0, without an entry: else a product of many zeros would take each
+/// entry once for each of them.
+fn cleared<'t>(alloc: Global, entries: &Entries<'t>) -> Judged<'t>
+    ensures { IsJudged (products (pos 0) (number_at entries.now)) result }
+{
+    Judged {
+        entries: no_entries(alloc, *entries.hasher()),
+        within: true,
+    }
+}
+
+/// Multiplies each of the numbers by the factor.
 fn multiplied<'t>(alloc: Global, entries: Entries<'t>, factor: i128) -> Result<Judged<'t>, NoMemory>
     requires fits { AreBelow (2 ^ 126) (products factor (number_at entries)) }
     requires within { AreWithin (number_at entries) }
     ensures { IfOk result (IsJudged (products factor (number_at entries.entry))) }
 {
+    if factor == 0 {
+        return Ok(cleared(alloc, &entries));
+    }
     if factor == 1 {
         Ok(Judged {
             entries,

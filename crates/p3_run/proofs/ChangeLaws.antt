@@ -23,7 +23,7 @@ module _ (before : State) (effects : List Change) (place : ℕ) (within : place 
       ∙ get_or-map (found_in before) effects place one none within
 
   module _ (readers : List (List Reader)) (state : State) where
-    touched_more : touched readers before state (take (place + 1) effects) ≡ touched readers before state (take place effects) ++ touched_at readers state (is_set before change.atom) change.atom
+    pub touched_more : touched readers before state (take (place + 1) effects) ≡ touched readers before state (take place effects) ++ touched_at readers state (is_set before change.atom) change.atom
     touched_more =
         let each = λ (c : Change). touched_at readers state (is_set before c.atom) c.atom in
         ap (flat_map each) (take_more effects place one within)

@@ -29,7 +29,7 @@ use Rattle.p3_run.proofs.RenewLaws.{shape_kept}
 use Rattle.p3_run.proofs.StageLaws.{stage_next, stage_twice, stage_stays}
 
 -- the stage of the operator that reads
-abbrev stage_in : List Watch → Reader → Stage
+abbrev pub stage_in : List Watch → Reader → Stage
 stage_in watches reader = stage_at (watch_at watches reader.group).stages reader.place
 
 apart : (a b : Bool) → (a && b) ≡ false → (a ≡ true) → b ≡ false
@@ -153,7 +153,7 @@ same_names G V W (suc k) = by G.soft k where
 -- ---- the touched operators
 
 module _ (G : GroundTask) (readers : List (List Reader)) (are : AreReaders G readers) (before next : State) where
-  at_within : (set : Bool) (atom : ℕ) → All (IsReader G) (touched_at readers next set atom)
+  pub at_within : (set : Bool) (atom : ℕ) → All (IsReader G) (touched_at readers next set atom)
   at_within set atom = by (differ (is_set next atom) set) where
     by : (b : Bool) → All (IsReader G) (if b then readers_at readers atom else [])
     by true = are.within atom

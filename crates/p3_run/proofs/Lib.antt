@@ -12,3 +12,4 @@ pub mod RunLaws
 pub mod TellLaws
 pub mod RanLaws
 pub mod UnmetLaws
+pub mod PendingLaws

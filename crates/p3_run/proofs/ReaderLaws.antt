@@ -1,25 +1,23 @@
 -- Where an operator is filed with each of its atoms, it stands with each atom that it reads.
-use Rattle.std.proofs.Common.{◌≡◌, ◌∙◌, ◌≢◌, ℕ, zero, suc, ◌+◌, ◌<◌, ◌≤◌, ◌==◌, Bool, true, false, not, ◌&&◌, ◌||◌, List, [], ◌∷◌, ◌++◌, length, refl, sym, ap, subst, arith, length-set, ◌-◌}
+use Rattle.std.proofs.Common.{◌≡◌, ◌∙◌, ◌≢◌, ℕ, zero, suc, ◌+◌, ◌<◌, ◌≤◌, ◌==◌, Bool, true, false, ◌||◌, List, [], ◌∷◌, ◌++◌, length, refl, sym, ap, subst, arith, length-set, ◌-◌}
 use Rattle.std.specs.Prelude.{◌⊎◌, replicate, slice_get, if◌then◌else◌}
-use Rattle.std.specs.List.{All, flat_map, list_any, list_all}
+use Rattle.std.specs.List.{All, list_any, list_all}
 use Rattle.std.proofs.lemmas.Bool.{cases_eq, cases_lt, or_left, or_right, or_cases, eqb-true, and_from}
 use Rattle.std.proofs.lemmas.List.{length-replicate, get_or-set_same, get_or-set_other, set_past, get_or-replicate}
 use Rattle.std.proofs.lemmas.List.Elements.{All-append, All-nil}
-use Rattle.std.proofs.lemmas.List.Folds.{list_any-append, list_all-append, list_all-map}
+use Rattle.std.proofs.lemmas.List.Folds.{list_any-append, list_all-map}
 use Rattle.std.proofs.lemmas.List.Sums.{AllPass-from_list_all}
 use Rattle.std.proofs.Math.ListN.{get_or-eq_default}
 use mathlib.Core.Logic.{inl, inr, ⊎_elim}
 use Rattle.p3_formula.specs.Conditions.{HasAtomsBelow}
-use Rattle.p3_formula.specs.Forms.{is_other}
-use Rattle.p3_formula.specs.Modals.{forms_of, is_read, is_modal_below, IsModalBelow}
+use Rattle.p3_formula.specs.Modals.{is_modal_below, IsModalBelow}
 use Rattle.p3_formula.specs.declared.form.Form.TheVariants.{True}
-use Rattle.p3_formula.specs.declared.modal.GroundModal.{GroundModal}
 use Rattle.p3_formula.specs.declared.modal.GroundModal.TheVariants.{AtEnd}
 use Rattle.p3_formula.specs.declared.modal.GroundSoft.{GroundSoft}
 use Rattle.p3_formula.specs.declared.task.GroundTask.{GroundTask}
 use Rattle.p3_formula.proofs.ReadAtoms.{read_below, same_number}
 use Rattle.p3_run.specs.Groups.{AreModalsBelow, modals_of, modals_at, modal_at, IsReader}
-use Rattle.p3_formula.specs.AtomLists.{atoms_of, modal_atoms}
+use Rattle.p3_formula.specs.AtomLists.{modal_atoms}
 use Rattle.p3_run.specs.Readers.{readers_at, filed, filed_all, is_same, IsFiled, IsBefore, AreFiledTo, AreReaders, is_same_by, ends, with_reader}
 use Rattle.p3_run.specs.declared.readers.Reader.{Reader}
 use Rattle.p3_formula.proofs.AtomLists.{read_named}

@@ -5,4 +5,5 @@ pub mod Groups
 pub mod Readers
 pub mod Changing
 pub mod Steps
+pub mod Pending
 pub mod Kept

@@ -10,6 +10,7 @@ ghost use Rattle.p3_run.specs.Groups.{CanRenew, renewed_all};
 ghost use Rattle.p3_run.specs.Readers.{AreReaders};
 
 use crate::groups::{Group, renew_all};
+use crate::pending::Pending;
 use crate::readers::Reader;
 use crate::tallies::Tally;
 use p3_base::List;
@@ -114,7 +115,7 @@ fn follow_atom(
     }
 }
 
-/// The operators that read an atom that has changed follow.
+/// The operators that read an atom that has changed follow, once however many changes name it.
 pub(crate) fn follow(
     groups: &mut Vec<Group>,
     tally: &mut Tally,
@@ -122,6 +123,7 @@ pub(crate) fn follow(
     by_name: &[u64],
     state: &Bits,
     readers: &[List<Reader>],
+    pending: &mut Pending,
     all: &[Found],
     effects: &[Change],
 )
@@ -135,9 +137,12 @@ pub(crate) fn follow(
         (touched readers.now before state.now effects.now) }
     ensures can { CanRenew task.now by_name.now state.now groups.new.items tally.new }
 {
+    pending.name_all(effects);
     for place in 0..effects.len() {
         let set = all[place].set;
         let atom = effects[place].atom;
-        follow_atom(groups, tally, task, by_name, state, readers, set, atom);
+        if pending.take(atom) {
+            follow_atom(groups, tally, task, by_name, state, readers, set, atom);
+        }
     }
 }

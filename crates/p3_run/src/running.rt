@@ -12,6 +12,7 @@ use crate::answers::{Stepped, Verdict};
 use crate::changing::{Found, change_state, follow};
 use crate::finding::step_at;
 use crate::groups::{Group, groups_of, tally_of};
+use crate::pending::Pending;
 use crate::preferring::count_step;
 use crate::readers::{Reader, readers_of};
 use crate::tallies::Tally;
@@ -28,6 +29,8 @@ pub struct GroundRun<'a> {
     weights: &'a Weights,
     // For each atom the operators that read it.
     readers: Vec<List<Reader>>,
+    // The atoms of a step whose readers have still to follow.
+    pending: Pending,
     // Room for what the changes of a step find.
     found: Vec<Found>,
     // The numbers of the steps done, of which there are so many, and room for all others.
@@ -81,6 +84,7 @@ impl<'a> GroundRun<'a> {
     {
         let by_name = bounded(weights.by_name.items());
         let readers = readers_of(alloc, task)?;
+        let pending = Pending::of(alloc, task.atoms)?;
         let found = room_for(alloc, task.steps.items())?;
         let done = no_steps(alloc)?;
         let state = task.initial.copied(alloc)?;
@@ -91,6 +95,7 @@ impl<'a> GroundRun<'a> {
             task,
             weights,
             readers,
+            pending,
             found,
             done,
             count: 0,
@@ -128,6 +133,7 @@ impl<'a> GroundRun<'a> {
             self.weights.by_name.items(),
             &self.state,
             self.readers.as_slice(),
+            &mut self.pending,
             self.found.as_slice(),
             effects,
         );

@@ -3,7 +3,7 @@ use Rattle.std.specs.Vec.Iter.{into_iter_items, into_iter_len}
 use Rattle.p3_formula.specs.Forms.{State}
 use Rattle.p3_reach.specs.Closed.{steps_that_may}
 use Rattle.p3_ground.specs.Pruned.{steps_over}
-use Rattle.p3_ground.proofs.task.marked_steps.Given as goal
+use Rattle.p3_ground.proofs.task.sifted_steps.Given as goal
 
 -- the steps passed are kept where they are marked, and the marks of those that are left are left
 abbrev pub invariant-loop-step : goal.invariant-loop-step
