@@ -1,4 +1,4 @@
-use Rattle.std.proofs.Common.{◌∙◌, ◌++◌, ap, sym}
+use Rattle.std.proofs.Common.{◌∙◌, ◌++◌, ap, arith, sym}
 use Rattle.std.specs.Prelude.{flat_map}
 use Rattle.std.proofs.lemmas.List.{take_all}
 use Rattle.std.proofs.lemmas.Option.{get_or_from_slice_get}
@@ -13,7 +13,7 @@ loop-place-preserved c =
     let typings = typings_of c.args.declarations.now.entries.items in
     let kind = c.at.result.now in
     c.in_ok-push_numbers.ensures ∙ ap (λ front. front ++ numbers_under typings kind) c.loop-place.invariant
-    ∙ sym (flat-more (numbers_under typings) c.args.self.now.found c.loop-place.place kind c.loop-place-test.true (sym (get_or_from_slice_get c.args.self.now.found c.loop-place.place kind kind c.at.ensures)))
+    ∙ sym (flat-more (numbers_under typings) c.args.self.now.found c.loop-place.place kind (omega (arith, c.loop-place-test.true, c.len-place-end.ensures)) (sym (get_or_from_slice_get c.args.self.now.found c.loop-place.place kind kind c.at.ensures)))
 
 pub returns : goal.returns
 returns c =
@@ -21,4 +21,4 @@ returns c =
     let typings = typings_of c.args.declarations.now.entries.items in
     fitting-found self.task.now self.types.now c.args.declarations.now.entries.items self.found c.loop-place.numbers.items
     (λ name. found-apart _ _ _ _ c.requires.all (none-spanned (is_in (place_of self.order.value.names name)) self.spans.items c.requires.spans) (self.told name))
-    (c.loop-place.invariant ∙ ap (flat_map (numbers_under typings)) (take_all c.loop-place.place self.found c.loop-place-test.false))
+    (c.loop-place.invariant ∙ ap (flat_map (numbers_under typings)) (take_all c.loop-place.place self.found (omega (arith, c.loop-place-test.false, c.len-place-end.ensures))))
