@@ -7,3 +7,5 @@ pub mod ReachLemmas
 pub mod SpanLemmas
 pub mod PlaceLemmas
 pub mod UseLemmas
+pub mod TypingLemmas
+pub mod RisingLemmas

@@ -9,3 +9,4 @@ pub mod Reaches
 pub mod Spans
 pub mod Uses
 pub mod Preferences
+pub mod Typings

@@ -228,9 +228,9 @@ struct Down<'t> {
 pub struct Below<'t> {
     task: &'t Task,
     types: &'t [Ref],
-    all: bool,
-    found: Words<'t>,
-    spans: Vec<Span>,
+    pub(crate) all: bool,
+    pub(crate) found: Words<'t>,
+    pub(crate) spans: Vec<Span>,
     order: Rc<Order<'t>>,
     ghost told: { IsBelowTest task.now types.now
         (λ name. all || is_found order.value.names found spans.items name) },

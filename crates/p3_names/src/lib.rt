@@ -1,6 +1,7 @@
 //! Names, looked up by hashing, and variables.
 #![tactic(auto)]
 
+mod declarations;
 mod digests;
 mod keys;
 mod kinds;
@@ -16,6 +17,7 @@ mod uses;
 mod walk;
 mod words;
 
+pub use declarations::{Declaration, Declarations};
 pub use digests::{
     item_key, kind_digest, list_key, listed_key, name_key, object_key, parameter_key, value_key,
 };
