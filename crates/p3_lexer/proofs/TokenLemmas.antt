@@ -80,6 +80,32 @@ module _ (is_comment : Bool) (text : List ℕ) (at : ℕ) where
   unfolding gap_len
   gap_end_at passed = at_drop_all (gap_len is_comment) text at passed
 
+-- a blank, and the `;` that opens a comment
+pub blank_passed : (text : List ℕ) (at : ℕ) → at < length text → is_blank (get_or text at 0) ≡ true → gap_len false (drop at text) ≡ 1 + gap_len false (drop (at + 1) text)
+blank_passed text at within is = gap_more_at false text at within (blank_between (get_or text at 0) is) ∙ ap (λ (b : Bool). 1 + gap_len b (drop (at + 1) text)) (blank_opens_none (get_or text at 0) is)
+  where
+    blank_between : (byte : ℕ) → is_blank byte ≡ true → is_between byte ≡ true
+    blank_between byte is = grind (arith, nat_tests)
+
+    blank_opens_none : (byte : ℕ) → is_blank byte ≡ true → (byte == 59) ≡ false
+    blank_opens_none byte is = grind (arith, nat_tests)
+
+pub comment_opens : (text : List ℕ) (at : ℕ) → at < length text → get_or text at 0 ≡ 59 → gap_len false (drop at text) ≡ 1 + gap_len true (drop (at + 1) text)
+comment_opens text at within is = gap_more_at false text at within (ap is_between is) ∙ ap (λ (b : ℕ). 1 + gap_len (b == 59) (drop (at + 1) text)) is
+
+-- a comment ends behind a line feed, and goes on behind each other byte
+pub comment_ends : (text : List ℕ) (at : ℕ) → at < length text → get_or text at 0 ≡ 10 → gap_len true (drop at text) ≡ 1 + gap_len false (drop (at + 1) text)
+comment_ends text at within is = gap_more_at true text at within refl ∙ ap (λ (b : ℕ). 1 + gap_len (is_comment_after true b) (drop (at + 1) text)) is
+
+pub comment_goes_on : (text : List ℕ) (at : ℕ) → at < length text → get_or text at 0 ≢ 10 → gap_len true (drop at text) ≡ 1 + gap_len true (drop (at + 1) text)
+comment_goes_on text at within other = gap_more_at true text at within refl ∙ ap (λ (b : Bool). 1 + gap_len b (drop (at + 1) text)) (goes_on (get_or text at 0) other)
+  where
+    goes_on : (byte : ℕ) → byte ≢ 10 → is_comment_after true byte ≡ true
+    goes_on byte other = grind (arith, nat_tests, other)
+
+pub no_gap_at : (text : List ℕ) (at : ℕ) → at < length text → is_blank (get_or text at 0) ≡ false → get_or text at 0 ≢ 59 → gap_len false (drop at text) ≡ 0
+no_gap_at text at within no_blank other = gap_none_at false text at within (grind (arith, nat_tests, no_blank, other))
+
 pub tokens_behind : (text : List ℕ) (at place : ℕ) → place ≡ at + gap_len false (drop at text) → tokens_from false at (drop at text) ≡ tokens_from false place (drop place text)
 tokens_behind text at place is = tokens_gap false at (drop at text) ∙ (λ i. tokens_from false (at + gap_len false (drop at text)) (drop-drop (gap_len false (drop at text)) at text i)) ∙ ap (λ (n : ℕ). tokens_from false n (drop n text)) (sym is)
 

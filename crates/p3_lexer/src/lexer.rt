@@ -1,6 +1,7 @@
 //! The tokens of a text, one after another.
 
-ghost use Rattle.std.specs.Prelude.{◌≡◌, ◌≤◌, ◌<◌, ◌+◌, drop, false, length, IfSome};
+ghost use Rattle.std.specs.Prelude.{◌≡◌, ◌≤◌, ◌<◌, ◌+◌, drop, false, length, codes, IfSome};
+ghost use Rattle.std.specs.Str.{bytes_eq};
 ghost use Rattle.p3_base.specs.declared.refusal.Side.TheVariants.{Written};
 ghost use Rattle.p3_tree.specs.Tokens.{tokens_from};
 ghost use Rattle.p3_tree.specs.Sides.{byte_limit};
@@ -84,12 +85,26 @@ impl<'a> Lexer<'a> {
         let Next::Token { text, .. } = self.next() else {
             return None;
         };
-        if text == b"(".as_slice() || text == b")".as_slice() {
+        if is_open(text) || is_close(text) {
             None
         } else {
             Some(text)
         }
     }
+}
+
+/// Whether a token is `(`.
+pub fn is_open(token: &[u8]) -> bool
+    ensures { result ≡ bytes_eq token.now (codes "(") }
+{
+    matches!(token, [b'('])
+}
+
+/// Whether a token is `)`.
+pub fn is_close(token: &[u8]) -> bool
+    ensures { result ≡ bytes_eq token.now (codes ")") }
+{
+    matches!(token, [b')'])
 }
 
 /// The next token from a place on, and the place behind it.

@@ -4,4 +4,4 @@
 mod lexer;
 mod place;
 
-pub use lexer::{Lexer, Next};
+pub use lexer::{Lexer, Next, is_close, is_open};

@@ -1,8 +1,8 @@
 //! Where tokens begin and end in a text.
 
-ghost use Rattle.std.specs.Prelude.{◌≡◌, ◌≤◌, ◌<◌, ◌+◌, drop, length, slice_index, false, ◌||◌};
+ghost use Rattle.std.specs.Prelude.{◌≡◌, ◌≤◌, ◌<◌, ◌+◌, drop, length, slice_index, true, false};
 ghost use Rattle.std.specs.List.{prefix_len};
-ghost use Rattle.p3_tree.specs.Tokens.{is_blank, is_of_word, is_comment_after};
+ghost use Rattle.p3_tree.specs.Tokens.{is_blank, is_of_word};
 ghost use Rattle.p3_lexer.specs.Lexing.{is_between, gap_len};
 
 fn is_blank_byte(byte: u8) -> bool
@@ -14,25 +14,23 @@ fn is_blank_byte(byte: u8) -> bool
 fn is_word_byte(byte: u8) -> bool
     ensures { result ≡ is_of_word byte }
 {
-    matches!(byte, 33..=126) && !matches!(byte, b'(' | b')' | b';')
+    matches!(byte, b'<'..=b'~' | b'*'..=b':' | b'!'..=b'\'')
 }
 
-/// Whether the byte is no part of a token: it is in a comment, or a blank, or opens a comment.
-fn is_between_tokens(is_comment: bool, byte: u8) -> bool
-    ensures { result ≡ (is_comment || is_between byte) }
+/// The place behind the comment that is open at a place.
+fn comment_end(text: &[u8], at: usize) -> usize
+    requires within { at ≤ length text.now }
+    ensures end { result + gap_len false (drop result text.now)
+        ≡ at + gap_len true (drop at text.now) }
+    ensures within { result ≤ length text.now }
+    ensures further { at ≤ result }
 {
-    is_comment || is_blank_byte(byte) || byte == b';'
-}
-
-/// Whether a comment is open behind the byte.
-fn is_comment_behind(is_comment: bool, byte: u8) -> bool
-    ensures { result ≡ is_comment_after is_comment byte }
-{
-    if is_comment {
-        byte != b'\n'
-    } else {
-        byte == b';'
+    for place in at..text.len() {
+        if text[place] == b'\n' {
+            return place + 1;
+        }
     }
+    text.len()
 }
 
 /// The place behind the blanks and comments that stand from a place on.
@@ -42,14 +40,17 @@ pub(crate) fn gap_end(text: &[u8], at: usize) -> usize
     ensures within { result ≤ length text.now }
     ensures stands { result < length text.now → is_between (slice_index text.now result) ≡ false }
 {
-    let mut is_comment = false;
-    for place in at..text.len() {
-        if !is_between_tokens(is_comment, text[place]) {
+    let mut place = at;
+    while place < text.len() {
+        if is_blank_byte(text[place]) {
+            place += 1;
+        } else if text[place] == b';' {
+            place = comment_end(text, place + 1);
+        } else {
             return place;
         }
-        is_comment = is_comment_behind(is_comment, text[place]);
     }
-    text.len()
+    place
 }
 
 /// The place behind the bytes of words that stand from a place on.

@@ -1,16 +1,28 @@
-use Rattle.std.proofs.Common.{sym, ◌∙◌, arith}
-use Rattle.p3_lexer.proofs.TokenLemmas.{gap_more_at, gap_none_at, gap_end_at}
+use Rattle.std.proofs.Common.{false, sym, ◌∙◌, arith}
+use Rattle.p3_lexer.proofs.TokenLemmas.{blank_passed, comment_opens, no_gap_at, gap_end_at}
 use Rattle.p3_lexer.proofs.place.gap_end.Goals as goal
 
-pub returns-then-not-is_between_tokens-clause-end : goal.returns-then-not-is_between_tokens-clause-end
-returns-then-not-is_between_tokens-clause-end c =
-    omega (arith, c.loop-place.invariant, gap_none_at c.loop-place.is_comment c.args.text.now c.loop-place.place c.loop-place-test.true (sym c.is_between_tokens.ensures ∙ c.if-not-is_between_tokens.true))
+pub loop-place-preserved-then-is_blank_byte : goal.loop-place-preserved-then-is_blank_byte
+loop-place-preserved-then-is_blank_byte c =
+    let passed = blank_passed c.args.text.now c.loop-place.place c.loop-place-test.true (sym c.is_blank_byte.ensures ∙ c.if-is_blank_byte.true) in
+    record {
+      within = omega (arith, c.loop-place-test.true);
+      gap = omega (arith, c.loop-place.invariant.gap, passed);
+    }
 
 pub loop-place-preserved : goal.loop-place-preserved
 loop-place-preserved c =
-    rw c.is_comment_behind-is_comment.ensures
-    (omega (arith, c.loop-place.invariant, gap_more_at c.loop-place.is_comment c.args.text.now c.loop-place.place c.loop-place-test.true (sym c.is_between_tokens.ensures ∙ c.if-not-is_between_tokens.false)))
+    let opened = comment_opens c.args.text.now c.loop-place.place c.loop-place-test.true c.if-text-place-eq59.true in
+    record {
+      within = c.comment_end-place.ensures.within;
+      gap = omega (arith, c.loop-place.invariant.gap, opened, c.comment_end-place.ensures.end);
+    }
+
+pub returns-else-text-place-eq59-clause-end : goal.returns-else-text-place-eq59-clause-end
+returns-else-text-place-eq59-clause-end c =
+    let none = no_gap_at c.args.text.now c.loop-place.place c.loop-place-test.true (sym c.is_blank_byte.ensures ∙ c.if-is_blank_byte.false) c.if-text-place-eq59.false in
+    omega (arith, c.loop-place.invariant.gap, none)
 
 pub returns-clause-end : goal.returns-clause-end
 returns-clause-end c =
-    omega (arith, c.loop-place.invariant, gap_end_at c.loop-place.is_comment c.args.text.now c.loop-place.place c.loop-place-test.false)
+    omega (arith, c.loop-place.invariant.gap, gap_end_at false c.args.text.now c.loop-place.place c.loop-place-test.false)

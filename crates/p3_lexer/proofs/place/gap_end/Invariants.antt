@@ -1,7 +1,13 @@
-use Rattle.std.proofs.Common.{◌≡◌, ◌+◌, false, drop}
+use Rattle.std.proofs.Common.{◌≡◌, ◌≤◌, ◌+◌, ◌-◌, false, drop, length}
 use Rattle.p3_lexer.specs.Lexing.{gap_len}
 use Rattle.p3_lexer.proofs.place.gap_end.Given as goal
 
--- each byte passed is a blank or of a comment
+-- blanks and whole comments were passed
 abbrev pub invariant-loop-place : goal.invariant-loop-place
-invariant-loop-place l = l.place + gap_len l.is_comment (drop l.place l.text) ≡ l.at + gap_len false (drop l.at l.text)
+invariant-loop-place l = record {
+  within : l.place ≤ length l.text;
+  gap : l.place + gap_len false (drop l.place l.text) ≡ l.at + gap_len false (drop l.at l.text);
+}
+
+abbrev pub decreases-loop-place : goal.decreases-loop-place
+decreases-loop-place l = length l.text - l.place
