@@ -154,3 +154,9 @@ pub next_choices : (pre : Form) (literals : List Literal) (i : ℕ) (literal : L
 next_choices pre literals i literal within is old new are halves =
     subst (λ list. AreChoices pre list new) (sym (ap conditions_in (front literals i literal within is) ∙ map-append (λ (one : Literal). one.holds) (take i literals) (literal ∷ [])))
     (choices-push pre (conditions_in (take i literals)) literal.holds old new are halves)
+
+-- the loop that makes the literals
+pub next_literal : (forms : List Form) (i : ℕ) (form : Form) (literals : List Literal) (literal : Literal) → i < length forms → form ≡ get_or forms i form
+    → conditions_in literals ≡ take i forms → literal.holds ≡ form → conditions_in (literals ++ literal ∷ []) ≡ take (i + 1) forms
+next_literal forms i form literals literal within is are holds =
+    map-append (λ (one : Literal). one.holds) literals (literal ∷ []) ∙ (λ j. are j ++ holds j ∷ []) ∙ sym (front forms i form within is)

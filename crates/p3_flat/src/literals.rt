@@ -28,10 +28,7 @@ fn with_opposite(alloc: Global, condition: &Form) -> Result<Literal, NoMemory>
 }
 
 /// Makes the literals of conditions.
-pub(crate) fn literals_of(
-    alloc: Global,
-    conditions: &List<Form>,
-) -> Result<List<Literal>, NoMemory>
+pub(crate) fn literals_of(alloc: Global, conditions: &List<Form>) -> Result<List<Literal>, NoMemory>
     ensures conditions { IfOk result (λ literals. conditions_in literals ≡ conditions.now) }
     ensures are { IfOk result (All IsLiteral) }
 {

@@ -25,7 +25,8 @@ fn holds(pattern: &[bool], place: Option<usize>) -> bool
 
 /// How many conditions of changes hold.
 fn held(changes: &[Placed], pattern: &[bool]) -> usize
-    ensures { result ≡ count_by (λ (change : Placed). holds_in pattern.now change.place) changes.now }
+    ensures { result
+        ≡ count_by (λ (change : Placed). holds_in pattern.now change.place) changes.now }
 {
     let mut count: usize = 0;
     for change in changes {
@@ -109,11 +110,7 @@ fn is_kept_among(change: &Placed, changes: &[Placed], pattern: &[bool]) -> bool
 
 /// The changes that happen, found without a set of atoms: each that clears an atom is compared with
 /// all of them.
-fn settled_few(
-    alloc: Global,
-    changes: &[Placed],
-    pattern: &[bool],
-) -> Result<Effects, NoMemory>
+fn settled_few(alloc: Global, changes: &[Placed], pattern: &[bool]) -> Result<Effects, NoMemory>
     ensures { IfOk result (λ effects. effects ≡ settled pattern.now changes.now) }
 {
     let mut effects = Vec::with_capacity(alloc, held(changes, pattern))?;

@@ -1,5 +1,6 @@
 use Rattle.std.proofs.Common.{◌<◌, ◌∙◌, length, get_or, ap, sym, subst, []}
-use Rattle.p3_flat.specs.Splitting.{AreChoices}
+use Rattle.std.proofs.lemmas.List.Elements.{All-get_or}
+use Rattle.p3_flat.specs.Splitting.{AreChoices, IsLiteral}
 use Rattle.p3_flat.proofs.ChoiceLemmas.{next_choices, no_conditions}
 use Rattle.p3_flat.proofs.choices.all_choices.Goals as goal
 
@@ -12,3 +13,9 @@ loop-literal-preserved c =
     (subst (λ list. c.loop-literal.literal-index < length list) c.items-literal-items.ensures c.loop-literal-test.true)
     (c.literal-item.is ∙ ap (λ list. get_or list c.loop-literal.literal-index c.literal-item.result) c.items-literal-items.ensures)
     c.loop-literal.made c.in_ok-made-2.made c.loop-literal.invariant c.in_ok-made-2.ensures
+
+pub halves-requires : goal.halves-requires
+halves-requires c =
+    let within = subst (λ list. c.loop-literal.literal-index < length list) c.items-literal-items.ensures c.loop-literal-test.true in
+    let item = c.literal-item.is ∙ ap (λ list. get_or list c.loop-literal.literal-index c.literal-item.result) c.items-literal-items.ensures in
+    subst IsLiteral (sym item) (All-get_or IsLiteral c.args.literals.now c.loop-literal.literal-index c.literal-item.result within c.requires)
