@@ -8,11 +8,12 @@ use Rattle.std.proofs.lemmas.List.{append-nil, append_assoc, length-append, map-
 use Rattle.std.proofs.lemmas.List.Concat.{flat_map-append}
 use Rattle.std.proofs.lemmas.List.Elements.{All-cons, All-head, All-tail, filter-append}
 use Rattle.std.proofs.lemmas.List.Folds.{list_all-append}
-use Rattle.p3_formula.specs.Forms.{HasAtomsOf, State, has_atoms, truth}
+use Rattle.p3_formula.specs.Forms.{State, has_atoms, truth}
 use Rattle.p3_formula.specs.declared.form.Form.{Form}
 use Rattle.p3_flat.proofs.ItemLemmas.{front}
 use Rattle.p3_flat.specs.declared.choices.Choice.{Choice}
-use Rattle.p3_flat.specs.Splitting.{AreChoices, AreHalves, IsExcluded, IsHalf, IsPartOf, agrees, both_ways, has_choice_atoms, is_met, listed, patterns, patterns_of, shown}
+use Rattle.p3_flat.specs.declared.literals.Literal.{Literal}
+use Rattle.p3_flat.specs.Splitting.{AreChoices, AreHalves, IsExcluded, IsHalf, IsLiteral, IsPartOf, both_ways, conditions_in, forms_in, has_choice_atoms, is_met, listed, patterns, patterns_of, shown}
 
 -- ---- parts of lists
 
@@ -53,26 +54,25 @@ shown-append state xs ys = ap patterns_of (filter-append (is_met state) xs ys) �
 
 -- ---- one half
 
-module _ (pre : Form) (choice : Choice) (condition : Form) (holds : Bool) where
-  pub half_excluded : (part : Form) → ((state : State) → truth state part ≡ agrees holds (truth state condition)) → IsExcluded pre choice.parts part → IsHalf pre choice condition holds None
-  half_excluded part is excluded = record {
+module _ (pre : Form) (choice : Choice) (form : Form) (holds : Bool) where
+  pub half_excluded : IsExcluded pre (forms_in choice.parts) form → IsHalf pre choice form holds None
+  half_excluded excluded = record {
     shows = λ state fits. by state fits (is_met state choice) refl;
     part = inl refl;
     atoms = λ allowed own more. refl;
   }
     where
-      by : (state : State) → truth state pre ≡ true → (met : Bool) → is_met state choice ≡ met → [] ≡ cond (met && agrees holds (truth state condition)) ((choice.pattern ++ holds ∷ []) ∷ []) []
-      by state fits true met = ap (λ b. cond b ((choice.pattern ++ holds ∷ []) ∷ []) []) (sym (excluded state fits met) ∙ is state)
+      by : (state : State) → truth state pre ≡ true → (met : Bool) → is_met state choice ≡ met → [] ≡ cond (met && truth state form) ((choice.pattern ++ holds ∷ []) ∷ []) []
+      by state fits true met = ap (λ b. cond b ((choice.pattern ++ holds ∷ []) ∷ []) []) (sym (excluded state fits met))
       by state fits false met = refl
 
-  pub half_made : (part : Form) → ((state : State) → truth state part ≡ agrees holds (truth state condition)) → HasAtomsOf part condition → (made : Choice)
-      → made.pattern ≡ choice.pattern ++ holds ∷ [] → made.parts ≡ choice.parts ++ part ∷ [] → IsHalf pre choice condition holds (Some made)
-  half_made part is reads made named parts = record {
-    shows = λ state fits. let met : is_met state made ≡ (is_met state choice && agrees holds (truth state condition)) = ap (list_all (truth state)) parts ∙ list_all-append (truth state) choice.parts (part ∷ []) ∙ ap (λ b. is_met state choice && b) (and-true (truth state part) ∙ is state) in
-        (λ i. patterns_of (cond (met i) (made ∷ []) [])) ∙ by (is_met state choice && agrees holds (truth state condition));
+  pub half_made : (made : Choice) → made.pattern ≡ choice.pattern ++ holds ∷ [] → forms_in made.parts ≡ forms_in choice.parts ++ form ∷ [] → IsHalf pre choice form holds (Some made)
+  half_made made named parts = record {
+    shows = λ state fits. let met : is_met state made ≡ (is_met state choice && truth state form) = ap (list_all (truth state)) parts ∙ list_all-append (truth state) (forms_in choice.parts) (form ∷ []) ∙ ap (λ b. is_met state choice && b) (and-true (truth state form)) in
+        (λ i. patterns_of (cond (met i) (made ∷ []) [])) ∙ by (is_met state choice && truth state form);
     part = inr ([], (λ i. named i ∷ []), refl);
-    atoms = λ allowed own more. and-true (has_choice_atoms allowed made) ∙ ap (list_all (has_atoms allowed)) parts ∙ list_all-append (has_atoms allowed) choice.parts (part ∷ [])
-        ∙ and_from (list_all (has_atoms allowed) choice.parts) _ own (and-true (has_atoms allowed part) ∙ reads allowed more);
+    atoms = λ allowed own more. and-true (has_choice_atoms allowed made) ∙ ap (list_all (has_atoms allowed)) parts ∙ list_all-append (has_atoms allowed) (forms_in choice.parts) (form ∷ [])
+        ∙ and_from (list_all (has_atoms allowed) (forms_in choice.parts)) _ own (and-true (has_atoms allowed form) ∙ more);
   }
     where
       by : (met : Bool) → patterns_of (cond met (made ∷ []) []) ≡ cond met ((choice.pattern ++ holds ∷ []) ∷ []) []
@@ -84,14 +84,16 @@ module _ (pre : Form) (choice : Choice) (condition : Form) (holds : Bool) where
 pub no_halves : (pre condition : Form) → AreHalves pre condition [] []
 no_halves pre condition = record { shows = λ state fits. refl; part = refl; atoms = λ allowed own more. refl }
 
-module _ (pre condition : Form) (old new : List Choice) (choice : Choice) (without with : Option Choice) (are : AreHalves pre condition old new) (first : IsHalf pre choice condition false without) (second : IsHalf pre choice condition true with) where
-  halves-push : AreHalves pre condition (old ++ choice ∷ []) ((new ++ listed without) ++ listed with)
+module _ (pre : Form) (literal : Literal) (is : IsLiteral literal) (old new : List Choice) (choice : Choice) (without with : Option Choice)
+    (are : AreHalves pre literal.holds old new) (first : IsHalf pre choice literal.fails false without) (second : IsHalf pre choice literal.holds true with) where
+  halves-push : AreHalves pre literal.holds (old ++ choice ∷ []) ((new ++ listed without) ++ listed with)
   halves-push = record {
     shows = λ state fits.
         shown-append state (new ++ listed without) (listed with) ∙ (λ i. shown-append state new (listed without) i ++ shown state (listed with))
         ∙ (λ i. (are.shows state fits i ++ first.shows state fits i) ++ second.shows state fits i)
-        ∙ by state (is_met state choice) (truth state condition) (map (λ pattern. pattern ++ truth state condition ∷ []) (shown state old))
-        ∙ sym (ap (map (λ pattern. pattern ++ truth state condition ∷ [])) (shown-append state old (choice ∷ [])) ∙ map-append (λ pattern. pattern ++ truth state condition ∷ []) (shown state old) (shown state (choice ∷ [])));
+        ∙ (λ i. (map (λ pattern. pattern ++ truth state literal.holds ∷ []) (shown state old) ++ cond (is_met state choice && is.opposite state i) ((choice.pattern ++ false ∷ []) ∷ []) []) ++ cond (is_met state choice && truth state literal.holds) ((choice.pattern ++ true ∷ []) ∷ []) [])
+        ∙ by state (is_met state choice) (truth state literal.holds) (map (λ pattern. pattern ++ truth state literal.holds ∷ []) (shown state old))
+        ∙ sym (ap (map (λ pattern. pattern ++ truth state literal.holds ∷ [])) (shown-append state old (choice ∷ [])) ∙ map-append (λ pattern. pattern ++ truth state literal.holds ∷ []) (shown state old) (shown state (choice ∷ [])));
     part = subst (λ those. IsPartOf those (flat_map both_ways (patterns_of (old ++ choice ∷ [])))) (sym names)
         (subst (IsPartOf ((patterns_of new ++ patterns_of (listed without)) ++ patterns_of (listed with))) (sym ways)
         (part_append (patterns_of new ++ patterns_of (listed without)) (patterns_of (listed with)) (flat_map both_ways (patterns_of old) ++ ((choice.pattern ++ false ∷ []) ∷ [])) ((choice.pattern ++ true ∷ []) ∷ [])
@@ -102,7 +104,7 @@ module _ (pre condition : Form) (old new : List Choice) (choice : Choice) (witho
         let here = sym (and-true (has_choice_atoms allowed choice)) ∙ parts.1 in
         list_all-append (has_choice_atoms allowed) (new ++ listed without) (listed with)
         ∙ and_from (list_all (has_choice_atoms allowed) (new ++ listed without)) _
-        (list_all-append (has_choice_atoms allowed) new (listed without) ∙ and_from (list_all (has_choice_atoms allowed) new) _ (are.atoms allowed parts.0 more) (first.atoms allowed here more))
+        (list_all-append (has_choice_atoms allowed) new (listed without) ∙ and_from (list_all (has_choice_atoms allowed) new) _ (are.atoms allowed parts.0 more) (first.atoms allowed here (is.atoms allowed more)))
         (second.atoms allowed here more);
   }
     where
@@ -121,12 +123,12 @@ module _ (pre condition : Form) (old new : List Choice) (choice : Choice) (witho
       by state false truth_here front = append-nil (front ++ [])
 
 -- the loop over the choices
-pub next_halves : (pre condition : Form) (choices : List Choice) (i : ℕ) (choice : Choice) → i < length choices → choice ≡ get_or choices i choice
-    → (new : List Choice) (without with : Option Choice) → AreHalves pre condition (take i choices) new → IsHalf pre choice condition false without → IsHalf pre choice condition true with
-    → AreHalves pre condition (take (i + 1) choices) ((new ++ listed without) ++ listed with)
-next_halves pre condition choices i choice within is new without with are first second =
-    subst (λ list. AreHalves pre condition list ((new ++ listed without) ++ listed with)) (sym (front choices i choice within is))
-    (halves-push pre condition (take i choices) new choice without with are first second)
+pub next_halves : (pre : Form) (literal : Literal) → IsLiteral literal → (choices : List Choice) (i : ℕ) (choice : Choice) → i < length choices → choice ≡ get_or choices i choice
+    → (new : List Choice) (without with : Option Choice) → AreHalves pre literal.holds (take i choices) new → IsHalf pre choice literal.fails false without → IsHalf pre choice literal.holds true with
+    → AreHalves pre literal.holds (take (i + 1) choices) ((new ++ listed without) ++ listed with)
+next_halves pre literal known choices i choice within is new without with are first second =
+    subst (λ list. AreHalves pre literal.holds list ((new ++ listed without) ++ listed with)) (sym (front choices i choice within is))
+    (halves-push pre literal known (take i choices) new choice without with are first second)
 
 -- ---- one condition more
 
@@ -146,9 +148,15 @@ choices-push pre forms condition old new are halves = record {
     longer : length (forms ++ condition ∷ []) ≡ suc (length forms)
     longer = length-append forms (condition ∷ []) ∙ add-one (length forms)
 
--- the loop over the conditions
-pub next_choices : (pre : Form) (forms : List Form) (i : ℕ) (condition : Form) → i < length forms → condition ≡ get_or forms i condition
-    → (old new : List Choice) → AreChoices pre (take i forms) old → AreHalves pre condition old new → AreChoices pre (take (i + 1) forms) new
-next_choices pre forms i condition within is old new are halves =
-    subst (λ list. AreChoices pre list new) (sym (front forms i condition within is))
-    (choices-push pre (take i forms) condition old new are halves)
+-- the loop over the literals
+pub next_choices : (pre : Form) (literals : List Literal) (i : ℕ) (literal : Literal) → i < length literals → literal ≡ get_or literals i literal
+    → (old new : List Choice) → AreChoices pre (conditions_in (take i literals)) old → AreHalves pre literal.holds old new → AreChoices pre (conditions_in (take (i + 1) literals)) new
+next_choices pre literals i literal within is old new are halves =
+    subst (λ list. AreChoices pre list new) (sym (ap conditions_in (front literals i literal within is) ∙ map-append (λ (one : Literal). one.holds) (take i literals) (literal ∷ [])))
+    (choices-push pre (conditions_in (take i literals)) literal.holds old new are halves)
+
+-- the loop that makes the literals
+pub next_literal : (forms : List Form) (i : ℕ) (form : Form) (literals : List Literal) (literal : Literal) → i < length forms → form ≡ get_or forms i form
+    → conditions_in literals ≡ take i forms → literal.holds ≡ form → conditions_in (literals ++ literal ∷ []) ≡ take (i + 1) forms
+next_literal forms i form literals literal within is are holds =
+    map-append (λ (one : Literal). one.holds) literals (literal ∷ []) ∙ (λ j. are j ++ holds j ∷ []) ∙ sym (front forms i form within is)

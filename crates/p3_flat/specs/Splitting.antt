@@ -1,13 +1,15 @@
 -- How an action is split: the places of its changes' conditions, the choices of which of them hold, and what happens in each.
 use Rattle.std.specs.Prelude.{◌≡◌, ◌⊎◌, ℕ, zero, suc, ◌==◌, Bool, true, false, not, ◌&&◌, cond, if◌then◌else◌, List, [], ◌∷◌, ◌++◌, length, map, slice_get, slice_index_or, Option, Some, None, IsTrue}
 use Rattle.std.specs.List.{AllZip, filter, flat_map, list_all, list_any}
-use Rattle.p3_formula.specs.Forms.{State, truth, has_atoms}
+use denote.Ref.{Bor}
+use Rattle.p3_formula.specs.Forms.{HasAtomsOf, IsOpposite, State, truth, has_atoms}
 use Rattle.p3_formula.specs.Tidy.{is_tidy}
 use Rattle.p3_formula.specs.declared.form.Change.{Change}
 use Rattle.p3_formula.specs.declared.form.Form.{Form}
 use Rattle.p3_formula.specs.declared.form.Form.TheVariants.{True}
 use Rattle.p3_formula.specs.declared.target.TargetAction.{TargetAction}
 use Rattle.p3_flat.specs.declared.choices.Choice.{Choice}
+use Rattle.p3_flat.specs.declared.literals.Literal.{Literal}
 use Rattle.p3_flat.specs.declared.placing.Placed.{Placed}
 use Rattle.p3_flat.specs.declared.placing.Placing.{Placing}
 use Rattle.p3_flat.specs.Conditions.{are_too_many, conditions, has_form, is_too_wide}
@@ -64,16 +66,24 @@ settled_by pattern added changes = map always (filter (is_kept pattern added) ch
 abbrev pub settled : Pattern → List Placed → List Change
 settled pattern changes = settled_by pattern (is_added_in pattern changes) changes
 
+-- ---- literals
+
+-- the second form holds where the condition does not, and reads no other atoms
+pub record IsLiteral (literal : Literal) : Type 0 where
+  pub opposite : IsOpposite literal.fails literal.holds
+  pub atoms : HasAtomsOf literal.fails literal.holds
+
+abbrev pub conditions_in : List Literal → List Form
+conditions_in literals = map (λ (literal : Literal). literal.holds) literals
+
 -- ---- choices
 
--- the truth is that
-abbrev pub agrees : Bool → Bool → Bool
-agrees true holds = holds
-agrees false holds = not holds
+abbrev pub forms_in : List (Bor Form) → List Form
+forms_in forms = map (λ (form : Bor Form). form.now) forms
 
 -- what the choice needs holds
 abbrev pub is_met : State → Choice → Bool
-is_met state choice = list_all (truth state) choice.parts
+is_met state choice = list_all (truth state) (forms_in choice.parts)
 
 abbrev pub patterns_of : List Choice → List Pattern
 patterns_of choices = map (λ (choice : Choice). choice.pattern) choices
@@ -83,7 +93,7 @@ abbrev pub shown : State → List Choice → List Pattern
 shown state choices = patterns_of (filter (is_met state) choices)
 
 abbrev pub has_choice_atoms : (ℕ → Bool) → Choice → Bool
-has_choice_atoms allowed choice = list_all (has_atoms allowed) choice.parts
+has_choice_atoms allowed choice = list_all (has_atoms allowed) (forms_in choice.parts)
 
 abbrev pub listed : Option Choice → List Choice
 listed None = []
@@ -103,11 +113,11 @@ abbrev pub IsPartOf : List Pattern → List Pattern → Type 0
 IsPartOf those [] = those ≡ []
 IsPartOf those (one ∷ all) = IsPartOf those all ⊎ ((rest : List Pattern) × (those ≡ one ∷ rest) × IsPartOf rest all)
 
--- the choice with one condition more, which holds or does not; there is none only where that is so in no state in which the action fits
-pub record IsHalf (pre : Form) (choice : Choice) (condition : Form) (holds : Bool) (half : Option Choice) : Type 0 where
-  pub shows : (state : State) → truth state pre ≡ true → shown state (listed half) ≡ cond (is_met state choice && agrees holds (truth state condition)) ((choice.pattern ++ holds ∷ []) ∷ []) []
+-- the choice with one part more, for a condition that holds or does not; there is none only where the part holds in no state in which the action fits
+pub record IsHalf (pre : Form) (choice : Choice) (form : Form) (holds : Bool) (half : Option Choice) : Type 0 where
+  pub shows : (state : State) → truth state pre ≡ true → shown state (listed half) ≡ cond (is_met state choice && truth state form) ((choice.pattern ++ holds ∷ []) ∷ []) []
   pub part : IsPartOf (patterns_of (listed half)) ((choice.pattern ++ holds ∷ []) ∷ [])
-  pub atoms : (allowed : ℕ → Bool) → has_choice_atoms allowed choice ≡ true → has_atoms allowed condition ≡ true → list_all (has_choice_atoms allowed) (listed half) ≡ true
+  pub atoms : (allowed : ℕ → Bool) → has_choice_atoms allowed choice ≡ true → has_atoms allowed form ≡ true → list_all (has_choice_atoms allowed) (listed half) ≡ true
 
 -- the choices with one condition more
 pub record AreHalves (pre condition : Form) (old new : List Choice) : Type 0 where
@@ -132,7 +142,7 @@ pub record IsConjunction (pre : Form) (parts : List Form) (form : Form) : Type 0
 -- the copy for a choice
 pub record IsCopy (action : TargetAction) (changes : List Placed) (choice : Choice) (copy : TargetAction) : Type 0 where
   pub name : copy.name ≡ copy_named action.name choice.pattern
-  pub pre : IsConjunction action.pre choice.parts copy.pre
+  pub pre : IsConjunction action.pre (forms_in choice.parts) copy.pre
   pub effects : copy.effects ≡ settled choice.pattern changes
   pub cost : copy.cost ≡ action.cost
 

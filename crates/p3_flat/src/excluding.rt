@@ -1,7 +1,7 @@
 //! Forms that do not hold together, as far as their looks tell.
 
 ghost use Rattle.std.specs.Prelude.{◌≡◌, IsTrue};
-ghost use Rattle.p3_flat.specs.Splitting.{AreAgainst, IsAgainst, IsExcluded};
+ghost use Rattle.p3_flat.specs.Splitting.{AreAgainst, IsAgainst, IsExcluded, forms_in};
 
 use p3_formula::{Form, same_form};
 
@@ -52,16 +52,28 @@ fn are_against(forms: &[Form], other: &Form) -> bool
     false
 }
 
-/// Tells whether the other form does not hold where the precondition and all the parts do.
-fn is_excluded_whole(pre: &Form, parts: &[Form], other: &Form) -> bool
-    ensures { IsTrue result → IsExcluded pre.now parts.now other.now }
+/// Tells whether the other form does not hold where the parts do.
+fn some_is_against(parts: &[&Form], other: &Form) -> bool
+    ensures { IsTrue result → AreAgainst (forms_in parts.now) other.now }
 {
-    is_against(pre, other) || are_against(parts, other)
+    for part in parts {
+        if is_against(part, other) {
+            return true;
+        }
+    }
+    false
+}
+
+/// Tells whether the other form does not hold where the precondition and all the parts do.
+fn is_excluded_whole(pre: &Form, parts: &[&Form], other: &Form) -> bool
+    ensures { IsTrue result → IsExcluded pre.now (forms_in parts.now) other.now }
+{
+    is_against(pre, other) || some_is_against(parts, other)
 }
 
 /// Tells whether one of the forms does not hold where the precondition and all the parts do.
-fn some_is_excluded(pre: &Form, parts: &[Form], others: &[Form]) -> bool
-    ensures { IsTrue result → IsExcluded pre.now parts.now (Form.And others.now) }
+fn some_is_excluded(pre: &Form, parts: &[&Form], others: &[Form]) -> bool
+    ensures { IsTrue result → IsExcluded pre.now (forms_in parts.now) (Form.And others.now) }
 {
     for other in others {
         if is_excluded_whole(pre, parts, other) {
@@ -73,8 +85,8 @@ fn some_is_excluded(pre: &Form, parts: &[Form], others: &[Form]) -> bool
 
 /// Tells whether the other form does not hold where the precondition and all the parts do, as far
 /// as pairs of a form and its negation show.
-pub(crate) fn is_excluded(pre: &Form, parts: &[Form], other: &Form) -> bool
-    ensures { IsTrue result → IsExcluded pre.now parts.now other.now }
+pub(crate) fn is_excluded(pre: &Form, parts: &[&Form], other: &Form) -> bool
+    ensures { IsTrue result → IsExcluded pre.now (forms_in parts.now) other.now }
 {
     if is_excluded_whole(pre, parts, other) {
         return true;

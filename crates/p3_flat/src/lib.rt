@@ -9,6 +9,7 @@ mod choices;
 mod excluding;
 mod flattening;
 mod laws;
+mod literals;
 mod naming;
 mod placing;
 mod settling;

@@ -27,14 +27,20 @@ fn push_ending(bytes: &mut Vec<u8>, pattern: &[bool]) -> Result<(), NoMemory>
     Ok(())
 }
 
-/// Makes the name of a copy.
+/// Makes the name of a copy, by way of a buffer that is cleared first.
 #[tactic(auto, using(crate::proofs::NamingLemmas::lowered_copy))]
-pub(crate) fn copy_name(alloc: Global, name: &Name, pattern: &[bool]) -> Result<Name, NoMemory>
+pub(crate) fn copy_name(
+    alloc: Global,
+    buffer: &mut Vec<u8>,
+    name: &Name,
+    pattern: &[bool],
+) -> Result<Name, NoMemory>
     ensures { IfOk result (λ copy. copy ≡ copy_named name.now pattern.now) }
 {
-    let mut bytes = Vec::from_slice(alloc, name.bytes())?;
-    push_ending(&mut bytes, pattern)?;
-    Name::of(alloc, &bytes)
+    buffer.clear();
+    buffer.extend_from_slice(name.bytes())?;
+    push_ending(buffer, pattern)?;
+    Name::of(alloc, buffer)
 }
 
 /// Copies the name.

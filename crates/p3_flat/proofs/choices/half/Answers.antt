@@ -1,13 +1,12 @@
 use Rattle.std.proofs.Common.{subst}
-use Rattle.p3_flat.specs.Splitting.{IsExcluded}
+use Rattle.p3_flat.specs.Splitting.{IsExcluded, forms_in}
 use Rattle.p3_flat.proofs.ChoiceLemmas.{half_excluded, half_made}
 use Rattle.p3_flat.proofs.choices.half.Goals as goal
 
 pub returns-then-is_excluded : goal.returns-then-is_excluded
 returns-then-is_excluded c =
-    half_excluded c.args.pre.now c.args.choice.now c.args.condition.now c.args.holds c.in_ok-part.part c.in_ok-part.ensures.truth
-    (subst (λ list. IsExcluded c.args.pre.now list c.in_ok-part.part) c.items.ensures (c.is_excluded.ensures c.if-is_excluded.true))
+    half_excluded c.args.pre.now c.args.choice.now c.args.part.now c.args.holds
+    (subst (λ list. IsExcluded c.args.pre.now (forms_in list) c.args.part.now) c.items.ensures (c.is_excluded.ensures c.if-is_excluded.true))
 
 pub returns : goal.returns
-returns c =
-    half_made c.args.pre.now c.args.choice.now c.args.condition.now c.args.holds c.in_ok-part.part c.in_ok-part.ensures.truth c.in_ok-part.ensures.atoms _ c.in_ok-pattern.ensures c.in_ok-parts.ensures
+returns c = half_made c.args.pre.now c.args.choice.now c.args.part.now c.args.holds _ c.in_ok-pattern.ensures c.in_ok-parts.ensures
