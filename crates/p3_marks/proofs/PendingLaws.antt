@@ -9,7 +9,7 @@ use mathlib.Core.Logic.{⊎_elim}
 use Rattle.p3_formula.specs.Forms.{State}
 use Rattle.p3_formula.specs.declared.form.Change.{Change}
 use Rattle.p3_formula.specs.declared.task.GroundTask.{GroundTask}
-use Rattle.p3_run.specs.Groups.{IsReader, modal_at, modals_at, modals_of}
+use Rattle.p3_run.specs.Groups.{IsReader, modal_at, modals_of}
 use Rattle.p3_run.specs.Pending.{is_named}
 use Rattle.p3_run.specs.Readers.{AreReaders, is_same, readers_at}
 use Rattle.p3_run.specs.declared.readers.Reader.{Reader}
