@@ -1,4 +1,4 @@
-use Rattle.std.proofs.Common.{◌≡◌, ◌∙◌, sym, ap}
+use Rattle.std.proofs.Common.{◌∙◌, sym, ap}
 use Rattle.std.specs.List.{list_all}
 use Rattle.p3_ground.proofs.WholeLaws.{all-marked}
 use Rattle.p3_ground.proofs.task.marked_steps.Goals as goal
