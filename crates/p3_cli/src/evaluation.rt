@@ -43,9 +43,9 @@ pub(crate) fn evaluate(alloc: Global, texts: &Texts<'_>) -> Result<Report, Endin
     ensures err { IfErr result (IsRejectedPlan (all_texts texts.now)) }
 {
     let whole = judged_task(alloc, texts)?;
-    let report = judged(alloc, &whole, texts.plan)?;
+    let report = judged(alloc, &whole, texts.plan);
     forget(whole);
-    Ok(report)
+    report
 }
 
 /// Accepts the task for which a plan is judged, where nothing is refused of it and of that plan.

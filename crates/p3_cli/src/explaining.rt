@@ -40,9 +40,9 @@ pub(crate) fn explain(alloc: Global, texts: &Texts<'_>) -> Result<Report, Ending
 {
     let whole = judged_task(alloc, texts)?;
     let plan = plan_of(alloc, texts.plan)?;
-    let report = report_of(alloc, &whole, &plan)?;
+    let report = report_of(alloc, &whole, &plan);
     forget((whole, plan));
-    Ok(report)
+    report
 }
 
 /// Explains a plan of an accepted task, where each of its steps fits.

@@ -79,9 +79,9 @@ fn translation_of(alloc: Global, whole: &Whole) -> Result<Translation, NoMemory>
         report_text made.report ≡ compiled_lines whole.now.checked.task) }
 {
     let target = compile(alloc, whole.ground_task(), whole.weights())?;
-    let made = written(alloc, whole, &target)?;
+    let made = written(alloc, whole, &target);
     forget(target);
-    Ok(made)
+    made
 }
 
 /// Writes a target of a task of which nothing is refused, and makes the report.
