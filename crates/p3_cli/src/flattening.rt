@@ -18,7 +18,8 @@ ghost use Rattle.p3_cli.specs.Flattening.{
   IsStoppedFlat,
 };
 ghost use Rattle.p3_cli.specs.Refusing.{IsRefusedFor, all_texts};
-ghost use Rattle.p3_cli.specs.Translation.{CanBeCompiled};
+ghost use Rattle.p3_formula.specs.Targets.{IsSized, IsWellNamed};
+ghost use Rattle.p3_cli.specs.Translation.{AreTextsOf, CanBeCompiled};
 
 use crate::Ending;
 use crate::acceptance::{accepted, spelled_task};
@@ -32,6 +33,7 @@ use p3_formula::Target;
 use p3_limits::refusal_at;
 use p3_tree::{Action, Ref, Task};
 use std::alloc::Global;
+use std::mem::forget;
 
 /// Translates the task that the two texts spell into one without conditional effects.
 pub(crate) fn flat_translate(alloc: Global, texts: &Texts<'_>) -> Result<Translation, Ending>
@@ -42,7 +44,9 @@ pub(crate) fn flat_translate(alloc: Global, texts: &Texts<'_>) -> Result<Transla
 {
     let task = spelled_task(alloc, Side::Source, texts)?;
     let whole = accepted(alloc, Side::Source, texts, task)?;
-    flat_translation_of(alloc, texts, &whole)
+    let made = flat_translation_of(alloc, texts, &whole);
+    forget(whole);
+    made
 }
 
 /// Writes the target of a task of which nothing is refused, its actions split by their conditions,
@@ -62,13 +66,29 @@ fn flat_translation_of(
 {
     let target = compile(alloc, whole.ground_task(), whole.weights())?;
     match flatten(alloc, &target) {
-        Ok(flat) => Ok(written(alloc, whole, &flat)?),
+        Ok(flat) => Ok(written_flat(alloc, whole, flat)?),
         Err(FlatFail::FlatTooWide(place)) => {
             let refusal = wide_action(alloc, whole, &target, place)?;
             Err(texts.refused(&refusal))
         }
         Err(FlatFail::NoMemory) => Err(Ending::OutOfMemory),
     }
+}
+
+/// Writes a target of a task of which nothing is refused, and makes the report.
+fn written_flat(alloc: Global, whole: &Whole, flat: Target) -> Result<Translation, NoMemory>
+    requires can { CanBeCompiled
+        whole.now.checked.task whole.now.ground_task whole.now.weights }
+    requires sized { IsSized flat }
+    requires named { IsWellNamed flat }
+    ensures text { IfOk result (λ made.
+        AreTextsOf flat.entry made.domain.items made.problem.items) }
+    ensures report { IfOk result (λ made.
+        report_text made.report ≡ compiled_lines whole.now.checked.task) }
+{
+    let made = written(alloc, whole, &flat);
+    forget(flat);
+    made
 }
 
 /// Gives the refusal of the step to which the first action with too many conditions belongs.

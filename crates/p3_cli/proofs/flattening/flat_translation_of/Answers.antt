@@ -7,8 +7,8 @@ use Rattle.p3_cli.proofs.flattening.flat_translation_of.Goals as goal
 pub flatten-requires : goal.flatten-requires
 flatten-requires c = can_be_flattened c.in_ok-target.target c.in_ok-target.ensures.compiled.named
 
-pub written-requires-clause-sized : goal.written-requires-clause-sized
-written-requires-clause-sized c =
+pub written_flat-requires-clause-sized : goal.written_flat-requires-clause-sized
+written_flat-requires-clause-sized c =
     let whole = c.args.whole.now in
     let T = whole.checked.task in
     let G = c.ground_task.result.now in
@@ -16,8 +16,8 @@ written-requires-clause-sized c =
     let can : CanBeCompiled T G w = subst (λ ground. CanBeCompiled T ground w) (sym c.ground_task.ensures) (subst (λ weights. CanBeCompiled T whole.ground_task weights) (sym c.weights.ensures.weights) c.requires) in
     is_sized T G w c.in_ok-target.target c.in-Ok.flat can c.in_ok-target.ensures.compiled c.in-Ok.ensures.flat
 
-pub written-requires-clause-named : goal.written-requires-clause-named
-written-requires-clause-named c =
+pub written_flat-requires-clause-named : goal.written_flat-requires-clause-named
+written_flat-requires-clause-named c =
     let whole = c.args.whole.now in
     let T = whole.checked.task in
     let G = c.ground_task.result.now in
@@ -32,5 +32,5 @@ returns-in-Ok-clause-text c =
     let G = c.ground_task.result.now in
     let w = c.weights.result.now in
     let can : CanBeCompiled T G w = subst (λ ground. CanBeCompiled T ground w) (sym c.ground_task.ensures) (subst (λ weights. CanBeCompiled T whole.ground_task weights) (sym c.weights.ensures.weights) c.requires) in
-    let made = c.in_ok-written-in-Ok in
+    let made = c.in_ok-written_flat-in-Ok in
     has_flat_text T G w c.in_ok-target.target c.in-Ok.flat can c.in_ok-target.ensures.compiled c.in-Ok.ensures.flat made.field-0.domain.items made.field-0.problem.items made.ensures.text
