@@ -32,4 +32,4 @@ pub use laws::{
     written_targets_are_faithful_texts,
 };
 pub use p3_eval::{TextVerdict, judge_text};
-pub use sure::run_sure;
+pub use sure::{are_held, run_sure};

@@ -71,6 +71,9 @@ fn step_of(alloc: Global, word: &str, rest: &str) -> Result<Step, Flaw> {
         "run" => Ok(Step::Run {
             words: words_of(alloc, rest)?,
         }),
+        "run-sure" => Ok(Step::RunSure {
+            words: words_of(alloc, rest)?,
+        }),
         "status" => status_of(rest),
         "absent" => absent_of(alloc, rest),
         "same" => same_of(alloc, rest),

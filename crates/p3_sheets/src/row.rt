@@ -23,6 +23,10 @@ pub(crate) enum Step {
     Run {
         words: Vec<Word>,
     },
+    /// The words are run over files and a sink that never fail.
+    RunSure {
+        words: Vec<Word>,
+    },
     /// How the run above ends.
     Status {
         status: u8,
@@ -117,7 +121,7 @@ impl Step {
     /// what is printed.
     pub(crate) fn may_follow(&self, before: Option<&Step>) -> bool {
         match before {
-            Some(Step::Run { .. }) => matches!(self, Step::Status { .. }),
+            Some(Step::Run { .. } | Step::RunSure { .. }) => matches!(self, Step::Status { .. }),
             Some(Step::Status { .. }) => matches!(self, Step::Prints { .. }),
             _ => !matches!(self, Step::Status { .. } | Step::Prints { .. }),
         }
@@ -125,13 +129,18 @@ impl Step {
 
     /// Whether a row may end with the step.
     pub(crate) fn may_end(&self) -> bool {
-        !matches!(self, Step::Run { .. } | Step::Status { .. })
+        !matches!(
+            self,
+            Step::Run { .. } | Step::RunSure { .. } | Step::Status { .. }
+        )
     }
 
     /// Whether the step runs something with that word.
     fn has_word(&self, name: &Word) -> bool {
         match self {
-            Step::Run { words } | Step::Cuts { words, .. } => is_among(name, words.as_slice()),
+            Step::Run { words } | Step::RunSure { words } | Step::Cuts { words, .. } => {
+                is_among(name, words.as_slice())
+            }
             Step::Faults { words } => is_fault_word(name, words.as_slice()),
             _ => false,
         }
@@ -141,7 +150,7 @@ impl Step {
     pub(crate) fn runs(&self) -> bool {
         matches!(
             self,
-            Step::Run { .. } | Step::Cuts { .. } | Step::Faults { .. }
+            Step::Run { .. } | Step::RunSure { .. } | Step::Cuts { .. } | Step::Faults { .. }
         )
     }
 }

@@ -28,6 +28,7 @@ fn take(alloc: Global, world: &mut World, line: &Line) -> Result<(), Stop> {
         Step::FailCall { call, left } => world.fail(*call, *left)?,
         Step::FailPut { put } => world.fail_put(*put)?,
         Step::Run { words } => world.run(words.as_slice()),
+        Step::RunSure { words } => world.run_sure(number, words.as_slice())?,
         Step::Status { status } => world.ends(number, *status)?,
         Step::Prints { bytes } => world.prints(number, bytes.as_slice())?,
         Step::Absent { names } => lacks(world, number, names.as_slice())?,

@@ -6,8 +6,8 @@ ghost use Rattle.p3_base.specs.Outside.{bytes_under};
 
 use crate::complaint::Stop;
 use crate::shown::{difference, shown};
-use p3_base::{MemFiles, MemSink, NoMemory, Word};
-use p3_cli::run;
+use p3_base::{MemFiles, MemSink, NoMemory, SureFiles, SureSink, Word};
+use p3_cli::{are_held, run, run_sure};
 use std::alloc::Global;
 
 /// How many bytes the runs of a row may print.
@@ -65,6 +65,36 @@ impl World {
     pub(crate) fn run(&mut self, words: &[Word]) {
         self.printed_before = self.sink.bytes().len();
         self.status = run(self.alloc, words, &mut self.files, &mut self.sink);
+    }
+
+    /// Runs the words over files and a sink that never fail. The files hold what the words name here,
+    /// and what they hold then is held here; of what is put nothing is kept.
+    pub(crate) fn run_sure(&mut self, line: u32, words: &[Word]) -> Result<(), Stop> {
+        let mut files = self.sure_files(words)?;
+        if !are_held(words, &files) {
+            return Err(Stop::saying(self.alloc, line, "a file that is read is not held"));
+        }
+        let mut sink = SureSink::new();
+        self.printed_before = self.sink.bytes().len();
+        self.status = run_sure(self.alloc, words, &mut files, &mut sink);
+        for word in words {
+            if let Some(bytes) = files.bytes(word) {
+                self.hold(word, bytes)?;
+            }
+        }
+        Ok(())
+    }
+
+    /// Files that never fail, which hold what some of the words name here.
+    fn sure_files(&self, words: &[Word]) -> Result<SureFiles, NoMemory> {
+        let mut files = SureFiles::new(self.alloc);
+        for word in words {
+            if let Some(bytes) = self.held(word) {
+                let name = Word::of(self.alloc, word.bytes())?;
+                files.hold(name, Vec::from_slice(self.alloc, bytes)?)?;
+            }
+        }
+        Ok(files)
     }
 
     /// What the last run printed.
