@@ -1,6 +1,11 @@
 -- What is seen of files and of a sink that never fail.
-use Rattle.std.specs.Prelude.{true, Some, None}
-use Rattle.p3_base.specs.Outside.{FilesSeen, SinkSeen, Store}
+use Rattle.std.specs.Prelude.{ℕ, Bool, true, List, Some, None}
+use Rattle.std.specs.Option.{is_some}
+use Rattle.p3_base.specs.Outside.{FilesSeen, SinkSeen, Store, bytes_under}
+
+-- something is held under the name
+abbrev pub is_held : Store → List ℕ → Bool
+is_held store name = is_some (bytes_under store name)
 
 -- what is held is told, all reads are sure, and no fault ever rises
 abbrev pub sure_files : Store → FilesSeen

@@ -1,21 +1,37 @@
 //! The top call over files and a sink that never fail.
 
 ghost use Rattle.std.specs.Prelude.{◌≡◌, ◌≢◌, ◌↔◌, ◌⊎◌, IsTrue, None, Some};
-ghost use Rattle.std.specs.List.{AllByRecursion};
-ghost use Rattle.p3_base.specs.Outside.{IsStored};
+ghost use Rattle.std.specs.List.{list_all};
 ghost use Rattle.p3_tree.specs.Commands.{command_of};
 ghost use Rattle.p3_cli.specs.Ending.{Ending, status_of};
 ghost use Rattle.p3_cli.specs.Meaning.{IsDone, IsFaithfulRun};
 ghost use Rattle.p3_cli.specs.Run.{AreHeld, Ends, IsAcceptedIn, IsRejectedIn};
 ghost use Rattle.p3_cli.specs.Status as status;
-ghost use Rattle.p3_cli.specs.Sure.{sure_files, sure_sink};
+ghost use Rattle.p3_cli.specs.Sure.{is_held, sure_files, sure_sink};
 
 use crate::asking::asked;
 use crate::run;
 use p3_base::{SureFiles, SureSink, Word};
 use std::alloc::Global;
 
-/// Tells whether every input that the words name is held, as `run_sure` wants it.
+/// Tells whether something is held under the name.
+fn is_held(name: &Word, files: &SureFiles) -> bool
+    ensures { result ≡ is_held files.now name.now }
+{
+    match files.bytes(name) {
+        Some(_) => true,
+        None => false,
+    }
+}
+
+/// Tells whether something is held under each of the names.
+fn are_all_held(names: &[Word], files: &SureFiles) -> bool
+    ensures { result ≡ list_all (is_held files.now) names.now }
+{
+    names.iter().all(|name| is_held(name, files))
+}
+
+/// Tells whether each input that the words name is held, as `run_sure` wants it.
 pub fn are_held(words: &[Word], files: &SureFiles) -> bool
     ensures { IsTrue result ↔ AreHeld (command_of words.now) (Some files.now) }
 {
@@ -23,13 +39,6 @@ pub fn are_held(words: &[Word], files: &SureFiles) -> bool
         Some(request) => are_all_held(request.reads, files),
         None => true,
     }
-}
-
-/// Tells whether something is held under each of the names.
-fn are_all_held(names: &[Word], files: &SureFiles) -> bool
-    ensures { IsTrue result ↔ AllByRecursion (IsStored (Some files.now)) names.now }
-{
-    names.iter().all(|name| files.bytes(name).is_some())
 }
 
 /// Does what the words ask for with files and a sink that never fail, and answers the status of the
