@@ -1,5 +1,5 @@
 -- A walk over a text, token by token.
-use Rattle.std.proofs.Common.{◌≡◌, ◌∙◌, refl, sym, ap, ℕ, Bool, true, false, ◌≢◌, if◌then◌else◌, List, length, codes, Option, Some, None}
+use Rattle.std.proofs.Common.{◌≡◌, ◌∙◌, refl, sym, ap, ℕ, Bool, true, false, ◌≢◌, if◌then◌else◌, List, length, codes, Some, None}
 use Rattle.std.specs.Option.{option_map}
 use Rattle.std.specs.Str.{bytes_eq, str_to_ascii_lowercase}
 use Rattle.p3_base.specs.declared.refusal.Code.TheVariants.{Malformed}
@@ -13,7 +13,7 @@ use Rattle.p3_lexer.specs.declared.lexer.Next.{Next}
 use Rattle.p3_lexer.specs.declared.lexer.Next.TheVariants as next
 use Rattle.p3_places.specs.Machine.{first_fault, step, or_at}
 use Rattle.p3_places.specs.Places.{grammar_table}
-use Rattle.p3_places.specs.Walks.{the_stack, mark_in, fault_among}
+use Rattle.p3_places.specs.Walks.{the_stack, only_if, mark_in, fault_among}
 use Rattle.p3_places.specs.declared.state.State.{State}
 use Rattle.p3_places.specs.declared.walk.Walk.{Walk}
 
@@ -27,20 +27,20 @@ mark_by false false offset word = refl
 mark_of_token : (offset : ℕ) (word : List ℕ) → mark_of (token_of offset word) ≡ mark_in word
 mark_of_token offset word = mark_by (bytes_eq word (codes "(")) (bytes_eq word (codes ")")) offset word
 
-module _ (role : Role) (stack : List State) (offset : ℕ) (word : List ℕ) (later : Tokens) (found : Option Walk) (is : option_map the_stack found ≡ step grammar_table stack (mark_in word)) where
-  stepped : step grammar_table stack (mark_of (token_of offset word)) ≡ option_map the_stack found
+module _ (role : Role) (stack : List State) (offset : ℕ) (word : List ℕ) (later : Tokens) (goes : Bool) (walk : Walk) (is : only_if goes (the_stack walk) ≡ step grammar_table stack (mark_in word)) where
+  stepped : step grammar_table stack (mark_of (token_of offset word)) ≡ only_if goes (the_stack walk)
   stepped = ap (step grammar_table stack) (mark_of_token offset word) ∙ sym is
 
   -- one token more
-  pub walk_more : (walk : Walk) → found ≡ Some walk → fault_among role stack (before (token_of offset word) later) ≡ fault_among role (the_stack walk) later
+  pub walk_more : goes ≡ true → fault_among role stack (before (token_of offset word) later) ≡ fault_among role (the_stack walk) later
   unfolding first_fault
-  walk_more walk some = ap (λ o. option_map (refusal_at_token Malformed role) (or_at (token_of offset word) (λ s. first_fault grammar_table s later.tokens) o)) (stepped ∙ ap (option_map the_stack) some)
+  walk_more on = ap (λ o. option_map (refusal_at_token Malformed role) (or_at (token_of offset word) (λ s. first_fault grammar_table s later.tokens) o)) (stepped ∙ ap (λ b. only_if b (the_stack walk)) on)
 
   -- the token may not stand here
-  pub walk_stops : found ≡ None → fault_among role stack (before (token_of offset word) later) ≡ Some (refusal_at Malformed role offset (length word))
+  pub walk_stops : goes ≡ false → fault_among role stack (before (token_of offset word) later) ≡ Some (refusal_at Malformed role offset (length word))
   unfolding first_fault
-  walk_stops none =
-      ap (λ o. option_map (refusal_at_token Malformed role) (or_at (token_of offset word) (λ s. first_fault grammar_table s later.tokens) o)) (stepped ∙ ap (option_map the_stack) none)
+  walk_stops off =
+      ap (λ o. option_map (refusal_at_token Malformed role) (or_at (token_of offset word) (λ s. first_fault grammar_table s later.tokens) o)) (stepped ∙ ap (λ b. only_if b (the_stack walk)) off)
       ∙ ap Some (refusal_of_token Malformed role offset word)
 
 -- there is no token more

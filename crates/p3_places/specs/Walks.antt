@@ -1,5 +1,5 @@
 -- What a walk over a text has come to, and what it finds.
-use Rattle.std.specs.Prelude.{ℕ, if◌then◌else◌, List, [], ◌∷◌, reverse, codes, Option}
+use Rattle.std.specs.Prelude.{ℕ, Bool, if◌then◌else◌, List, [], ◌∷◌, reverse, codes, Option, Some, None}
 use Rattle.std.specs.Option.{option_map}
 use Rattle.std.specs.Str.{bytes_eq, str_to_ascii_lowercase}
 use Rattle.p3_base.specs.declared.refusal.Code.TheVariants.{Malformed}
@@ -19,6 +19,10 @@ use Rattle.p3_places.specs.declared.walk.Walk.{Walk}
 -- the innermost list, and those around it, the innermost of which stands last in the code
 abbrev pub the_stack : Walk → List State
 the_stack walk = walk.top ∷ reverse walk.outer.items
+
+-- the open lists behind a token that may stand there
+abbrev pub only_if : Bool → List State → Option (List State)
+only_if goes stack = if goes then Some stack else None
 
 -- what the bytes of a token are
 abbrev pub mark_in : List ℕ → Mark

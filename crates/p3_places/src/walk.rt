@@ -1,7 +1,6 @@
 //! The walk over a text.
 
 ghost use Rattle.std.specs.Prelude.{◌≡◌, ◌≢◌, ◌≤◌, ◌∷◌, [], length, IfOk};
-ghost use Rattle.std.specs.Option.{option_map};
 ghost use Rattle.std.specs.Str.{str_to_ascii_lowercase};
 ghost use Rattle.p3_base.specs.declared.refusal.Role.TheVariants.{Plan};
 ghost use Rattle.p3_base.specs.declared.refusal.Side.TheVariants.{Written};
@@ -9,13 +8,13 @@ ghost use Rattle.p3_tree.specs.PlanTexts as marks;
 ghost use Rattle.p3_tree.specs.Sides.{byte_limit};
 ghost use Rattle.p3_places.specs.Machine.{step};
 ghost use Rattle.p3_places.specs.Places.{grammar_table, start};
-ghost use Rattle.p3_places.specs.Walks.{the_stack, mark_in, place_of, fault_of};
+ghost use Rattle.p3_places.specs.Walks.{the_stack, only_if, mark_in, place_of, fault_of};
 ghost use Rattle.p3_places.specs.Found.{Finds};
 
 use crate::state::{Place, Rest, Slot, State};
 use crate::step::{after, is_final, on_open, on_word};
 use p3_base::{Code, NoMemory, Pos, Refusal, Role};
-use p3_lexer::{Lexer, Next};
+use p3_lexer::{Lexer, Next, is_close, is_open};
 use std::alloc::Global;
 
 /// The lists that are open: the innermost, and those around it.
@@ -25,64 +24,74 @@ struct Walk {
     outer: Vec<State>,
 }
 
-/// A word.
-fn with_word(walk: Walk, text: &[u8]) -> Option<Walk>
-    ensures { option_map the_stack result
-        ≡ step grammar_table (the_stack walk) (marks.Names (str_to_ascii_lowercase text.now)) }
-{
-    let Walk { top, outer } = walk;
-    let top = on_word(top, text)?;
-    Some(Walk { top, outer })
-}
-
-/// A list that opens.
-fn opened(walk: Walk) -> Result<Option<Walk>, NoMemory>
-    ensures { IfOk result (λ next.
-        option_map the_stack next ≡ step grammar_table (the_stack walk) marks.Opens) }
-{
-    let Walk { top, mut outer } = walk;
-    let Some(first) = on_open(top) else {
-        return Ok(None);
-    };
-    outer.push(top)?;
-    Ok(Some(Walk { top: first, outer }))
-}
-
-/// A list that closes.
-fn closed(walk: Walk) -> Option<Walk>
-    ensures { option_map the_stack result ≡ step grammar_table (the_stack walk) marks.Closes }
-{
-    let Walk { top, mut outer } = walk;
-    let above = outer.pop()?;
-    if is_final(top) {
-        let top = after(above, top);
-        Some(Walk { top, outer })
-    } else {
-        None
+impl Walk {
+    /// Stands before the first token of a text that is to stand at the place.
+    fn begun(alloc: Global, place: Place) -> Walk
+        ensures { the_stack result ≡ start place ∷ [] }
+    {
+        Walk {
+            top: State::Rest(Rest::One(Slot::List(place))),
+            outer: Vec::new(alloc),
+        }
     }
-}
 
-/// One token more.
-fn moved(walk: Walk, text: &[u8]) -> Result<Option<Walk>, NoMemory>
-    ensures { IfOk result (λ next.
-        option_map the_stack next ≡ step grammar_table (the_stack walk) (mark_in text.now)) }
-{
-    if text == b"(".as_slice() {
-        opened(walk)
-    } else if text == b")".as_slice() {
-        Ok(closed(walk))
-    } else {
-        Ok(with_word(walk, text))
+    /// Passes a word, where it may stand here.
+    fn pass_word(&mut self, text: &[u8]) -> bool
+        ensures { only_if result (the_stack self.new)
+            ≡ step grammar_table (the_stack self.old)
+            (marks.Names (str_to_ascii_lowercase text.now)) }
+    {
+        match on_word(self.top, text) {
+            Some(top) => {
+                self.top = top;
+                true
+            }
+            None => false,
+        }
     }
-}
 
-/// A walk before the first token of a text that is to stand at the place.
-fn begun(alloc: Global, place: Place) -> Walk
-    ensures { the_stack result ≡ start place ∷ [] }
-{
-    Walk {
-        top: State::Rest(Rest::One(Slot::List(place))),
-        outer: Vec::new(alloc),
+    /// Passes a `(`, where a list may open.
+    fn open_list(&mut self) -> Result<bool, NoMemory>
+        ensures { IfOk result (λ goes.
+            only_if goes (the_stack self.new)
+            ≡ step grammar_table (the_stack self.old) marks.Opens) }
+    {
+        let Some(first) = on_open(self.top) else {
+            return Ok(false);
+        };
+        self.outer.push(self.top)?;
+        self.top = first;
+        Ok(true)
+    }
+
+    /// Passes a `)`, where the list may end.
+    fn close_list(&mut self) -> bool
+        ensures { only_if result (the_stack self.new)
+            ≡ step grammar_table (the_stack self.old) marks.Closes }
+    {
+        let Some(above) = self.outer.pop() else {
+            return false;
+        };
+        if !is_final(self.top) {
+            return false;
+        }
+        self.top = after(above, self.top);
+        true
+    }
+
+    /// Passes a token, where it may stand here.
+    fn pass(&mut self, text: &[u8]) -> Result<bool, NoMemory>
+        ensures { IfOk result (λ goes.
+            only_if goes (the_stack self.new)
+            ≡ step grammar_table (the_stack self.old) (mark_in text.now)) }
+    {
+        if is_open(text) {
+            self.open_list()
+        } else if is_close(text) {
+            Ok(self.close_list())
+        } else {
+            Ok(self.pass_word(text))
+        }
     }
 }
 
@@ -96,21 +105,18 @@ fn first_fault(
     requires { length text.now ≤ byte_limit Written }
     ensures { IfOk result (λ found. found ≡ fault_of role place text.now) }
 {
-    let mut walk = begun(alloc, place);
+    let mut walk = Walk::begun(alloc, place);
     let mut lexer = Lexer::new(text);
     loop {
         let Next::Token { text: word, offset } = lexer.next() else {
             return Ok(None);
         };
-        match moved(walk, word)? {
-            Some(next) => walk = next,
-            None => {
-                return Ok(Some(Refusal {
-                    code: Code::Malformed,
-                    pos: Pos { role, offset },
-                    len: word.len() as u32,
-                }));
-            }
+        if !walk.pass(word)? {
+            return Ok(Some(Refusal {
+                code: Code::Malformed,
+                pos: Pos { role, offset },
+                len: word.len() as u32,
+            }));
         }
     }
 }

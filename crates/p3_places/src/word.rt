@@ -8,7 +8,7 @@ ghost use Rattle.p3_base.specs.Words.{is_digit, is_name, is_variable, is_predica
 ghost use Rattle.p3_tree.specs.Decimals.{are_digits, is_decimal};
 ghost use Rattle.p3_tree.specs.Names.{same_name, total_cost};
 ghost use Rattle.p3_tree.specs.Grammar.Halves.{begins_with_colon};
-ghost use Rattle.p3_places.specs.Places.{goes_on_as_decimal, is_word_of};
+ghost use Rattle.p3_places.specs.Places.{goes_on_as_decimal, is_word_of, begins_with_letters};
 
 use crate::state::Class;
 
@@ -149,7 +149,25 @@ fn is_reserved_operator(word: &[u8]) -> bool
         || is(word, b"scale-down")
 }
 
+/// Whether two letters come first, as in each reserved word.
+fn begins_with_letters(word: &[u8]) -> bool
+    ensures { result ≡ begins_with_letters (str_to_ascii_lowercase word.now) }
+{
+    match word {
+        [first, second, ..] => first.is_ascii_alphabetic() && second.is_ascii_alphabetic(),
+        _ => false,
+    }
+}
+
+/// Whether a word is reserved. Two bytes tell of many that they are not.
+#[tactic(auto, using(crate::proofs::WordLemmas::letters_first))]
 fn is_reserved(word: &[u8]) -> bool
+    ensures { result ≡ has_name reserved_words (str_to_ascii_lowercase word.now) }
+{
+    begins_with_letters(word) && is_listed_as_reserved(word)
+}
+
+fn is_listed_as_reserved(word: &[u8]) -> bool
     ensures { result ≡ has_name reserved_words (str_to_ascii_lowercase word.now) }
 {
     is_reserved_form(word) || is_reserved_operator(word)

@@ -14,10 +14,10 @@ loop-word-preserved c =
     let leads = rw (c.next.ensures.tokens, c.in-Token.is) at c.loop-word.invariant.leads in
     record {
       source = c.next.ensures.source ∙ c.loop-word.invariant.source;
-      leads = sym (walk_more c.args.role (the_stack c.loop-word.walk) c.in-Token.offset c.in-Token.word.now (left c.next.new.self) c.in_ok-next.field-0 c.in_ok-next.ensures c.in-Some.next c.in-Some.is) ∙ leads;
+      leads = sym (walk_more c.args.role (the_stack c.loop-word.walk) c.in-Token.offset c.in-Token.word.now (left c.next.new.self) c.in_ok-pass.field-0 c.pass.new.self c.in_ok-pass.ensures c.if-not-branch.false) ∙ leads;
     }
 
-pub returns-in-None : goal.returns-in-None
-returns-in-None c =
+pub returns-then-not-branch : goal.returns-then-not-branch
+returns-then-not-branch c =
     let leads = rw (c.next.ensures.tokens, c.in-Token.is) at c.loop-word.invariant.leads in
-    sym (walk_stops c.args.role (the_stack c.loop-word.walk) c.in-Token.offset c.in-Token.word.now (left c.next.new.self) c.in_ok-next.field-0 c.in_ok-next.ensures c.in-None.is) ∙ leads
+    sym (walk_stops c.args.role (the_stack c.loop-word.walk) c.in-Token.offset c.in-Token.word.now (left c.next.new.self) c.in_ok-pass.field-0 c.pass.new.self c.in_ok-pass.ensures c.if-not-branch.true) ∙ leads
