@@ -266,6 +266,24 @@ def same_atom_many_readers(n):
     )
 
 
+@family([1000, 2000, 4000, 8000], command='evaluate')
+def same_atom_open_conditions(n):
+    # as many changes of one atom under conditions that steps change, and constraints that read it
+    return dict(
+        d=domain(
+            '(:predicates (p) ' + each('(c%d)', n) + ')',
+            '(:action a :effect (and ' + each('(when (c%d) (p))', n) + '))',
+            '(:action b :effect (and ' + each('(not (c%d))', n) + '))',
+        ),
+        p=problem(
+            '(:init ' + each('(c%d)', n) + ')',
+            '(:goal ())',
+            '(:constraints (and ' + each('(preference g%d (always (or (p) (c%d))))', n) + '))',
+        ),
+        plan='(a)',
+    )
+
+
 @family([5000, 10000, 20000, 40000], command='evaluate')
 def same_atom_unconditional_readers(n):
     # the same literal n times in one effect, n constraints that read it
