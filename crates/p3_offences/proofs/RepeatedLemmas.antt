@@ -25,8 +25,10 @@ module _ (T : Task) (types : List Ref) (entries : List Declaration) (placed : Ar
 
   -- the place of a declaration among them
   entry-at : (entry : Declaration) → Contains entries entry → (entry.number < length entries) × (name_in entries entry.number ≡ name_of entry.declared.now)
-  entry-at entry (k, within, is) = (omega (arith, within, here),
-      ap (λ place. name_in entries place) here ∙ get_or-map (λ (one : Declaration). name_of one.declared.now) entries k entry [] within ∙ ap (λ (one : Declaration). name_of one.declared.now) is)
+  entry-at entry (k, within, is) = (
+    omega (arith, within, here),
+    ap (λ place. name_in entries place) here ∙ get_or-map (λ (one : Declaration). name_of one.declared.now) entries k entry [] within ∙ ap (λ (one : Declaration). name_of one.declared.now) is,
+  )
     where
       here : entry.number ≡ k
       here = placed.each k entry (slice_get-get_or entries k entry within ∙ ap Some is)

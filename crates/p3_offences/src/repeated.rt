@@ -10,10 +10,7 @@ use p3_tree::Typed;
 use std::alloc::Global;
 
 /// Each declaration with its place as its number.
-fn in_place<'t>(
-    alloc: Global,
-    items: &[&'t Typed],
-) -> Result<Vec<Declaration<'t>>, NoMemory>
+fn in_place<'t>(alloc: Global, items: &[&'t Typed]) -> Result<Vec<Declaration<'t>>, NoMemory>
     ensures declared { IfOk result (λ entries.
         map (λ entry. entry.declared.now) entries.items ≡ map (λ item. item.now) items.now) }
     ensures numbers { IfOk result (λ entries. AreInPlace entries.items) }
