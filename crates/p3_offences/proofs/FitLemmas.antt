@@ -15,11 +15,6 @@ use Rattle.p3_names.specs.Objects.{fits, is_among, name_of}
 use Rattle.p3_offences.specs.ByName.{declared_as, is_repeated, repeated_in, repeated_items}
 use Rattle.p3_offences.specs.Fitting.{name_where_fit, fitting_names, HasFitting, found_fits}
 
-pub has-fitting : (T : Task) (types : List Ref) (items : List (Bor Typed)) (table : List Name) → map (λ item. item.now) items ≡ repeated_items (declared_objects T)
-    → Adds [] (flat_map (λ (item : Bor Typed). name_where_fit T types item.now) items) table → HasFitting T types table
-has-fitting T types items table is adds name =
-    adds name ∙ ap (λ names. has_name names name) (sym (flat_map-map (name_where_fit T types) (λ item. item.now) items) ∙ ap (fitting_names T types) is)
-
 module _ (T : Task) (types : List Ref) (object : Name) where
   abbrev one_fits : Typed → Bool
   one_fits = fits T types

@@ -11,3 +11,4 @@ pub mod TableLemmas
 pub mod VariableLemmas
 pub mod WalkLemmas
 pub mod WholeLemmas
+pub mod RepeatedLemmas

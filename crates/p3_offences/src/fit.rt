@@ -1,15 +1,15 @@
 //! What fits a list of types.
 
-ghost use Rattle.std.specs.Prelude.{◌≡◌, [], map, flat_map, IfOk, OnOk};
+ghost use Rattle.std.specs.Prelude.{◌≡◌, map, IfOk};
 ghost use Rattle.std.specs.List.{list_all};
 ghost use Rattle.p3_tree.specs.Types.{declared_objects, type_names, is_below_some};
-ghost use Rattle.p3_names.specs.Names.{Adds};
 ghost use Rattle.p3_offences.specs.ByName.{repeated_items};
-ghost use Rattle.p3_offences.specs.Fitting.{HasFitting, name_where_fit, found_fits};
+ghost use Rattle.p3_offences.specs.Fitting.{HasFitting, found_fits};
 
 use crate::by_name::ByName;
+use crate::repeated::Repeated;
 use p3_base::{Name, NoMemory};
-use p3_names::{Below, Kinds, Names, item_key};
+use p3_names::{Below, Kinds, Names};
 use p3_tree::{Ref, Typed};
 use std::alloc::Global;
 
@@ -22,55 +22,21 @@ pub(crate) struct Fit<'t> {
     ghost told: { HasFitting below.task.now below.types.now repeated },
 }
 
-/// The name of a declaration is added where it fits.
-#[tactic(auto, using(p3_names::proofs::NameLemmas::adds_laws))]
-fn add_fitting(
-    alloc: Global,
-    names: &mut Names,
-    below: &Below,
-    item: &Typed,
-) -> Result<(), NoMemory>
-    ensures { OnOk result (Adds names.old
-        (name_where_fit below.now.task.now below.now.types.now item.now)
-        names.new) }
-{
-    if below.has_some(item.types.items()) {
-        names.add(alloc, &item.name.name)?;
-    }
-    Ok(())
-}
-
-/// The names of the declarations that fit.
-#[tactic(auto, using(p3_names::proofs::NameLemmas::adds_laws))]
-fn fitting(alloc: Global, below: &Below, items: &[&Typed]) -> Result<Names, NoMemory>
-    ensures { IfOk result (λ names. Adds []
-        (flat_map
-        (λ item. name_where_fit below.now.task.now below.now.types.now item.now)
-        items.now)
-        names) }
-{
-    let mut names = Names::new(alloc, item_key(items));
-    for item in items {
-        add_fitting(alloc, &mut names, below, item)?;
-    }
-    Ok(names)
-}
-
 impl<'t> Fit<'t> {
-    /// What fits the list; these are the declarations of names repeated more than a few times.
+    /// What fits the list.
     pub(crate) fn of(
         alloc: Global,
         kinds: &Kinds<'t>,
-        repeated: &[&'t Typed],
+        repeated: &Repeated<'t>,
         types: &'t [Ref],
     ) -> Result<Fit<'t>, NoMemory>
-        requires { map (λ item. item.now) repeated.now
+        requires { map (λ entry. entry.declared.now) repeated.now.declarations.entries.items
             ≡ repeated_items (declared_objects kinds.now.task.now) }
         ensures task { IfOk result (λ fit. fit.below.task.now ≡ kinds.now.task.now) }
         ensures types { IfOk result (λ fit. fit.below.types.now ≡ types.now) }
     {
         let below = kinds.below_some(alloc, types)?;
-        let repeated = fitting(alloc, &below, repeated)?;
+        let repeated = repeated.fitting(alloc, &below)?;
         Ok(Fit { below, repeated })
     }
 

@@ -9,6 +9,7 @@ ghost use Rattle.p3_offences.specs.Numbers as specs;
 use crate::by_name::ByName;
 use crate::fit::Fit;
 use crate::numbers::number_headers;
+use crate::repeated::Repeated;
 use p3_base::{Name, NoMemory};
 use p3_names::{Kinds, TypeLists, parameter_key};
 use p3_tree::{Ref, Task, Typed};
@@ -42,7 +43,8 @@ fn fits_of<'t>(
         (λ fits. map (λ fit. names_of fit.below.types.now) fits.items ≡ names_in lists.now) }
 {
     let kinds = Kinds::of(alloc, objects.task)?;
-    let repeated = objects.repeated(alloc)?;
+    let items = objects.repeated(alloc)?;
+    let repeated = Repeated::of(alloc, &items)?;
     let mut fits = Vec::new(alloc);
     for types in lists {
         let fit = Fit::of(alloc, &kinds, &repeated, types)?;

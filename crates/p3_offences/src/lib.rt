@@ -11,6 +11,7 @@ mod fits;
 mod given;
 mod notes;
 mod numbers;
+mod repeated;
 mod spot;
 mod tables;
 mod visited;
