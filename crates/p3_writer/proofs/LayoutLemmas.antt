@@ -1,5 +1,5 @@
--- Equations of the layout, one for each kind of form, and one for an atom more of the initial state.
-use Rattle.std.proofs.Common.{◌≡◌, ◌∙◌, ℕ, ◌+◌, ◌<◌, Bool, false, List, [], ◌∷◌, ◌++◌, length, drop, get_or, refl, sym, ap, add-one}
+-- Equations of the layout: one for each kind of form, what pieces make together, and one for an atom more of the initial state.
+use Rattle.std.proofs.Common.{◌≡◌, ◌∙◌, ℕ, ◌+◌, ◌<◌, Bool, false, List, [], ◌∷◌, ◌++◌, length, drop, get_or, refl, sym, ap, add-one, append_assoc}
 use Rattle.std.specs.Prelude.{codes, slice_index_or}
 use Rattle.std.proofs.Math.Seq.{drop-cons}
 use denote.Hole.Carrier.{hidden}
@@ -8,7 +8,8 @@ use Rattle.p3_formula.specs.declared.form.Form.{Form}
 use Rattle.p3_formula.specs.declared.form.Form.TheBlock.{hidden-the_row-Form-0}
 use Rattle.p3_formula.specs.declared.form.Form.TheVariants.{True, False, Atom, Not, And, Or}
 use Rattle.p3_formula.proofs.FormLemmas.{fold_parts}
-use Rattle.p3_writer.specs.Layout.{atom_text, negated_text, spaced, form_layer, form_text, joined_text, set_atom, set_atoms}
+use Rattle.p3_writer.specs.AtomTexts.{action_start}
+use Rattle.p3_writer.specs.Layout.{atom_text, negated_text, spaced, form_layer, form_text, joined_text, action_head, set_atom, set_atoms}
 
 module _ (names : List Name) where
   pub form_text-True : form_text names True ≡ codes "(and)"
@@ -36,6 +37,25 @@ module _ (names : List Name) where
   form_text-Or parts = ap (λ texts. codes "(or" ++ spaced texts ++ codes ")") (fold_parts (form_layer names) parts)
 
 pub ruleset text_laws = (form_text-True, form_text-False, form_text-Atom, form_text-Not, form_text-And, form_text-Or)
+
+-- ---- pieces
+
+pub negated_pushed : (old text : List ℕ) → ((old ++ codes " (not") ++ (32 ∷ text)) ++ codes ")" ≡ old ++ (32 ∷ negated_text text)
+negated_pushed old text = append_assoc (old ++ codes " (not") (32 ∷ text) (codes ")") ∙ append_assoc old (codes " (not") ((32 ∷ text) ++ codes ")")
+
+pub when_pushed : (old form text : List ℕ) → (((old ++ codes " (when") ++ (32 ∷ form)) ++ (32 ∷ text)) ++ codes ")" ≡ old ++ (32 ∷ (codes "(when " ++ form ++ codes " " ++ text ++ codes ")"))
+when_pushed old form text =
+    append_assoc ((old ++ codes " (when") ++ (32 ∷ form)) (32 ∷ text) (codes ")") ∙ append_assoc (old ++ codes " (when") (32 ∷ form) ((32 ∷ text) ++ codes ")")
+    ∙ append_assoc old (codes " (when") ((32 ∷ form) ++ ((32 ∷ text) ++ codes ")"))
+    ∙ ap (λ rest. old ++ (codes " (when " ++ rest)) (sym (append_assoc form (32 ∷ []) (text ++ codes ")")) ∙ sym (append_assoc (form ++ 32 ∷ []) text (codes ")")))
+
+pub goal_begun : (old text : List ℕ) → (old ++ codes ")\n(:goal") ++ (32 ∷ text) ≡ (old ++ codes ")\n(:goal ") ++ text
+goal_begun old text = append_assoc old (codes ")\n(:goal") (32 ∷ text) ∙ sym (append_assoc old (codes ")\n(:goal ") text)
+
+pub action_begun : (old name text : List ℕ) → (old ++ action_start name) ++ (32 ∷ text) ≡ old ++ (action_head name ++ text)
+action_begun old name text =
+    append_assoc old (action_start name) (32 ∷ text)
+    ∙ ap (λ rest. old ++ rest) (append_assoc (codes "(:action " ++ name) (codes " :parameters ()\n :precondition") (32 ∷ text) ∙ sym (append_assoc (codes "(:action " ++ name) (codes " :parameters ()\n :precondition ") text))
 
 pub set_atoms_from : (bits : List Bool) (names : List Name) (atom : ℕ) (bit : Bool) (name : Name) → atom < length bits → atom < length names
     → bit ≡ get_or bits atom false → name ≡ get_or names atom name

@@ -1,4 +1,5 @@
 pub mod LayoutLemmas
+pub mod PoolLemmas
 pub mod Texts
 pub mod WrittenForms
 pub mod WrittenPlans

@@ -1,3 +1,4 @@
+pub mod AtomTexts
 pub mod Layout
 pub mod TaskOf
 pub mod Texts

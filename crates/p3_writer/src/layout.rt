@@ -1,15 +1,18 @@
 //! The two texts of a target, each in one buffer.
 
-ghost use Rattle.std.specs.Prelude.{◌≡◌, ◌++◌, ◌<◌, ◌^◌, length, IsTrue, IfOk, OnOk};
+ghost use Rattle.std.specs.Prelude.{◌≡◌, ◌∷◌, ◌++◌, ◌<◌, ◌^◌, [], length, slice_index_or, IsTrue, IfOk, OnOk};
 ghost use Rattle.std.specs.List.{list_all};
 ghost use Rattle.std.specs.Fmt.{decimal};
 ghost use Rattle.p3_base.specs.Words.{is_name, is_predicate_name};
 ghost use Rattle.p3_formula.specs.Forms.{IsBelow, AreBelow};
 ghost use Rattle.p3_formula.specs.Targets.{IsSized, action_names, is_sized_change, is_sized_action};
-ghost use Rattle.p3_writer.specs.Layout.{atom_text, headers_text, negated_text, form_text, joined_text, literal_text, change_text, changes_text, cost_text, action_head, effect_text, action_text, actions_text, is_small, set_atom, set_atoms, domain_layout, problem_layout};
+ghost use Rattle.p3_writer.specs.Layout.{atom_text, negated_text, form_text, joined_text, literal_text, change_text, changes_text, cost_text, effect_text, action_text, actions_text, is_small, set_atom, set_atoms, domain_layout, problem_layout};
+ghost use Rattle.p3_writer.specs.AtomTexts.{action_start};
 ghost use Rattle.p3_writer.specs.TaskOf.{task_of};
 ghost use Rattle.p3_writer.specs.Texts.{AreSpelled, IsDomainTextOf, IsProblemTextOf};
 
+use crate::atom_texts::{AtomTexts, push_atom};
+use itoa::Buffer;
 use p3_base::{Name, NoMemory};
 use p3_formula::{Bits, Change, Form, Target, TargetAction};
 use std::alloc::Global;
@@ -28,14 +31,10 @@ pub fn write_domain(alloc: Global, target: &Target) -> Result<Vec<u8>, NoMemory>
         &mut out,
         "(define (domain compiled)\n(:requirements :adl :action-costs)\n(:predicates",
     )?;
-    push_headers(&mut out, target.predicates.items())?;
+    let atoms = AtomTexts::of(alloc, target.predicates.items())?;
+    push_bytes(&mut out, atoms.all())?;
     push(&mut out, ")\n(:functions (total-cost) - number)\n")?;
-    push_actions(
-        alloc,
-        &mut out,
-        target.predicates.items(),
-        target.actions.items(),
-    )?;
+    push_actions(&mut out, &atoms, target.actions.items())?;
     push(&mut out, ")\n")?;
     Ok(out)
 }
@@ -55,8 +54,9 @@ pub fn write_problem(alloc: Global, target: &Target) -> Result<Vec<u8>, NoMemory
         "(define (problem compiled)\n(:domain compiled)\n(:init (= (total-cost) 0)",
     )?;
     push_set_atoms(&mut out, &target.initial, target.predicates.items())?;
-    push(&mut out, ")\n(:goal ")?;
-    push_form(&mut out, target.predicates.items(), &target.goal)?;
+    push(&mut out, ")\n(:goal")?;
+    let atoms = AtomTexts::of(alloc, target.predicates.items())?;
+    push_form(&mut out, &atoms, &target.goal)?;
     push(&mut out, ")\n(:metric minimize (total-cost)))\n")?;
     Ok(out)
 }
@@ -68,113 +68,116 @@ fn push(out: &mut Vec<u8>, text: &str) -> Result<(), NoMemory>
     Ok(())
 }
 
-fn push_atom(out: &mut Vec<u8>, name: &Name) -> Result<(), NoMemory>
-    ensures { OnOk result (out.new.items ≡ out.old.items ++ atom_text name.now) }
+fn push_bytes(out: &mut Vec<u8>, bytes: &[u8]) -> Result<(), NoMemory>
+    ensures { OnOk result (out.new.items ≡ out.old.items ++ bytes.now) }
 {
-    push(out, "(")?;
-    out.extend_from_slice(name.bytes())?;
-    push(out, ")")
-}
-
-fn push_headers(out: &mut Vec<u8>, names: &[Name]) -> Result<(), NoMemory>
-    ensures { OnOk result (out.new.items ≡ out.old.items ++ headers_text names.now) }
-{
-    for name in names {
-        push(out, " ")?;
-        push_atom(out, name)?;
-    }
+    out.extend_from_slice(bytes)?;
     Ok(())
 }
 
-/// A form, by a recursion as deep as the form.
+/// A form with a space before it, by a recursion as deep as the form.
 #[cycle(forms)]
 #[tactic(auto, using(crate::proofs::LayoutLemmas::text_laws, p3_formula::proofs::FormLemmas::below_laws))]
-fn push_form(out: &mut Vec<u8>, names: &[Name], form: &Form) -> Result<(), NoMemory>
-    requires { IsBelow (length names.now) form.now }
-    ensures { OnOk result (out.new.items ≡ out.old.items ++ form_text names.now form.now) }
+fn push_form(out: &mut Vec<u8>, atoms: &AtomTexts<'_>, form: &Form) -> Result<(), NoMemory>
+    requires { IsBelow (length atoms.now) form.now }
+    ensures { OnOk result (out.new.items ≡ out.old.items ++ (32 ∷ form_text atoms.now form.now)) }
 {
     match form {
-        Form::True => push(out, "(and)"),
-        Form::False => push(out, "(or)"),
-        Form::Atom(atom) => push_atom(out, &names[*atom]),
-        Form::Not(part) => push_negated(out, names, part.get()),
-        Form::And(parts) => push_joined(out, names, "(and", parts.items()),
-        Form::Or(parts) => push_joined(out, names, "(or", parts.items()),
+        Form::True => push(out, " (and)"),
+        Form::False => push(out, " (or)"),
+        Form::Atom(atom) => push_bytes(out, atoms.spaced(*atom)),
+        Form::Not(part) => push_negated(out, atoms, part.get()),
+        Form::And(parts) => push_joined(out, atoms, " (and", parts.items()),
+        Form::Or(parts) => push_joined(out, atoms, " (or", parts.items()),
     }
 }
 
 #[cycle(forms)]
-fn push_negated(out: &mut Vec<u8>, names: &[Name], part: &Form) -> Result<(), NoMemory>
-    requires { IsBelow (length names.now) part.now }
+#[tactic(auto, using(crate::proofs::LayoutLemmas::negated_pushed))]
+fn push_negated(out: &mut Vec<u8>, atoms: &AtomTexts<'_>, part: &Form) -> Result<(), NoMemory>
+    requires { IsBelow (length atoms.now) part.now }
     ensures { OnOk result
-        (out.new.items ≡ out.old.items ++ negated_text (form_text names.now part.now)) }
+        (out.new.items ≡ out.old.items ++ (32 ∷ negated_text (form_text atoms.now part.now))) }
 {
-    push(out, "(not ")?;
-    push_form(out, names, part)?;
+    push(out, " (not")?;
+    push_form(out, atoms, part)?;
     push(out, ")")
 }
 
-/// The parts behind an opening parenthesis and a word, each with a space before it.
+/// The parts behind a space, an opening parenthesis and a word, each with a space before it.
 #[cycle(forms)]
 fn push_joined(
     out: &mut Vec<u8>,
-    names: &[Name],
+    atoms: &AtomTexts<'_>,
     head: &str,
     parts: &[Form],
 ) -> Result<(), NoMemory>
-    requires { AreBelow (length names.now) parts.now }
+    requires { AreBelow (length atoms.now) parts.now }
     ensures { OnOk result
-        (out.new.items ≡ out.old.items ++ joined_text names.now head.now parts.now) }
+        (out.new.items ≡ out.old.items ++ joined_text atoms.now head.now parts.now) }
 {
     push(out, head)?;
     for part in parts {
-        push(out, " ")?;
-        push_form(out, names, part)?;
+        push_form(out, atoms, part)?;
     }
     push(out, ")")
 }
 
-fn push_literal(out: &mut Vec<u8>, is_set: bool, name: &Name) -> Result<(), NoMemory>
-    ensures { OnOk result (out.new.items ≡ out.old.items ++ literal_text is_set name.now) }
+/// An atom that is set, or else its negation, with a space before it.
+#[tactic(auto, using(crate::proofs::LayoutLemmas::negated_pushed))]
+fn push_literal(
+    out: &mut Vec<u8>,
+    atoms: &AtomTexts<'_>,
+    is_set: bool,
+    atom: usize,
+) -> Result<(), NoMemory>
+    requires { atom < length atoms.now }
+    ensures { OnOk result (out.new.items
+        ≡ out.old.items ++ (32 ∷ literal_text is_set (slice_index_or atoms.now atom []))) }
 {
     if is_set {
-        push_atom(out, name)
+        push_bytes(out, atoms.spaced(atom))
     } else {
-        push(out, "(not ")?;
-        push_atom(out, name)?;
+        push(out, " (not")?;
+        push_bytes(out, atoms.spaced(atom))?;
         push(out, ")")
     }
 }
 
-fn push_change(out: &mut Vec<u8>, names: &[Name], change: &Change) -> Result<(), NoMemory>
-    requires { IsTrue (is_sized_change (length names.now) change.now) }
-    ensures { OnOk result (out.new.items ≡ out.old.items ++ change_text names.now change.now) }
+/// A change with a space before it.
+#[tactic(auto, using(crate::proofs::LayoutLemmas::when_pushed))]
+fn push_change(out: &mut Vec<u8>, atoms: &AtomTexts<'_>, change: &Change) -> Result<(), NoMemory>
+    requires { IsTrue (is_sized_change (length atoms.now) change.now) }
+    ensures { OnOk result
+        (out.new.items ≡ out.old.items ++ (32 ∷ change_text atoms.now change.now)) }
 {
-    let name = &names[change.atom];
     match &change.cond {
-        Form::True => push_literal(out, change.add, name),
+        Form::True => push_literal(out, atoms, change.add, change.atom),
         condition => {
-            push(out, "(when ")?;
-            push_form(out, names, condition)?;
-            push(out, " ")?;
-            push_literal(out, change.add, name)?;
+            push(out, " (when")?;
+            push_form(out, atoms, condition)?;
+            push_literal(out, atoms, change.add, change.atom)?;
             push(out, ")")
         }
     }
 }
 
-fn push_changes(out: &mut Vec<u8>, names: &[Name], changes: &[Change]) -> Result<(), NoMemory>
-    requires { IsTrue (list_all (is_sized_change (length names.now)) changes.now) }
-    ensures { OnOk result (out.new.items ≡ out.old.items ++ changes_text names.now changes.now) }
+/// The changes, each with a space before it.
+fn push_changes(
+    out: &mut Vec<u8>,
+    atoms: &AtomTexts<'_>,
+    changes: &[Change],
+) -> Result<(), NoMemory>
+    requires { IsTrue (list_all (is_sized_change (length atoms.now)) changes.now) }
+    ensures { OnOk result (out.new.items ≡ out.old.items ++ changes_text atoms.now changes.now) }
 {
     for change in changes {
-        push(out, " ")?;
-        push_change(out, names, change)?;
+        push_change(out, atoms, change)?;
     }
     Ok(())
 }
 
-fn push_cost(alloc: Global, out: &mut Vec<u8>, cost: u64) -> Result<(), NoMemory>
+fn push_cost(out: &mut Vec<u8>, cost: u64) -> Result<(), NoMemory>
     ensures layout { OnOk result (out.new.items ≡ out.old.items ++ cost_text cost) }
     ensures small { OnOk result (cost < 2 ^ 64) }
 {
@@ -182,74 +185,70 @@ fn push_cost(alloc: Global, out: &mut Vec<u8>, cost: u64) -> Result<(), NoMemory
         return Ok(());
     }
     push(out, " (increase (total-cost) ")?;
-    push_number(alloc, out, cost)?;
+    push_number(out, cost)?;
     push(out, ")")
 }
 
-fn push_number(alloc: Global, out: &mut Vec<u8>, number: u64) -> Result<(), NoMemory>
+fn push_number(out: &mut Vec<u8>, number: u64) -> Result<(), NoMemory>
     ensures { OnOk result (out.new.items ≡ out.old.items ++ decimal number) }
 {
-    let text = format!(in alloc; "{number}")?;
-    push(out, text.as_str())
+    push(out, Buffer::new().format(number))
 }
 
-#[tactic(auto, unfolding(crate::specs::Layout::action_text))]
+#[tactic(auto, unfolding(crate::specs::Layout::action_text), using(crate::proofs::LayoutLemmas::action_begun))]
 fn push_action(
-    alloc: Global,
     out: &mut Vec<u8>,
-    names: &[Name],
+    atoms: &AtomTexts<'_>,
     action: &TargetAction,
 ) -> Result<(), NoMemory>
-    requires { IsTrue (is_sized_action (length names.now) action.now) }
+    requires { IsTrue (is_sized_action (length atoms.now) action.now) }
     ensures layout { OnOk result
-        (out.new.items ≡ out.old.items ++ action_text names.now action.now) }
+        (out.new.items ≡ out.old.items ++ action_text atoms.now action.now) }
     ensures small { OnOk result (action.now.cost < 2 ^ 64) }
 {
     push_action_head(out, &action.name)?;
-    push_form(out, names, &action.pre)?;
+    push_form(out, atoms, &action.pre)?;
     push(out, "\n :effect ")?;
-    push_effect(alloc, out, names, action)?;
+    push_effect(out, atoms, action)?;
     push(out, ")\n")
 }
 
 fn push_action_head(out: &mut Vec<u8>, name: &Name) -> Result<(), NoMemory>
-    ensures { OnOk result (out.new.items ≡ out.old.items ++ action_head name.now) }
+    ensures { OnOk result (out.new.items ≡ out.old.items ++ action_start name.now) }
 {
     push(out, "(:action ")?;
     out.extend_from_slice(name.bytes())?;
-    push(out, " :parameters ()\n :precondition ")
+    push(out, " :parameters ()\n :precondition")
 }
 
 fn push_effect(
-    alloc: Global,
     out: &mut Vec<u8>,
-    names: &[Name],
+    atoms: &AtomTexts<'_>,
     action: &TargetAction,
 ) -> Result<(), NoMemory>
-    requires { IsTrue (is_sized_action (length names.now) action.now) }
+    requires { IsTrue (is_sized_action (length atoms.now) action.now) }
     ensures layout { OnOk result
-        (out.new.items ≡ out.old.items ++ effect_text names.now action.now) }
+        (out.new.items ≡ out.old.items ++ effect_text atoms.now action.now) }
     ensures small { OnOk result (action.now.cost < 2 ^ 64) }
 {
     push(out, "(and")?;
-    push_changes(out, names, action.effects.items())?;
-    push_cost(alloc, out, action.cost)?;
+    push_changes(out, atoms, action.effects.items())?;
+    push_cost(out, action.cost)?;
     push(out, ")")
 }
 
 fn push_actions(
-    alloc: Global,
     out: &mut Vec<u8>,
-    names: &[Name],
+    atoms: &AtomTexts<'_>,
     actions: &[TargetAction],
 ) -> Result<(), NoMemory>
-    requires { IsTrue (list_all (is_sized_action (length names.now)) actions.now) }
+    requires { IsTrue (list_all (is_sized_action (length atoms.now)) actions.now) }
     ensures layout { OnOk result
-        (out.new.items ≡ out.old.items ++ actions_text names.now actions.now) }
+        (out.new.items ≡ out.old.items ++ actions_text atoms.now actions.now) }
     ensures small { OnOk result (IsTrue (list_all is_small actions.now)) }
 {
     for action in actions {
-        push_action(alloc, out, names, action)?;
+        push_action(out, atoms, action)?;
     }
     Ok(())
 }
@@ -268,7 +267,6 @@ fn push_set_atom(out: &mut Vec<u8>, is_set: bool, name: &Name) -> Result<(), NoM
     ensures { OnOk result (out.new.items ≡ out.old.items ++ set_atom is_set name.now) }
 {
     if is_set {
-        push(out, " ")?;
         push_atom(out, name)?;
     }
     Ok(())

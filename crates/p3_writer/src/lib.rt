@@ -1,6 +1,7 @@
 //! Targets written as PDDL: the texts of the plain task that a target is.
 #![tactic(auto)]
 
+mod atom_texts;
 mod laws;
 mod layout;
 

@@ -7,6 +7,6 @@ use Rattle.p3_writer.proofs.layout.push_actions.Given as goal
 -- the actions passed stand written, and their costs are machine numbers
 abbrev pub invariant-loop-action : goal.invariant-loop-action
 invariant-loop-action l = record {
-  written : l.out.items ≡ l.fn.out.items ++ flat_map (layout.action_text l.names) (take l.action-index l.actions);
+  written : l.out.items ≡ l.fn.out.items ++ flat_map (layout.action_text l.atoms) (take l.action-index l.actions);
   small : IsTrue (list_all layout.is_small (take l.action-index l.actions));
 }
