@@ -200,7 +200,7 @@ one_more limit source token later built next stands goes is = record {
   leads = goes.leads;
 }
 
-stopped : (limit : ℕ) (tokens : List Token) → whole_of (fold (read_token limit) Stopped tokens) ≡ None
+pub stopped : (limit : ℕ) (tokens : List Token) → whole_of (fold (read_token limit) Stopped tokens) ≡ None
 stopped limit [] = refl
 stopped limit (token ∷ tokens) = stopped limit tokens
 

@@ -2,6 +2,8 @@
 use Rattle.std.proofs.Common.{◌≡◌, ◌∙◌, refl, sym, ap, ℕ, Bool, true, false, IsTrue, ◌↔◌, ◌||◌, ◌&&◌, not, List, [], ◌∷◌, ◌++◌, map, fold, Option, Some, None, append_assoc}
 use Rattle.std.specs.Prelude.{nat_lt, if◌then◌else◌, codes, option_map}
 use Rattle.std.specs.Bool.{one_answer}
+use Rattle.std.specs.List.{list_all}
+use Rattle.std.proofs.lemmas.Bool.{and_parts}
 use Rattle.std.specs.Char.{to_ascii_lowercase}
 use Rattle.std.specs.Str.{bytes_eq}
 use Rattle.std.proofs.lemmas.Slice.Eq.{bytes_eq-Decides}
@@ -20,7 +22,7 @@ use Rattle.p3_tree.specs.declared.term.Ref.{Ref}
 use Rattle.p3_outline.specs.declared.constructs.Around.{Around}
 use Rattle.p3_outline.specs.declared.constructs.Found.{Found}
 use Rattle.p3_outline.specs.Nodes.{elements}
-use Rattle.p3_outline.specs.Constructs.{the_found, sooner, least_with, is_some_of, declaring, conditions, the_around, with_head, with_no_head, Finds, either_shown, increase_shown, other_shown, number_shown, timed_shown, compared_shown, metric_shown, head_shown, behind_shown, place_shown, constructs_in, total_time, behind_head, constructs_below}
+use Rattle.p3_outline.specs.Constructs.{the_found, sooner, least_with, is_some_of, begins_as_left_out, declaring, conditions, the_around, with_head, with_no_head, Finds, either_shown, increase_shown, other_shown, number_shown, timed_shown, compared_shown, metric_shown, head_shown, behind_shown, place_shown, constructs_in, total_time, behind_head, constructs_below}
 
 -- ---- words
 
@@ -35,6 +37,24 @@ same_name_sym a b = one_answer {P = a ≡ b} (same_name a b) (same_name b a) (by
 some_of : (names : List Name) (word : Name) → is_some_of names word ≡ has_name names word
 some_of [] word = refl
 some_of (name ∷ names) word = λ i. same_name_sym word name i || some_of names word i
+
+-- a word that fails a test is none of the words that pass it
+none_of : (test : Name → Bool) (word : Name) → test word ≡ false → (names : List Name) → list_all test names ≡ true → is_some_of names word ≡ false
+none_of test word fails [] all = refl
+none_of test word fails (name ∷ names) all =
+    let both = and_parts (test name) (list_all test names) all in
+    ap (λ b. b || is_some_of names word) (by (same_name word name) refl both.0) ∙ none_of test word fails names both.1
+  where
+    by : (b : Bool) → same_name word name ≡ b → test name ≡ true → b ≡ false
+    by true same passes = absurd (let is = ap test ((bytes_eq-Decides word name).0 same) in cc)
+    by false same passes = refl
+
+pub left_out_first : (word : Name) → (begins_as_left_out word && is_some_of left_out word) ≡ is_some_of left_out word
+left_out_first word = by (begins_as_left_out word) refl
+  where
+    by : (b : Bool) → begins_as_left_out word ≡ b → (b && is_some_of left_out word) ≡ is_some_of left_out word
+    by true is = refl
+    by false is = sym (none_of begins_as_left_out word is left_out refl)
 
 -- ---- the first word
 

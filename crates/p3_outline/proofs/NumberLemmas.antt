@@ -1,5 +1,5 @@
 -- A word and its first point.
-use Rattle.std.proofs.Common.{◌≡◌, ◌∙◌, refl, ap, ℕ, suc, ◌+◌, ◌<◌, ◌≤◌, Bool, true, false, not, cond, List, [], ◌∷◌, take, drop, length, Option, Some, None, arith}
+use Rattle.std.proofs.Common.{◌≡◌, ◌∙◌, refl, ap, ℕ, suc, ◌+◌, ◌<◌, ◌≤◌, Bool, true, false, not, ◌&&◌, ◌||◌, nat_lt, sym, map, cond, List, [], ◌∷◌, take, drop, length, Option, Some, None, arith}
 use Rattle.std.proofs.lemmas.List.{take_rest}
 use Rattle.std.specs.Prelude.{◌-◌, ◌==◌, if◌then◌else◌}
 use Rattle.std.specs.Char.{to_ascii_lowercase}
@@ -8,7 +8,18 @@ use Rattle.std.specs.Str.{str_to_ascii_lowercase}
 use Rattle.std.proofs.lemmas.Bool.Decides.{nat_tests}
 use Rattle.p3_tree.specs.Names.{Name}
 use Rattle.p3_tree.specs.Decimals.{at_point}
-use Rattle.p3_outline.specs.Numbers.{is_no_point}
+use Rattle.std.specs.List.{list_all}
+use Rattle.std.specs.Option.{option_or, option_map_or}
+use Rattle.p3_base.specs.Words.{is_digit}
+use Rattle.p3_base.specs.declared.refusal.Refusal.{Refusal}
+use Rattle.p3_base.specs.declared.refusal.Role.{Role}
+use Rattle.p3_base.specs.declared.refusal.Side.{Side}
+use Rattle.p3_tree.specs.Decimals.{are_digits, is_decimal, digits_of}
+use Rattle.p3_tree.specs.Refusals.Places.{first_some}
+use Rattle.p3_tree.specs.Refusals.Texts.{is_too_long, has_places_above, long_number}
+use Rattle.p3_tree.specs.Sides.{digit_limit, place_limit}
+use Rattle.p3_tree.specs.Tokens.{Token, Tokens, before}
+use Rattle.p3_outline.specs.Numbers.{is_no_point, begins_with_digit}
 
 lowered_point : (byte : ℕ) → (byte == 46) ≡ (to_ascii_lowercase byte == 46)
 lowered_point byte = grind (arith, nat_tests)
@@ -77,3 +88,44 @@ pub parted : (word : List ℕ) (place : ℕ) → place ≡ prefix_len is_no_poin
 parted word place is within =
     ap (parts_of (take place word)) (take_rest word (place + 1)) ∙ ap (λ n. parts_of (take n word) (drop (n + 1) word)) is
     ∙ (λ i. (front word i, behind word (omega (arith, is, within)) i))
+
+-- ---- numbers too long
+
+are_by : (is_point : Bool) (byte : ℕ) (rest : Name) → is_digit byte ≡ false → are_digits (split is_point byte rest).0 ≡ false
+are_by true byte rest none = refl
+are_by false byte rest none = ap (λ b. b && list_all is_digit (at_point rest).0) none
+
+no_decimal : (word : Name) → begins_with_digit word ≡ false → is_decimal word ≡ false
+no_decimal [] none = refl
+no_decimal (byte ∷ rest) none = ap (λ b. b && option_map_or are_digits (split (byte == 46) byte rest).1 true) (are_by (byte == 46) byte rest none)
+
+-- each number begins with a digit
+pub digit_first : (side : Side) (word : Name) → (begins_with_digit word && is_too_long side word) ≡ is_too_long side word
+digit_first side word = by (begins_with_digit word) refl
+  where
+    long : Bool
+    long = nat_lt (digit_limit side) (length (digits_of word)) || has_places_above (place_limit side) word
+
+    by : (b : Bool) → begins_with_digit word ≡ b → (b && is_too_long side word) ≡ is_too_long side word
+    by true is = refl
+    by false is = sym (ap (λ b. b && long) (no_decimal word is))
+
+or_more : (a b c : Option Refusal) → option_or (option_or a b) c ≡ option_or a (option_or b c)
+or_more (Some found) b c = refl
+or_more None b c = refl
+
+or_none : (a : Option Refusal) → option_or a None ≡ a
+or_none (Some found) = refl
+or_none None = refl
+
+abbrev pub numbers_from : Side → Role → Option Refusal → Tokens → Option Refusal
+numbers_from side role found left = option_or found (first_some (map (long_number side role) left.tokens))
+
+-- one token more
+pub numbers_more : (side : Side) (role : Role) (found next : Option Refusal) (token : Token) (later : Tokens) → next ≡ option_or found (long_number side role token)
+    → numbers_from side role found (before token later) ≡ numbers_from side role next later
+numbers_more side role found next token later is =
+    sym (or_more found (long_number side role token) (first_some (map (long_number side role) later.tokens))) ∙ ap (λ o. numbers_from side role o later) (sym is)
+
+pub numbers_end : (found : Option Refusal) → option_or found (first_some []) ≡ found
+numbers_end found = or_none found

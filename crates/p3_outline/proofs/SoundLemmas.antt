@@ -1,6 +1,6 @@
 -- A text with no refusal of its bytes and parentheses spells an expression.
-use Rattle.std.proofs.Common.{◌≡◌, ◌∙◌, refl, sym, ap, ◌≢◌, ℕ, suc, ◌+◌, ◌-◌, ◌==◌, Bool, true, false, nat_lt, if◌then◌else◌, List, [], ◌∷◌, ◌++◌, fold, length, Option, Some, None, arith}
-use Rattle.std.specs.Prelude.{is_some, is_none}
+use Rattle.std.proofs.Common.{◌≡◌, ◌∙◌, refl, sym, ap, subst, ◌≢◌, ℕ, suc, ◌+◌, ◌-◌, ◌==◌, Bool, true, false, nat_lt, if◌then◌else◌, List, [], ◌∷◌, ◌++◌, fold, length, Option, Some, None, arith}
+use Rattle.std.specs.Prelude.{is_some, is_none, unwrap_or}
 use Rattle.std.specs.Option.{option_map, option_or, option_map_or}
 use Rattle.p3_base.specs.declared.refusal.Code.TheVariants.{Unbalanced, TooDeep}
 use Rattle.p3_base.specs.declared.refusal.Refusal.{Refusal}
@@ -16,17 +16,20 @@ use Rattle.p3_tree.specs.Expressions.{Group, Reading, Within, Whole, Stopped, re
 use Rattle.p3_tree.specs.declared.expression.Expression.{Expression}
 use Rattle.p3_tree.specs.declared.expression.Expression.TheVariants as expression
 use Rattle.p3_outline.specs.Balances.{or_foreign, refusal_of_tokens, balance_refusal, outline_refusal}
+use Rattle.p3_outline.proofs.BuildLemmas.{stopped}
+use Rattle.std.proofs.lemmas.Bool.Decides.{nat_tests}
 
 abbrev Ends : ℕ → Reading → List Token → Type 0
 Ends limit read tokens = is_some (whole_of (fold (read_token limit) read tokens)) ≡ true
 
-no_some : {A : Type 0} (o : Option A) → ((a : A) → o ≢ Some a) → o ≡ None
-no_some None not_some = refl
-no_some (Some a) not_some = absurd (not_some a refl)
+-- what nodes stand for, where there are some or none
+pub spelled : (found : Option Expression) (es : List Expression) → Some es ≡ option_map (λ e. e ∷ []) found → (e : Expression) × (found ≡ Some e) × (es ≡ e ∷ [])
+spelled None es is = absurd cc
+spelled (Some e) es is = (e, refl, ap (λ o. unwrap_or o []) is)
 
-none_mapped : (o : Option Expression) → None ≡ option_map (λ e. e ∷ []) o → is_some o ≡ true → ⊥
-none_mapped None none some = absurd cc
-none_mapped (Some e) none some = absurd cc
+pub none_spelled : (found : Option Expression) → None ≡ option_map (λ e. e ∷ []) found → found ≡ None
+none_spelled None is = refl
+none_spelled (Some e) is = absurd cc
 
 one_more : (n : ℕ) → n + 1 ≡ suc n
 one_more n = omega arith
@@ -38,6 +41,18 @@ record BothNone {A : Type 0} (first later : Option A) : Type 0 where
 both_none : {A : Type 0} (first later : Option A) → option_or first later ≡ None → BothNone first later
 both_none None later is = record { is_first = refl; is_later = is }
 both_none (Some a) later is = absurd cc
+
+more_by_one : (n : ℕ) → n + 1 ≡ suc n
+more_by_one n = omega arith
+
+one_off : (n : ℕ) → suc n - 1 ≡ n
+one_off n = omega arith
+
+none_is_zero : (n : ℕ) → (suc n == 0) ≡ true → ⊥
+none_is_zero n is = grind (arith, nat_tests, is)
+
+none_is_one : (n : ℕ) → (suc (suc n) == 1) ≡ true → ⊥
+none_is_one n is = grind (arith, nat_tests, is)
 
 module _ (role : Role) where
   -- nothing may follow the whole
@@ -111,9 +126,77 @@ module _ (role : Role) where
   sound limit text none = sound_by limit (length text) (tokens_of text).foreign (tokens_of text).tokens none
 
   -- a text with no refusal has nodes
-  pub never : (limit : ℕ) (text : List ℕ) (found : Option Refusal) → ((refusal : Refusal) → found ≢ Some refusal) → found ≡ balance_refusal role limit text
-      → None ≡ option_map (λ e. e ∷ []) (expression_of_text limit text) → ⊥
-  never limit text found not_some is none = none_mapped (expression_of_text limit text) none (sound limit text (sym is ∙ no_some found not_some))
+  pub never : (limit : ℕ) (text : List ℕ) → balance_refusal role limit text ≡ None → expression_of_text limit text ≡ None → ⊥
+  never limit text none is = let some = sound limit text none in absurd cc
+
+-- ---- a text that spells an expression has no refusal of its bytes and parentheses
+
+module _ (role : Role) (limit size : ℕ) where
+  abbrev Reads : Reading → List Token → Expression → Type 0
+  Reads read tokens e = whole_of (fold (read_token limit) read tokens) ≡ Some e
+
+  abbrev NoRefusal : ℕ → List Token → Type 0
+  NoRefusal lists tokens = BothNone (unbalanced_from role size (Inside lists) tokens) (too_deep_from role limit lists tokens)
+
+  never_whole : {A : Type 0} (tokens : List Token) (e : Expression) → Reads Stopped tokens e → A
+  never_whole tokens e is = let none = stopped limit tokens in absurd cc
+
+  -- nothing follows the whole
+  whole_ends : (lists : ℕ) (part e : Expression) (tokens : List Token) → Reads (Whole part) tokens e → BothNone (unbalanced_from role size Behind tokens) (too_deep_from role limit lists tokens)
+  unfolding unbalanced_from too_deep_from
+  whole_ends lists part e [] is = record { is_first = refl; is_later = refl }
+  whole_ends lists part e (token ∷ tokens) is = never_whole tokens e is
+
+  abbrev Balances : List Token → Type 0
+  Balances tokens = (groups : List Group) (e : Expression) → Reads (Within groups) tokens e → NoRefusal (length groups) tokens
+
+  opens_by : (at : ℕ) (groups : List Group) (e : Expression) (tokens : List Token) (fits : Bool) → Balances tokens
+      → Reads (if fits then Within (record { at = at; parts = [] } ∷ groups) else Stopped) tokens e
+      → BothNone (unbalanced_from role size (Inside (length groups + 1)) tokens) (if fits then too_deep_from role limit (length groups + 1) tokens else Some (refusal_at TooDeep role at 1))
+  opens_by at groups e tokens true later is =
+      subst (λ n. NoRefusal n tokens) (sym (more_by_one (length groups))) (later (record { at = at; parts = [] } ∷ groups) e is)
+  opens_by at groups e tokens false later is = never_whole tokens e is
+
+  -- of many open lists one closes
+  closes_by : (n at : ℕ) (tokens : List Token) (none one : Bool) → (suc (suc n) == 0) ≡ none → (suc (suc n) == 1) ≡ one → unbalanced_from role size (Inside (suc n)) tokens ≡ None
+      → option_map_or (λ next. unbalanced_from role size next tokens) (if none then None else Some (if one then Behind else Inside (suc (suc n) - 1))) (Some (refusal_at Unbalanced role at 1)) ≡ None
+  closes_by n at tokens true one is_none is_one whole = absurd (none_is_zero (suc n) is_none)
+  closes_by n at tokens false true is_none is_one whole = absurd (none_is_one n is_one)
+  closes_by n at tokens false false is_none is_one whole = ap (λ m. unbalanced_from role size (Inside m) tokens) (one_off (suc n)) ∙ whole
+
+  word_by : (n : ℕ) (tokens : List Token) (none : Bool) → (suc n == 0) ≡ none → unbalanced_from role size (Inside (suc n)) tokens ≡ None
+      → unbalanced_from role size (if none then Behind else Inside (suc n)) tokens ≡ None
+  word_by n tokens true is whole = absurd (none_is_zero n is)
+  word_by n tokens false is whole = whole
+
+  tokens_balance : (tokens : List Token) → Balances tokens
+  unfolding unbalanced_from too_deep_from
+  tokens_balance [] groups e is = absurd cc
+  tokens_balance (Open at ∷ tokens) groups e is = opens_by at groups e tokens (nat_lt (length groups) limit) (tokens_balance tokens) is
+  tokens_balance (Close at ∷ tokens) [] e is = never_whole tokens e is
+  tokens_balance (Close at ∷ tokens) (group ∷ []) e is = whole_ends 0 (expression.Group group.at group.parts) e tokens is
+  tokens_balance (Close at ∷ tokens) (group ∷ outer ∷ groups) e is =
+      let n = length groups in
+      let later = tokens_balance tokens (record { at = outer.at; parts = outer.parts ++ expression.Group group.at group.parts ∷ [] } ∷ groups) e is in
+      record {
+        is_first = closes_by n at tokens (suc (suc n) == 0) (suc (suc n) == 1) refl refl later.is_first;
+        is_later = ap (λ m. too_deep_from role limit m tokens) (one_off (suc n)) ∙ later.is_later;
+      }
+  tokens_balance (Word at text ∷ tokens) [] e is = whole_ends 0 (expression.Word at text) e tokens is
+  tokens_balance (Word at text ∷ tokens) (group ∷ groups) e is =
+      let later = tokens_balance tokens (record { at = group.at; parts = group.parts ++ expression.Word at text ∷ [] } ∷ groups) e is in
+      record { is_first = word_by (length groups) tokens (suc (length groups) == 0) refl later.is_first; is_later = later.is_later }
+
+  balanced_by : (foreign : Option ℕ) (tokens : List Token) (e : Expression) → (if is_none foreign then expression_of limit tokens else None) ≡ Some e
+      → or_foreign role foreign (refusal_of_tokens role limit size tokens) ≡ None
+  unfolding expression_of
+  balanced_by (Some at) tokens e is = absurd cc
+  balanced_by None tokens e is =
+      let none = tokens_balance tokens [] e is in
+      ap (λ o. option_or o (too_deep_from role limit 0 tokens)) none.is_first ∙ none.is_later
+
+pub balanced : (role : Role) (limit : ℕ) (text : List ℕ) (e : Expression) → expression_of_text limit text ≡ Some e → balance_refusal role limit text ≡ None
+balanced role limit text e is = balanced_by role limit (length text) (tokens_of text).foreign (tokens_of text).tokens e is
 
 -- ---- it is the first refusal that the text shows by itself
 

@@ -15,6 +15,10 @@ pub record Built : Type 0 where
 abbrev pub the_built : Building → Built
 the_built building = record { nodes = building.nodes.items; open_lists = reverse building.open.items }
 
+-- what is built behind a token that may come next
+abbrev pub only_if : Bool → Built → Option Built
+only_if goes built = if goes then Some built else None
+
 -- one expression is whole
 abbrev pub is_done : Built → Bool
 is_done built = is_empty built.open_lists && not (is_empty built.nodes)

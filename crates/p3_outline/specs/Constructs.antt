@@ -1,5 +1,5 @@
 -- The first construct that is left out by name, looked for from the outside in.
-use Rattle.std.specs.Prelude.{◌≡◌, nat_lt, Bool, false, not, ◌&&◌, ◌||◌, List, [], ◌∷◌, ◌++◌, map, flat_map, length, codes, if◌then◌else◌, Option, Some, None}
+use Rattle.std.specs.Prelude.{◌≡◌, ◌==◌, nat_lt, Bool, false, not, ◌&&◌, ◌||◌, List, [], ◌∷◌, ◌++◌, map, flat_map, length, codes, if◌then◌else◌, Option, Some, None}
 use Rattle.std.specs.List.{list_any}
 use Rattle.std.specs.Option.{option_map_or}
 use Rattle.std.specs.Str.{str_to_ascii_lowercase}
@@ -40,6 +40,11 @@ conditions = map codes ("when" ∷ "forall" ∷ [])
 
 abbrev pub is_some_of : List Name → Name → Bool
 is_some_of names word = list_any (same_name word) names
+
+-- how each word begins that is left out
+abbrev pub begins_as_left_out : Name → Bool
+begins_as_left_out [] = false
+begins_as_left_out (byte ∷ bytes) = byte == 58 || byte == 119 || byte == 97 || byte == 104 || byte == 100 || byte == 115 || byte == 47 || byte == 60 || byte == 62
 
 -- what the heads of the lists around are, and that of the innermost one
 abbrev pub the_around : List Name → Option Name → Around

@@ -1,7 +1,8 @@
 -- A word parted at its first point.
-use Rattle.std.specs.Prelude.{List, map, nat_lt, ◌==◌, Bool, true, not, ◌&&◌, ℕ, [], ◌++◌, length, Option, Some, None, is_some, unwrap_or}
+use Rattle.std.specs.Prelude.{List, map, nat_lt, ◌==◌, Bool, true, false, not, ◌&&◌, ℕ, [], ◌∷◌, ◌++◌, length, Option, Some, None, is_some, unwrap_or}
 use Rattle.std.specs.Option.{option_map, option_map_or}
 use Rattle.std.specs.Str.{str_to_ascii_lowercase}
+use Rattle.p3_base.specs.Words.{is_digit}
 use Rattle.p3_base.specs.declared.refusal.Refusal.{Refusal}
 use Rattle.p3_base.specs.declared.refusal.Role.{Role}
 use Rattle.p3_tree.specs.Refusals.Places.{first_some}
@@ -28,6 +29,11 @@ digit_count parts = length (parts.0 ++ unwrap_or parts.1 [])
 abbrev pub has_places_above : Option ℕ → Option Name → Bool
 has_places_above None behind = is_some behind
 has_places_above (Some limit) behind = nat_lt limit (option_map_or length behind 0)
+
+-- a digit comes first, as in each number
+abbrev pub begins_with_digit : Name → Bool
+begins_with_digit [] = false
+begins_with_digit (byte ∷ bytes) = is_digit byte
 
 -- the first number of a text that is too long
 abbrev pub number_refusal : Role → List ℕ → Option Refusal

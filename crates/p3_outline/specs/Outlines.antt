@@ -6,10 +6,12 @@ use Rattle.p3_tree.specs.Expressions.{expression_of_text}
 use Rattle.p3_places.specs.Found.{side_of}
 use Rattle.p3_outline.specs.Balances.{outline_refusal}
 use Rattle.p3_outline.specs.Nodes.{root_of}
+use Rattle.p3_outline.specs.Numbers.{number_refusal}
 use Rattle.p3_outline.specs.declared.view.Outline.{Outline}
 
--- the nodes stand for the one expression of the text, which they borrow
+-- the nodes stand for the one expression of the text, which they borrow, and its first number too long is known
 pub record IsOutline (role : Role) (text : List ℕ) (outline : Outline) : Type 0 where
   pub source : outline.text.now ≡ text
   pub balanced : outline_refusal role text ≡ None
   pub whole : expression_of_text (level_limit (side_of role)) text ≡ Some (root_of outline)
+  pub numbers : outline.number ≡ number_refusal role text

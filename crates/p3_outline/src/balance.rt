@@ -1,4 +1,4 @@
-//! The first scan of a text: foreign bytes, parentheses that do not fit, and lists too deep.
+//! What keeps a text from having nodes: foreign bytes, parentheses that do not fit, and lists too deep.
 
 ghost use Rattle.std.specs.Prelude.{◌≡◌, ◌≤◌, ◌<◌, ◌+◌, ◌^◌, length};
 ghost use Rattle.p3_base.specs.declared.refusal.Side.TheVariants.{Written};
@@ -8,7 +8,7 @@ ghost use Rattle.p3_lexer.specs.Lexing.{token_of};
 ghost use Rattle.p3_outline.specs.Balances.{deep_at, closed_at, word_at, inside, with_token, depth, at_end, balance_refusal};
 
 use p3_base::{Code, Pos, Refusal, Role};
-use p3_lexer::{Lexer, Next};
+use p3_lexer::{Lexer, Next, is_close, is_open};
 
 /// How far a scan has come.
 #[derive(Clone, Copy)]
@@ -79,9 +79,9 @@ fn inside(
     requires few { lists + 1 < 2 ^ 32 }
     ensures { result ≡ inside role limit lists deep (token_of offset text.now) }
 {
-    if text == b"(".as_slice() {
+    if is_open(text) {
         Scan::Inside(lists + 1, deep_at(role, limit, lists, deep, offset))
-    } else if text == b")".as_slice() {
+    } else if is_close(text) {
         closed_at(role, lists, deep, offset)
     } else {
         word_at(lists, deep)
@@ -117,34 +117,20 @@ fn at_end(role: Role, scan: Scan, size: u32) -> Option<Refusal>
     }
 }
 
-/// How many nodes there are with one token more; a `)` has none.
-fn with_node(count: usize, text: &[u8]) -> usize
-    ensures { count ≤ result }
-{
-    if text == b")".as_slice() {
-        count
-    } else {
-        count.saturating_add(1)
-    }
-}
-
-/// The first refusal of a text's bytes and parentheses, and how many words and lists it has, for
-/// the room of its nodes.
-pub(crate) fn first_refusal(role: Role, limit: u32, text: &[u8]) -> (Option<Refusal>, usize)
+/// The first refusal of a text's bytes and parentheses.
+pub(crate) fn first_refusal(role: Role, limit: u32, text: &[u8]) -> Option<Refusal>
     requires { length text.now ≤ byte_limit Written }
-    ensures { result.0 ≡ balance_refusal role limit text.now }
+    ensures { result ≡ balance_refusal role limit text.now }
 {
     let mut scan = Scan::Inside(0, None);
-    let mut nodes: usize = 0;
     let mut lexer = Lexer::new(text);
     loop {
         match lexer.next() {
             Next::Token { text: word, offset } => {
                 scan = with_token(role, limit, scan, offset, word);
-                nodes = with_node(nodes, word);
             }
-            Next::End => return (at_end(role, scan, text.len() as u32), nodes),
-            Next::Bad(at) => return (Some(refusal_at(Code::BadByte, role, at, 1)), nodes),
+            Next::End => return at_end(role, scan, text.len() as u32),
+            Next::Bad(at) => return Some(refusal_at(Code::BadByte, role, at, 1)),
         }
     }
 }

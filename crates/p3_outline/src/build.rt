@@ -7,12 +7,14 @@ ghost use Rattle.p3_base.specs.declared.refusal.Side.TheVariants.{Written};
 ghost use Rattle.p3_tree.specs.Expressions.{expression_of_text};
 ghost use Rattle.p3_tree.specs.Sides.{byte_limit};
 ghost use Rattle.p3_lexer.specs.Lexing.{token_of};
-ghost use Rattle.p3_outline.specs.Builds.{the_built, is_done, opened, closed, with_word, with_token};
+ghost use Rattle.p3_outline.specs.Builds.{the_built, only_if, is_done, opened, closed, with_word, with_token};
 ghost use Rattle.p3_outline.specs.Nodes.{expressions_in};
+ghost use Rattle.p3_outline.specs.Numbers.{number_refusal};
 
+use crate::numbers::or_long_number;
 use crate::view::Node;
-use p3_base::NoMemory;
-use p3_lexer::{Lexer, Next};
+use p3_base::{NoMemory, Refusal, Role};
+use p3_lexer::{Lexer, Next, is_close, is_open};
 use std::alloc::Global;
 
 /// A list that is open: the place of its node, and the offset of its `(`.
@@ -30,116 +32,124 @@ struct Building {
     open: Vec<OpenList>,
 }
 
-/// Whether one expression is whole.
-#[tactic(auto, using(crate::proofs::BuildLemmas::none_open, crate::proofs::BuildLemmas::no_node_yet))]
-fn is_done(building: &Building) -> bool
-    ensures { result ≡ is_done (the_built building.now) }
-{
-    building.open.len() == 0 && building.nodes.len() != 0
-}
-
-/// A list opens, where the limit allows it.
-#[tactic(auto, using(crate::proofs::BuildLemmas::reversed_length))]
-fn opened(limit: usize, building: Building, at: u32) -> Result<Option<Building>, NoMemory>
-    requires few { length building.nodes.items ≤ byte_limit Written }
-    ensures { IfOk result (λ next.
-        option_map the_built next ≡ opened limit at (the_built building)) }
-{
-    let Building {
-        mut nodes,
-        mut open,
-    } = building;
-    if open.len() >= limit {
-        return Ok(None);
+impl Building {
+    /// Whether one expression is whole.
+    #[tactic(auto, using(crate::proofs::BuildLemmas::none_open, crate::proofs::BuildLemmas::no_node_yet))]
+    fn is_done(&self) -> bool
+        ensures { result ≡ is_done (the_built self.now) }
+    {
+        self.open.len() == 0 && self.nodes.len() != 0
     }
-    let index = nodes.len() as u32;
-    nodes.push(Node::List { at, below: 0 })?;
-    open.push(OpenList { index, at })?;
-    Ok(Some(Building { nodes, open }))
-}
 
-/// The innermost list closes, and the nodes behind its own are below it.
-fn closed(building: Building) -> Option<Building>
-    requires few { length building.nodes.items ≤ byte_limit Written }
-    ensures { option_map the_built result ≡ closed (the_built building) }
-{
-    let Building {
-        mut nodes,
-        mut open,
-    } = building;
-    let OpenList { index, at } = open.pop()?;
-    let place = index as usize;
-    if place < nodes.len() {
-        let below = (nodes.len() - place - 1) as u32;
-        nodes[place] = Node::List { at, below };
+    /// Opens a list, where the limit allows it.
+    #[tactic(auto, using(crate::proofs::BuildLemmas::reversed_length))]
+    fn open_list(&mut self, limit: usize, at: u32) -> Result<bool, NoMemory>
+        requires few { length self.old.nodes.items ≤ byte_limit Written }
+        ensures { IfOk result (λ goes.
+            only_if goes (the_built self.new) ≡ opened limit at (the_built self.old)) }
+    {
+        if self.open.len() >= limit {
+            return Ok(false);
+        }
+        let index = self.nodes.len() as u32;
+        self.nodes.push(Node::List { at, below: 0 })?;
+        self.open.push(OpenList { index, at })?;
+        Ok(true)
     }
-    Some(Building { nodes, open })
-}
 
-fn with_word(building: Building, at: u32, len: u32) -> Result<Building, NoMemory>
-    ensures { IfOk result (λ next. the_built next ≡ with_word at len (the_built building)) }
-{
-    let Building { mut nodes, open } = building;
-    nodes.push(Node::Word { at, len })?;
-    Ok(Building { nodes, open })
-}
+    /// Closes the innermost list. The nodes behind its own are below it.
+    fn close_list(&mut self) -> bool
+        requires few { length self.old.nodes.items ≤ byte_limit Written }
+        ensures { only_if result (the_built self.new) ≡ closed (the_built self.old) }
+    {
+        let Some(OpenList { index, at }) = self.open.pop() else {
+            return false;
+        };
+        let place = index as usize;
+        if place < self.nodes.len() {
+            let below = (self.nodes.len() - place - 1) as u32;
+            self.nodes[place] = Node::List { at, below };
+        }
+        true
+    }
 
-/// One token more.
-#[tactic(auto, using(crate::proofs::BuildLemmas::lowered_length))]
-fn with_token(
-    limit: usize,
-    building: Building,
-    offset: u32,
-    text: &[u8],
-) -> Result<Option<Building>, NoMemory>
-    requires few { length building.nodes.items ≤ byte_limit Written }
-    requires short { length text.now ≤ byte_limit Written }
-    ensures { IfOk result (λ next.
-        option_map the_built next
-        ≡ with_token limit (the_built building) (token_of offset text.now)) }
-{
-    if is_done(&building) {
-        Ok(None)
-    } else if text == b"(".as_slice() {
-        opened(limit, building, offset)
-    } else if text == b")".as_slice() {
-        Ok(closed(building))
-    } else {
-        Ok(Some(with_word(building, offset, text.len() as u32)?))
+    /// Adds a word.
+    fn add_word(&mut self, at: u32, len: u32) -> Result<(), NoMemory>
+        ensures { IfOk result (λ _.
+            the_built self.new ≡ with_word at len (the_built self.old)) }
+    {
+        self.nodes.push(Node::Word { at, len })?;
+        Ok(())
+    }
+
+    /// Adds a token, where it may come next.
+    #[tactic(auto, using(crate::proofs::BuildLemmas::lowered_length))]
+    fn add(&mut self, limit: usize, offset: u32, text: &[u8]) -> Result<bool, NoMemory>
+        requires few { length self.old.nodes.items ≤ byte_limit Written }
+        requires short { length text.now ≤ byte_limit Written }
+        ensures { IfOk result (λ goes.
+            only_if goes (the_built self.new)
+            ≡ with_token limit (the_built self.old) (token_of offset text.now)) }
+    {
+        if self.is_done() {
+            return Ok(false);
+        }
+        if is_open(text) {
+            return self.open_list(limit, offset);
+        }
+        if is_close(text) {
+            return Ok(self.close_list());
+        }
+        self.add_word(offset, text.len() as u32)?;
+        Ok(true)
     }
 }
 
-/// The nodes of the one expression that a text spells with no list above the limit, made in the
-/// room that is given.
+/// The nodes of a text, and its first number too long.
+#[derive(Drop)]
+pub(crate) struct Nodes {
+    /// The nodes.
+    pub nodes: Vec<Node>,
+    /// The refusal of the number.
+    pub number: Option<Refusal>,
+}
+
+/// The nodes of the one expression that a text spells with no list above the limit.
 pub(crate) fn build(
     alloc: Global,
+    role: Role,
     text: &[u8],
     limit: usize,
-    room: usize,
-) -> Result<Option<Vec<Node>>, NoMemory>
+) -> Result<Option<Nodes>, NoMemory>
     requires { length text.now ≤ byte_limit Written }
-    ensures { IfOk result (λ found.
-        option_map (λ nodes. expressions_in text.now nodes.items) found
+    ensures nodes { IfOk result (λ found.
+        option_map (λ built. expressions_in text.now built.nodes.items) found
         ≡ option_map (λ e. e ∷ []) (expression_of_text limit text.now)) }
+    ensures number { IfOk result (λ found.
+        IfSome found (λ built. built.number ≡ number_refusal role text.now)) }
 {
     let mut building = Building {
-        nodes: Vec::with_capacity(alloc, room)?,
+        nodes: Vec::new(alloc),
         open: Vec::new(alloc),
     };
+    let mut number = None;
     let mut lexer = Lexer::new(text);
     loop {
         match lexer.next() {
             Next::Token { text: word, offset } => {
-                let Some(next) = with_token(limit, building, offset, word)? else {
+                if !building.add(limit, offset, word)? {
                     return Ok(None);
-                };
-                building = next;
+                }
+                number = or_long_number(number, role, offset, word);
             }
             Next::End => {
-                if is_done(&building) {
-                    return Ok(Some(building.nodes));
+                if !building.is_done() {
+                    return Ok(None);
                 }
-                return Ok(None);
+                return Ok(Some(Nodes {
+                    nodes: building.nodes,
+                    number,
+                }));
             }
             Next::Bad(_) => return Ok(None),
         }

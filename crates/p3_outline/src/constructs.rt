@@ -10,7 +10,7 @@ ghost use Rattle.p3_tree.specs.Grammar.Words.{word_place};
 ghost use Rattle.p3_tree.specs.Refusals.Constructs.{left_out, word_when, head_of, is_number_or_list, second_is_number, other_increase, not_a_number, constructs};
 ghost use Rattle.p3_tree.specs.Refusals.Texts.{construct_in};
 ghost use Rattle.p3_outline.specs.Nodes.{expression_of, expressions_of};
-ghost use Rattle.p3_outline.specs.Constructs.{the_word, least_with, declaring, conditions, is_some_of, the_around, with_head, with_no_head, FindsShown, FindsBelow, FindsIn, head_shown, behind_shown, place_shown};
+ghost use Rattle.p3_outline.specs.Constructs.{the_word, least_with, declaring, conditions, is_some_of, begins_as_left_out, the_around, with_head, with_no_head, FindsShown, FindsBelow, FindsIn, head_shown, behind_shown, place_shown};
 
 use crate::numbers::is_decimal;
 use crate::view::{Parts, View};
@@ -65,7 +65,27 @@ fn is_name(word: &[u8]) -> bool
     }
 }
 
+fn begins_as_left_out(word: &[u8]) -> bool
+    ensures { result ≡ begins_as_left_out (str_to_ascii_lowercase word.now) }
+{
+    match word {
+        [] => false,
+        [first, ..] => matches!(
+            first.to_ascii_lowercase(),
+            b':' | b'w' | b'a' | b'h' | b'd' | b's' | b'/' | b'<' | b'>'
+        ),
+    }
+}
+
+/// Whether a word is left out. The first byte tells of many words that they are not.
+#[tactic(auto, using(crate::proofs::ConstructLemmas::left_out_first))]
 fn is_left_out(word: &[u8]) -> bool
+    ensures { result ≡ is_some_of left_out (str_to_ascii_lowercase word.now) }
+{
+    begins_as_left_out(word) && is_listed_as_left_out(word)
+}
+
+fn is_listed_as_left_out(word: &[u8]) -> bool
     ensures { result ≡ is_some_of left_out (str_to_ascii_lowercase word.now) }
 {
     is(word, b":durative-action")
@@ -169,8 +189,8 @@ fn head_shown(around: Around, head: TextWord<'_>, least: Option<Found>) -> Optio
 {
     let text = head.text;
     let least = least_if(is_left_out(text), least, head);
-    let least = least_if(is(text, b"either") && around.declares, least, head);
-    least_if(is(text, b"increase") && around.conditional, least, head)
+    let least = least_if(around.declares && is(text, b"either"), least, head);
+    least_if(around.conditional && is(text, b"increase"), least, head)
 }
 
 /// An increase of something else than the total cost.
@@ -280,7 +300,7 @@ fn place_shown(
         (place_shown around (the_word head.entry) (expressions_of behind.entry)) }
 {
     let text = head.text;
-    let is_timed = is(text, b"at") && around.is_right_in_init && second_is_number(behind);
+    let is_timed = around.is_right_in_init && is(text, b"at") && second_is_number(behind);
     let is_compared = is(text, b"=") && !around.initial && has_number_or_list(behind);
     let is_other = around.metric
         && is_name(text)

@@ -1,28 +1,27 @@
 //! The first refusal that a text with an outline shows by itself.
 
-ghost use Rattle.std.specs.Prelude.{◌≡◌, ◌≢◌, ◌≤◌, length};
+ghost use Rattle.std.specs.Prelude.{◌≡◌, ◌≢◌, ◌≤◌, length, Some};
+ghost use Rattle.std.specs.Option.{option_or};
 ghost use Rattle.p3_base.specs.declared.refusal.Role.TheVariants.{Plan};
 ghost use Rattle.p3_base.specs.declared.refusal.Side.TheVariants.{Written};
-ghost use Rattle.p3_tree.specs.Refusals.Texts.{text_refusal};
+ghost use Rattle.p3_tree.specs.Refusals.Texts.{construct_in, text_refusal};
 ghost use Rattle.p3_tree.specs.Sides.{byte_limit};
 ghost use Rattle.p3_places.specs.Found.{side_of, half_of};
 ghost use Rattle.p3_outline.specs.Nodes.{root_of};
 ghost use Rattle.p3_outline.specs.Outlines.{IsOutline};
-ghost use Rattle.p3_outline.specs.First.{left_out_refusal};
 
 use crate::constructs::first_construct;
-use crate::numbers::first_long_number;
 use crate::view::Outline;
 use p3_base::{Refusal, Role};
 
 /// The first word of a construct that is left out by name, or else the first number too long.
-fn first_left_out(role: Role, outline: &Outline<'_>, text: &[u8]) -> Option<Refusal>
-    requires short { length text.now ≤ byte_limit Written }
-    ensures { result ≡ left_out_refusal role text.now (root_of outline.now) }
+fn first_left_out(role: Role, outline: &Outline<'_>) -> Option<Refusal>
+    ensures { result
+        ≡ option_or (construct_in role (Some (root_of outline.now))) outline.now.number }
 {
     match first_construct(role, outline.root()) {
         Some(refusal) => Some(refusal),
-        None => first_long_number(role, text),
+        None => outline.number,
     }
 }
 
@@ -34,5 +33,5 @@ pub fn first_shown(role: Role, outline: &Outline<'_>, text: &[u8]) -> Option<Ref
     requires outline { IsOutline role text.now outline.now }
     ensures { result ≡ text_refusal (side_of role) (half_of role) text.now }
 {
-    first_left_out(role, outline, text)
+    first_left_out(role, outline)
 }

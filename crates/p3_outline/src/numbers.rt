@@ -3,6 +3,7 @@
 ghost use Rattle.std.specs.Prelude.{◌≡◌, ◌≤◌, length};
 ghost use Rattle.std.specs.Char.{to_ascii_lowercase};
 ghost use Rattle.std.specs.List.{list_all, prefix_len};
+ghost use Rattle.std.specs.Option.{option_or};
 ghost use Rattle.std.specs.Str.{str_to_ascii_lowercase};
 ghost use Rattle.p3_base.specs.Words.{is_digit};
 ghost use Rattle.p3_base.specs.declared.refusal.Side.TheVariants.{Written};
@@ -11,10 +12,10 @@ ghost use Rattle.p3_tree.specs.Refusals.Texts.{is_too_long, long_number};
 ghost use Rattle.p3_tree.specs.Sides.{digit_limit, place_limit, byte_limit};
 ghost use Rattle.p3_lexer.specs.Lexing.{token_of};
 ghost use Rattle.p3_places.specs.Found.{side_of};
-ghost use Rattle.p3_outline.specs.Numbers.{is_no_point, the_parts, are_decimal, digit_count, has_places_above, number_refusal};
+ghost use Rattle.p3_outline.specs.Numbers.{is_no_point, the_parts, are_decimal, digit_count, has_places_above, begins_with_digit};
 
 use p3_base::{Code, Pos, Refusal, Role};
-use p3_lexer::{Lexer, Next};
+use p3_lexer::{is_close, is_open};
 
 /// How many digits a number may have; its point counts as none.
 fn digit_limit(role: Role) -> usize
@@ -147,8 +148,25 @@ pub(crate) fn is_decimal(word: &[u8]) -> bool
     are_decimal(at_point(word))
 }
 
+fn begins_with_digit(word: &[u8]) -> bool
+    ensures { result ≡ begins_with_digit (str_to_ascii_lowercase word.now) }
+{
+    match word {
+        [] => false,
+        [first, ..] => is_digit_byte(first),
+    }
+}
+
 /// Whether a word is a number with more digits than it may have, or a point where none may stand.
+/// The first byte tells of most words that they are no number.
+#[tactic(auto, using(crate::proofs::NumberLemmas::digit_first))]
 fn is_too_long(role: Role, word: &[u8]) -> bool
+    ensures { result ≡ is_too_long (side_of role) (str_to_ascii_lowercase word.now) }
+{
+    begins_with_digit(word) && has_too_many_digits(role, word)
+}
+
+fn has_too_many_digits(role: Role, word: &[u8]) -> bool
     ensures { result ≡ is_too_long (side_of role) (str_to_ascii_lowercase word.now) }
 {
     let parts = at_point(word);
@@ -161,7 +179,7 @@ fn long_number(role: Role, offset: u32, text: &[u8]) -> Option<Refusal>
     requires short { length text.now ≤ byte_limit Written }
     ensures { result ≡ long_number (side_of role) role (token_of offset text.now) }
 {
-    if text != b"(".as_slice() && text != b")".as_slice() && is_too_long(role, text) {
+    if !is_open(text) && !is_close(text) && is_too_long(role, text) {
         Some(Refusal {
             code: Code::NumberTooLong,
             pos: Pos { role, offset },
@@ -172,18 +190,18 @@ fn long_number(role: Role, offset: u32, text: &[u8]) -> Option<Refusal>
     }
 }
 
-/// The first number of a text that is too long.
-pub(crate) fn first_long_number(role: Role, text: &[u8]) -> Option<Refusal>
+/// A number too long that was found, or else that of one token more.
+pub(crate) fn or_long_number(
+    found: Option<Refusal>,
+    role: Role,
+    offset: u32,
+    text: &[u8],
+) -> Option<Refusal>
     requires short { length text.now ≤ byte_limit Written }
-    ensures { result ≡ number_refusal role text.now }
+    ensures { result ≡ option_or found (long_number (side_of role) role (token_of offset text.now)) }
 {
-    let mut lexer = Lexer::new(text);
-    loop {
-        let Next::Token { text: word, offset } = lexer.next() else {
-            return None;
-        };
-        if let Some(refusal) = long_number(role, offset, word) {
-            return Some(refusal);
-        }
+    match found {
+        Some(refusal) => Some(refusal),
+        None => long_number(role, offset, text),
     }
 }

@@ -1,17 +1,18 @@
 //! The outline of a text.
 
-ghost use Rattle.std.specs.Prelude.{◌≡◌, ◌≢◌, ◌≤◌, length, IfOk, IfErr, Some};
+ghost use Rattle.std.specs.Prelude.{◌≡◌, ◌≢◌, ◌≤◌, length, IfOk, IfErr, Some, None};
 ghost use Rattle.p3_base.specs.declared.refusal.Role.TheVariants.{Plan};
 ghost use Rattle.p3_base.specs.declared.refusal.Side.TheVariants.{Written};
+ghost use Rattle.p3_tree.specs.Expressions.{expression_of_text};
 ghost use Rattle.p3_tree.specs.Sides.{level_limit, byte_limit};
 ghost use Rattle.p3_tree.specs.Refusals.Texts.{text_refusal};
 ghost use Rattle.p3_places.specs.Found.{side_of, half_of};
-ghost use Rattle.p3_outline.specs.Balances.{outline_refusal};
+ghost use Rattle.p3_outline.specs.Balances.{balance_refusal, outline_refusal};
 ghost use Rattle.p3_outline.specs.Outlines.{IsOutline};
 ghost use Rattle.p3_outline.specs.Texts.{IfRefused};
 
 use crate::balance::first_refusal;
-use crate::build::build;
+use crate::build::{Nodes, build};
 use crate::error::ReadFail;
 use crate::view::Outline;
 use p3_base::{Code, Pos, Refusal, Role};
@@ -24,6 +25,23 @@ fn level_limit(role: Role) -> u32
     match role {
         Role::Domain | Role::Problem | Role::Plan => 200,
         Role::WrittenDomain | Role::WrittenProblem => 1000,
+    }
+}
+
+/// What is refused of a text that has no nodes.
+fn why_none(role: Role, limit: u32, text: &[u8]) -> Refusal
+    requires none { expression_of_text limit text.now ≡ None }
+    requires short { length text.now ≤ byte_limit Written }
+    ensures { balance_refusal role limit text.now ≡ Some result }
+{
+    match first_refusal(role, limit, text) {
+        Some(refusal) => refusal,
+        // Parentheses that fit have nodes.
+        None => Refusal {
+            code: Code::Unbalanced,
+            pos: Pos { role, offset: 0 },
+            len: 0,
+        },
     }
 }
 
@@ -42,18 +60,13 @@ pub fn outline<'a>(alloc: Global, role: Role, text: &'a [u8]) -> Result<Outline<
         text_refusal (side_of role) (half_of role) text.now ≡ Some refusal)) }
 {
     let limit = level_limit(role);
-    let (refusal, count) = first_refusal(role, limit, text);
-    if let Some(refusal) = refusal {
-        return Err(ReadFail::Refused(refusal));
-    }
-    match build(alloc, text, limit as usize, count) {
-        Ok(Some(nodes)) => Ok(Outline { text, nodes }),
-        // Parentheses that fit have nodes.
-        Ok(None) => Err(ReadFail::Refused(Refusal {
-            code: Code::Unbalanced,
-            pos: Pos { role, offset: 0 },
-            len: 0,
-        })),
+    match build(alloc, role, text, limit as usize) {
+        Ok(Some(Nodes { nodes, number })) => Ok(Outline {
+            text,
+            nodes,
+            number,
+        }),
+        Ok(None) => Err(ReadFail::Refused(why_none(role, limit, text))),
         Err(_) => Err(ReadFail::NoMemory),
     }
 }

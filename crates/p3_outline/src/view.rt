@@ -3,6 +3,8 @@
 ghost use Rattle.std.specs.Prelude.{◌≡◌, ◌≤◌, ◌<◌, ◌^◌, ◌+◌, ◌∷◌, [], length, take, drop, MatchOption, IfSome};
 ghost use Rattle.p3_outline.specs.Nodes.{slice_of, below_of, expression_of, expressions_of, expressions_in, root_of, offset_of, elements, IsWordOf, IsList};
 
+use p3_base::Refusal;
+
 /// A node of an outline. A list is followed by the nodes below it.
 #[derive(Clone, Copy)]
 pub(crate) enum Node {
@@ -29,6 +31,8 @@ pub struct Outline<'a> {
     pub(crate) text: &'a [u8],
     /// The nodes of its one expression.
     pub(crate) nodes: Vec<Node>,
+    /// The refusal of its first number too long.
+    pub(crate) number: Option<Refusal>,
 }
 
 /// A word or a list.
