@@ -368,6 +368,19 @@ def ranges_of_a_chain(n):
     )
 
 
+@family([2000, 4000, 8000])
+def ranges_of_flat_types(n):
+    # n quantifiers over as many types, each of one object
+    return dict(
+        d=domain(
+            '(:types ' + each('t%d', n) + ')',
+            '(:predicates (p ?x) (q))',
+            '(:action a :precondition (or (q) (and ' + each('(forall (?x - t%d) (p ?x))', n) + ')) :effect (q))',
+        ),
+        p=problem('(:objects ' + each('o%d - t%d', n) + ')', '(:init (q))', '(:goal (q))'),
+    )
+
+
 @family([500, 1000, 2000, 4000])
 def ranges_empty_last(n):
     return dict(
