@@ -12,7 +12,7 @@ use Rattle.p3_compile.specs.Tidied.{HasTidyConditions}
 use Rattle.p3_simulation.specs.Assembled.{IsCopyAction, AreCopyActions}
 
 module _ (go number : ℕ) (effects : List Change) where
-  copies_more : (copies : List StepCopy) (actions : List TargetAction) (copy : StepCopy) (action : TargetAction) → AreCopyActions go number effects copies actions → IsCopyAction go number effects copy action → AreCopyActions go number effects (copies ++ copy ∷ []) (actions ++ action ∷ [])
+  pub copies_more : (copies : List StepCopy) (actions : List TargetAction) (copy : StepCopy) (action : TargetAction) → AreCopyActions go number effects copies actions → IsCopyAction go number effects copy action → AreCopyActions go number effects (copies ++ copy ∷ []) (actions ++ action ∷ [])
   copies_more [] [] copy action are is = (is, tt)
   copies_more [] (other ∷ actions) copy action are is = absurd are
   copies_more (one ∷ copies) [] copy action are is = absurd are

@@ -1,6 +1,6 @@
 -- Changes with tidy conditions, one after another.
-use Rattle.std.proofs.Common.{◌≡◌, ◌∙◌, ◌<◌, ◌+◌, ℕ, List, [], ◌∷◌, ◌++◌, length, take, get_or, sym, ap, subst, append_assoc}
-use Rattle.std.proofs.lemmas.List.{append-nil, take_more}
+use Rattle.std.proofs.Common.{◌≡◌, ◌∙◌, List, [], ◌∷◌, ◌++◌, sym, ap, append_assoc}
+use Rattle.std.proofs.lemmas.List.{append-nil}
 use Rattle.p3_formula.specs.Forms.{truth}
 use Rattle.p3_formula.specs.declared.form.Change.{Change}
 use Rattle.p3_formula.specs.declared.form.Form.TheVariants.{False}
@@ -28,11 +28,9 @@ one_left_out change new all is low = record {
 }
 
 -- one change more
-pub tidied_next : (changes old all next : List Change) (index : ℕ) (change : Change) → index < length changes → change ≡ get_or changes index change → HasTidied (take index changes) old all → HasTidied (change ∷ []) all next
-    → HasTidied (take (index + 1) changes) old next
-tidied_next changes old all next index change within at has one = record {
+pub tidied_more : (changes old all next : List Change) (change : Change) → HasTidied changes old all → HasTidied (change ∷ []) all next → HasTidied (changes ++ change ∷ []) old next
+tidied_more changes old all next change has one = record {
   tidied = has.tidied ++ one.tidied;
   are = one.are ∙ ap (λ list. list ++ one.tidied) has.are ∙ append_assoc old has.tidied one.tidied;
-  same = subst (λ list. AreTidied list (has.tidied ++ one.tidied)) (sym (take_more changes index change within ∙ ap (λ one. take index changes ++ one ∷ []) (sym at)))
-      (tidied-append (take index changes) (change ∷ []) has.tidied one.tidied has.same one.same);
+  same = tidied-append changes (change ∷ []) has.tidied one.tidied has.same one.same;
 }

@@ -14,21 +14,18 @@ ghost use Rattle.p3_compile.specs.Updated.{AreApart, AreTouched, HasUpdates, Has
 use crate::reading::Reader;
 use crate::touching::touched;
 use p3_base::{List, NoMemory};
-use p3_formula::{Change, Effects, Form, Table, fitted, simplify};
+use p3_formula::{Change, Effects, Form, Table, effects_copied, fitted, tidied};
 use p3_monitors::Monitor;
 use p3_regress::Regressed;
 use std::alloc::Global;
 
 /// The change with a tidy condition.
-fn change_tidied(alloc: Global, change: &Change) -> Result<Change, NoMemory>
-    ensures { IfOk result (IsTidied change.now) }
+fn change_tidied(alloc: Global, change: Change) -> Result<Change, NoMemory>
+    ensures { IfOk result (IsTidied change) }
 {
-    let cond = simplify(alloc, &change.cond)?;
-    Ok(Change {
-        cond,
-        atom: change.atom,
-        add: change.add,
-    })
+    let Change { cond, atom, add } = change;
+    let cond = tidied(alloc, cond)?;
+    Ok(Change { cond, atom, add })
 }
 
 /// Whether the form is the constant that never holds.
@@ -40,8 +37,8 @@ fn is_false(form: &Form) -> bool
 }
 
 /// The change with a tidy condition stands behind the others, where it may happen.
-fn push_change(alloc: Global, all: &mut Effects, change: &Change) -> Result<(), NoMemory>
-    ensures { OnOk result (HasTidied (change.now ∷ []) all.old all.new) }
+fn push_change(alloc: Global, all: &mut Effects, change: Change) -> Result<(), NoMemory>
+    ensures { OnOk result (HasTidied (change ∷ []) all.old all.new) }
 {
     let tidied = change_tidied(alloc, change)?;
     if is_false(&tidied.cond) {
@@ -53,10 +50,10 @@ fn push_change(alloc: Global, all: &mut Effects, change: &Change) -> Result<(), 
 }
 
 /// The changes with tidy conditions stand behind the others, those that may happen.
-fn push_tidied(alloc: Global, all: &mut Effects, changes: &Effects) -> Result<(), NoMemory>
-    ensures { OnOk result (HasTidied changes.now all.old all.new) }
+fn push_tidied(alloc: Global, all: &mut Effects, changes: Effects) -> Result<(), NoMemory>
+    ensures { OnOk result (HasTidied changes all.old all.new) }
 {
-    for change in changes.items() {
+    for change in changes.into_items() {
         push_change(alloc, all, change)?;
     }
     Ok(())
@@ -74,7 +71,7 @@ fn push_update(
     ensures extends { Extends regressed.old regressed.new }
 {
     let changes = monitor.effects_in(alloc, regressed)?;
-    push_tidied(alloc, all, &changes)
+    push_tidied(alloc, all, changes)
 }
 
 /// What rides on a step for the monitors that it touches stands behind the other changes. Their
@@ -100,6 +97,14 @@ fn push_updates(
     Ok(())
 }
 
+/// No change, in a list with room for those of the step, and for two for each of the places.
+fn room_for(alloc: Global, step: &Effects, places: &[usize]) -> Result<Effects, NoMemory>
+    ensures { IfOk result (λ all. all ≡ []) }
+{
+    let room = step.len().saturating_add(places.len().saturating_mul(2));
+    Ok(List::from(Vec::with_capacity(alloc, room)?))
+}
+
 /// The changes of a step in the target, in a list that may have room for more.
 fn made_changes(
     alloc: Global,
@@ -113,8 +118,8 @@ fn made_changes(
     ensures { IfOk result (HasChanges step.now monitors.now) }
 {
     let places = touched(alloc, readers, step)?;
-    let mut all = List::new(alloc);
-    push_tidied(alloc, &mut all, step)?;
+    let mut all = room_for(alloc, step, &places)?;
+    push_tidied(alloc, &mut all, effects_copied(alloc, step)?)?;
     let mut regressed = Regressed::open(alloc, Table::new(alloc), step)?;
     push_updates(alloc, &mut all, monitors, &places, &mut regressed)?;
     Ok(all)

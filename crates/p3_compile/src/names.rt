@@ -1,30 +1,32 @@
 //! The names of a target's atoms: a letter and a number.
 
-ghost use Rattle.std.specs.Prelude.{◌≡◌, ◌≤◌, length, string_bytes, IfOk, OnOk};
+ghost use Rattle.std.specs.Prelude.{◌≡◌, ◌≤◌, length, IfOk, OnOk};
 ghost use Rattle.std.specs.Str.{str_to_ascii_lowercase};
 ghost use Rattle.p3_compile.specs.Watched.{named_more};
 ghost use Rattle.p3_simulation.specs.Naming.{numbered};
 
+use itoa::Buffer;
 use p3_base::{List, Name, NoMemory};
 use std::alloc::Global;
 
-/// A letter and a number.
-#[tactic(auto, using(crate::proofs::NumberedNames::lowered_numbered))]
-fn numbered_text(alloc: Global, letter: &str, number: usize) -> Result<String, NoMemory>
-    requires { str_to_ascii_lowercase letter.now ≡ letter.now }
-    ensures text { IfOk result (λ text. string_bytes text ≡ numbered letter.now number) }
-    ensures lowered { str_to_ascii_lowercase (numbered letter.now number)
-        ≡ numbered letter.now number }
+/// The bytes of a letter and a number.
+fn numbered_text(alloc: Global, letter: &str, number: usize) -> Result<Vec<u8>, NoMemory>
+    ensures { IfOk result (λ text. text.items ≡ numbered letter.now number) }
 {
-    Ok(format!(in alloc; "{letter}{number}")?)
+    let mut text = Vec::with_capacity(alloc, 24)?;
+    text.extend_from_slice(letter.as_bytes())?;
+    text.extend_from_slice(Buffer::new().format(number).as_bytes())?;
+    Ok(text)
 }
 
 /// The name of an atom.
+#[tactic(auto, using(crate::proofs::NumberedNames::lowered_numbered))]
 pub(crate) fn numbered(alloc: Global, letter: &str, number: usize) -> Result<Name, NoMemory>
     requires { str_to_ascii_lowercase letter.now ≡ letter.now }
     ensures { IfOk result (λ name. name ≡ numbered letter.now number) }
 {
-    Name::of(alloc, numbered_text(alloc, letter, number)?.as_bytes())
+    let text = numbered_text(alloc, letter, number)?;
+    Name::of(alloc, &text)
 }
 
 /// So many names more. Their numbers are their places behind some names that come before.

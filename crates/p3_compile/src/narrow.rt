@@ -1,6 +1,6 @@
 //! The actions of a step with few weighted preferences: one for each of its copies.
 
-ghost use Rattle.std.specs.Prelude.{◌≡◌, ◌<◌, ◌≤◌, ◌+◌, ◌++◌, [], ◌∷◌, length, sum_by, IfOk, IsSome, IsTrue, string_bytes};
+ghost use Rattle.std.specs.Prelude.{◌≡◌, ◌<◌, ◌≤◌, ◌+◌, ◌++◌, [], ◌∷◌, length, sum_by, IfOk, IsSome, IsTrue, OnOk};
 ghost use Rattle.std.specs.List.{list_all};
 ghost use Rattle.p3_base.specs.Copies.{copy_name};
 ghost use Rattle.p3_formula.specs.Conditions.{cost_limit, is_tidy_action};
@@ -9,37 +9,41 @@ ghost use Rattle.p3_compile.specs.Tidied.{HasTidyConditions};
 ghost use Rattle.p3_simulation.specs.Assembled.{IsCopyAction, AreCopyActions, IsSplit};
 ghost use Rattle.p3_simulation.specs.Naming.{pattern};
 
+use itoa::Buffer;
 use p3_base::{List, Name, NoMemory};
 use p3_formula::{Effects, GroundStep, TargetAction, Weights, effects_copied, guarded};
 use p3_precprefs::{StepCopy, split};
 use std::alloc::Global;
 
 /// Behind the text a digit for each preference: 1 where it is violated, and else 0.
-fn pattern_pushed(text: String, violated: &List<bool>) -> Result<String, NoMemory>
-    ensures { IfOk result (λ new. string_bytes new ≡ string_bytes text ++ pattern violated.now) }
+fn push_pattern(text: &mut Vec<u8>, violated: &List<bool>) -> Result<(), NoMemory>
+    ensures { OnOk result (text.new.items ≡ text.old.items ++ pattern violated.now) }
 {
-    let mut text = text;
     for one in violated.items() {
-        let digit = if *one { "1" } else { "0" };
-        text.push_str(digit)?;
+        text.push(if *one { b'1' } else { b'0' })?;
     }
+    Ok(())
+}
+
+/// The bytes of the name of a copy: `s`, the number, `v` and the digits.
+fn copy_text(alloc: Global, number: u32, violated: &List<bool>) -> Result<Vec<u8>, NoMemory>
+    ensures { IfOk result (λ text. text.items ≡ copy_name number (pattern violated.now)) }
+{
+    let mut text = Vec::with_capacity(alloc, 24)?;
+    text.push(b's')?;
+    text.extend_from_slice(Buffer::new().format(number).as_bytes())?;
+    text.push(b'v')?;
+    push_pattern(&mut text, violated)?;
     Ok(text)
 }
 
-/// `s`, the number and `v`.
-fn copy_prefix(alloc: Global, number: u32) -> Result<String, NoMemory>
-    ensures { IfOk result (λ text. string_bytes text ≡ copy_name number []) }
-{
-    Ok(format!(in alloc; "s{number}v")?)
-}
-
 /// The name of a copy.
-#[tactic(auto, using(crate::proofs::CopyNames::lowered_copy, crate::proofs::CopyNames::copy_name_joined))]
+#[tactic(auto, using(crate::proofs::CopyNames::lowered_copy))]
 fn name_of_copy(alloc: Global, number: u32, violated: &List<bool>) -> Result<Name, NoMemory>
     ensures { IfOk result (λ name. name ≡ copy_name number (pattern violated.now)) }
 {
-    let text = pattern_pushed(copy_prefix(alloc, number)?, violated)?;
-    Name::of(alloc, text.as_bytes())
+    let text = copy_text(alloc, number, violated)?;
+    Name::of(alloc, &text)
 }
 
 /// The action of a copy, which takes the changes.
@@ -77,39 +81,25 @@ fn other_action(
     copy_action(alloc, number, effects, copy, go)
 }
 
-/// The action of the only copy.
-fn only_action(
-    alloc: Global,
-    number: u32,
-    effects: Effects,
-    copy: &StepCopy,
-    go: usize,
-) -> Result<List<TargetAction>, NoMemory>
-    ensures { IfOk result (AreCopyActions go number effects (copy.now ∷ [])) }
-{
-    let mut actions = List::new(alloc);
-    actions.push(copy_action(alloc, number, effects, copy, go)?)?;
-    Ok(actions)
-}
-
 /// An action for each copy.
 fn copy_actions(
     alloc: Global,
     number: u32,
     effects: &Effects,
-    copies: &List<StepCopy>,
+    copies: &[StepCopy],
     go: usize,
-) -> Result<List<TargetAction>, NoMemory>
-    ensures { IfOk result (AreCopyActions go number effects.now copies.now) }
+) -> Result<Vec<TargetAction>, NoMemory>
+    ensures { IfOk result (λ actions.
+        AreCopyActions go number effects.now copies.now actions.items) }
 {
-    let mut actions = List::new(alloc);
-    for copy in copies.items() {
+    let mut actions = Vec::with_capacity(alloc, copies.len().saturating_add(1))?;
+    for copy in copies {
         actions.push(other_action(alloc, number, effects, copy, go)?)?;
     }
     Ok(actions)
 }
 
-/// An action for each copy. Where there is one copy, it takes the changes.
+/// An action for each copy. The last one takes the changes.
 fn actions_of_copies(
     alloc: Global,
     number: u32,
@@ -119,10 +109,12 @@ fn actions_of_copies(
 ) -> Result<List<TargetAction>, NoMemory>
     ensures { IfOk result (AreCopyActions go number effects copies.now) }
 {
-    match copies.items() {
-        [copy] => only_action(alloc, number, effects, copy, go),
-        _ => copy_actions(alloc, number, &effects, copies, go),
-    }
+    let Some((last, others)) = copies.items().split_last() else {
+        return Ok(List::new(alloc));
+    };
+    let mut actions = copy_actions(alloc, number, &effects, others, go)?;
+    actions.push(copy_action(alloc, number, effects, last, go)?)?;
+    Ok(List::from(actions))
 }
 
 /// The actions of a step with at most 8 weighted preferences, where these are the changes that the

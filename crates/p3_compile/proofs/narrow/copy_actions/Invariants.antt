@@ -4,4 +4,4 @@ use Rattle.p3_simulation.specs.Assembled.{AreCopyActions}
 
 -- the copies passed have their actions
 abbrev pub invariant-loop-copy : goal.invariant-loop-copy
-invariant-loop-copy l = AreCopyActions l.go l.number l.effects (take l.copy-index l.copies) l.actions
+invariant-loop-copy l = AreCopyActions l.go l.number l.effects (take l.copy-index l.copies) l.actions.items
