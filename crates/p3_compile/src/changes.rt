@@ -97,11 +97,12 @@ fn push_updates(
     Ok(())
 }
 
-/// No change, in a list with room for those of the step, and for two for each of the places.
-fn room_for(alloc: Global, step: &Effects, places: &[usize]) -> Result<Effects, NoMemory>
+/// No change, in a list with room for those of the step, and for two for each monitor that it
+/// touches, as far as the number of their places, which may repeat, tells.
+fn room_for(alloc: Global, step: &Effects, touched: usize) -> Result<Effects, NoMemory>
     ensures { IfOk result (λ all. all ≡ []) }
 {
-    let room = step.len().saturating_add(places.len().saturating_mul(2));
+    let room = step.len().saturating_add(touched.saturating_mul(2));
     Ok(List::from(Vec::with_capacity(alloc, room)?))
 }
 
@@ -118,7 +119,7 @@ fn made_changes(
     ensures { IfOk result (HasChanges step.now monitors.now) }
 {
     let places = touched(alloc, readers, step)?;
-    let mut all = room_for(alloc, step, &places)?;
+    let mut all = room_for(alloc, step, places.len().min(monitors.len()))?;
     push_tidied(alloc, &mut all, effects_copied(alloc, step)?)?;
     let mut regressed = Regressed::open(alloc, Table::new(alloc), step)?;
     push_updates(alloc, &mut all, monitors, &places, &mut regressed)?;

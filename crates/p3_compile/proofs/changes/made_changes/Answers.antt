@@ -7,8 +7,8 @@ use Rattle.p3_compile.proofs.changes.made_changes.Goals as goal
 
 pub push_updates-requires-clause-touched : goal.push_updates-requires-clause-touched
 push_updates-requires-clause-touched c =
-    subst (λ step. AreTouched step c.args.monitors.now c.deref-2.result.now) (sym c.in_ok-regressed.ensures.effects)
-    (subst (AreTouched c.args.step.now c.args.monitors.now) (sym c.deref-2.ensures.value)
+    subst (λ step. AreTouched step c.args.monitors.now c.deref.result.now) (sym c.in_ok-regressed.ensures.effects)
+    (subst (AreTouched c.args.step.now c.args.monitors.now) (sym c.deref.ensures.value)
     (are_touched c.args.step.now c.args.monitors.now c.args.readers.now c.in_ok-places.places.items c.requires.readers c.in_ok-places.ensures.same c.in_ok-places.ensures.rising))
 
 pub returns : goal.returns
