@@ -82,7 +82,7 @@ fn written_flat(alloc: Global, whole: &Whole, flat: Target) -> Result<Translatio
     requires sized { IsSized flat }
     requires named { IsWellNamed flat }
     ensures text { IfOk result (λ made.
-        AreTextsOf flat.entry made.domain.items made.problem.items) }
+        AreTextsOf flat made.domain.items made.problem.items) }
     ensures report { IfOk result (λ made.
         report_text made.report ≡ compiled_lines whole.now.checked.task) }
 {
