@@ -1,6 +1,7 @@
 pub mod Connectives
 pub mod Copied
 pub mod Copies
+pub mod Limits
 pub mod Memory
 pub mod Outside
 pub mod Place

@@ -5,7 +5,7 @@ use Rattle.std.specs.Fmt.{decimal}
 use Rattle.std.specs.List.{range_with_len}
 use Rattle.std.proofs.lemmas.Slice.Eq.{bytes_eq-Decides}
 use Rattle.std.proofs.lemmas.Fmt.{decimal_injective}
-use Rattle.p3_tree.specs.Commands.{Word, sample_number}
+use Rattle.p3_tree.specs.Commands.{Word, sample_number, sample_limit}
 
 module _ (word : Word) where
   abbrev is_it : ℕ → Bool
@@ -33,14 +33,14 @@ module _ (word : Word) where
       ap (λ b. if b then Some first else find is_it (range_with_len (first + 1) count)) (not_it first apart (is_it first) refl)
       ∙ found_at d (first + 1) count number (omega (arith, sum)) (omega (arith, within)) small is
 
-  pub number_is : (number : ℕ) → 1 ≤ number → number ≤ 200 → decimal number ≡ word → Some number ≡ sample_number word
+  pub number_is : (number : ℕ) → 1 ≤ number → number ≤ sample_limit → decimal number ≡ word → Some number ≡ sample_number word
   number_is number low high is = sym (found_at (number - 1) 1 200 number (omega (arith, low)) (omega (arith, low, high)) (omega (arith, high)) is)
 
-  pub no_number : ((n : ℕ) → 1 ≤ n → n ≤ 200 → decimal n ≡ word → ⊥) → None ≡ sample_number word
+  pub no_number : ((n : ℕ) → 1 ≤ n → n ≤ sample_limit → decimal n ≡ word → ⊥) → None ≡ sample_number word
   no_number other = sym (none_in 1 200 (λ n low high. other n low (omega (arith, high))))
 
   -- a number out of the range is none of it
-  pub other_number : (number : ℕ) → number < 2 ^ 64 → decimal number ≡ word → (1 ≤ number → number ≤ 200 → ⊥) → None ≡ sample_number word
+  pub other_number : (number : ℕ) → number < 2 ^ 64 → decimal number ≡ word → (1 ≤ number → number ≤ sample_limit → ⊥) → None ≡ sample_number word
   other_number number small is out =
       no_number (λ n low high same.
       let one = decimal_injective n number (omega (arith, high)) small (same ∙ sym is) in out (omega (arith, low, one)) (omega (arith, high, one)))

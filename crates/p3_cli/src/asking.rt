@@ -11,6 +11,7 @@ ghost use Rattle.p3_tree.specs.Commands.{
   if_spelled,
   is_file_word,
   row as row_with,
+  sample_limit,
 };
 ghost use Rattle.p3_cli.specs.Asked.{asked_command};
 
@@ -45,7 +46,7 @@ fn command(kind: CommandKind, words: &[Word]) -> Option<Request<'_>>
 
 /// Makes the command with this number and the files of these names.
 fn with_files(kind: CommandKind, number: u32, names: &[Word]) -> Option<Request<'_>>
-    requires { IsTrue (row_with kind).is_numbered → (1 ≤ number) × (number ≤ 200) }
+    requires { IsTrue (row_with kind).is_numbered → (1 ≤ number) × (number ≤ sample_limit) }
     ensures { option_map asked_command result ≡ if_spelled kind (number, names.now) }
 {
     let reads = row_of(kind).reads.len();

@@ -1,7 +1,7 @@
 //! A command with its files.
 
 ghost use Rattle.std.specs.Prelude.{◌≡◌, ◌≤◌, length, IsTrue};
-ghost use Rattle.p3_tree.specs.Commands.{row};
+ghost use Rattle.p3_tree.specs.Commands.{row, sample_limit};
 
 use p3_base::{Role, Word};
 use p3_tree::CommandKind;
@@ -19,7 +19,7 @@ pub(crate) struct Request<'a> {
     pub(crate) writes: &'a [Word],
     pub ghost all_reads: { length reads.now ≡ length (row kind).reads },
     pub ghost all_writes: { length writes.now ≡ length (row kind).writes },
-    pub ghost sampled: { IsTrue (row kind).is_numbered → (1 ≤ number) × (number ≤ 200) },
+    pub ghost sampled: { IsTrue (row kind).is_numbered → (1 ≤ number) × (number ≤ sample_limit) },
 }
 
 /// A file that is read.

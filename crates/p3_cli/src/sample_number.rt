@@ -2,7 +2,7 @@
 
 ghost use Rattle.std.specs.Prelude.{◌≡◌, ◌≤◌};
 ghost use Rattle.std.specs.Option.{option_map};
-ghost use Rattle.p3_tree.specs.Commands.{sample_number};
+ghost use Rattle.p3_tree.specs.Commands.{sample_number, sample_limit};
 
 use p3_base::number_of;
 
@@ -15,7 +15,7 @@ pub(crate) struct SampleNumber {
     /// From 1 to 200.
     pub(crate) number: u32,
     pub ghost some: { 1 ≤ number },
-    pub ghost few: { number ≤ 200 },
+    pub ghost few: { number ≤ sample_limit },
 }
 
 /// Reads the number that the word is, without superfluous zeros. It takes no memory.

@@ -2,6 +2,7 @@
 
 ghost use Rattle.std.specs.Prelude.{◌≡◌, ◌≤◌, ◌∷◌, [], IfErr, IfOk, length, map};
 ghost use Rattle.p3_base.specs.declared.refusal.Side.TheVariants.{Source};
+ghost use Rattle.p3_tree.specs.Commands.{sample_limit};
 ghost use Rattle.p3_tree.specs.Metrics.{value};
 ghost use Rattle.p3_tree.specs.PlanTexts.{step_limit};
 ghost use Rattle.p3_tree.specs.Samples.{sample_domain, sample_plan, sample_problem};
@@ -57,7 +58,7 @@ impl Sampling {
 /// Makes the sample of that number. Its task is compiled, and its plan embedded and judged.
 pub(crate) fn sample(alloc: Global, number: u32) -> Result<Sampling, Ending>
     requires some { 1 ≤ number }
-    requires few { number ≤ 200 }
+    requires few { number ≤ sample_limit }
     ensures means { IfOk result (λ made. IsSampling number
         made.sample.domain made.sample.problem made.sample.plan
         (report_text made.report)) }

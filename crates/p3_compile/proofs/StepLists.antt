@@ -8,7 +8,7 @@ use Rattle.std.proofs.lemmas.List.{append-nil, length-map, map-append, take-appe
 use Rattle.std.proofs.lemmas.List.Elements.{All-append, All-nil, All-weaker, Contains-append_left, Contains-push, filter-append}
 use Rattle.std.proofs.lemmas.List.Folds.{list_all-append}
 use Rattle.p3_base.specs.Words.{Name}
-use Rattle.p3_formula.specs.Conditions.{greatest_width, is_step_below, is_tidy_action}
+use Rattle.p3_formula.specs.Conditions.{width_limit, is_step_below, is_tidy_action}
 use Rattle.p3_formula.specs.Forms.{State, is_set, truth}
 use Rattle.p3_formula.specs.Next.{after}
 use Rattle.p3_formula.specs.Targets.{is_sized_change}
@@ -177,7 +177,7 @@ module _ (frame : Frame) (weights : Weights) (steps : List GroundStep) (index : 
         omega (arith, first, count)
 
     -- the current atom of the next step stands behind the question atoms
-    pub current_room : is_wide weights.by_name step ≡ true → frame.first + greatest_width < length mid
+    pub current_room : is_wide weights.by_name step ≡ true → frame.first + width_limit < length mid
     current_room broad = let count = named_count broad in omega (arith, count)
 
     pub actions_next : (new : List Name) (after : List TargetAction) → HasPushed frame weights step mid new actions after → HasStepActions frame weights (take (index + 1) steps) old new after

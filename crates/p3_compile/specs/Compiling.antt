@@ -2,6 +2,7 @@
 use Rattle.std.specs.Prelude.{◌≡◌, ℕ, ◌+◌, ◌-◌, ◌^◌, ◌≤◌, ◌<◌, true, ◌&&◌, List, ◌∷◌, ◌++◌, length, take, drop, codes}
 use Rattle.std.specs.List.{list_all}
 use Rattle.std.specs.List.Sorted.{IsPermutation}
+use Rattle.p3_base.specs.Limits.{instance_limit}
 use Rattle.p3_base.specs.Words.{Name}
 use Rattle.p3_formula.specs.Conditions.{HasAtomsBelow, is_tidy_action}
 use Rattle.p3_formula.specs.Forms.{State, truth, IsBelow}
@@ -24,7 +25,7 @@ use Rattle.p3_compile.specs.declared.stepping.Frame.{Frame}
 pub record IsReadyTask (G : GroundTask) : Type 0 where
   pub atoms : HasAtomsBelow G
   pub bits : length G.initial ≡ G.atoms
-  pub few : length G.soft ≤ 100000
+  pub few : length G.soft ≤ instance_limit
 
 -- the names of all atoms but those of wide steps, where the running atom has that number
 abbrev pub first_names : GroundTask → ℕ → List Name

@@ -3,7 +3,7 @@
 ghost use Rattle.std.specs.Prelude.{◌≡◌, ◌<◌, ◌≤◌, ◌+◌, ◌++◌, [], ◌∷◌, length, sum_by, IfOk, IsSome, IsTrue, OnOk};
 ghost use Rattle.std.specs.List.{list_all};
 ghost use Rattle.p3_base.specs.Copies.{copy_name};
-ghost use Rattle.p3_formula.specs.Conditions.{cost_limit, is_tidy_action};
+ghost use Rattle.p3_formula.specs.Conditions.{weight_bound, is_tidy_action};
 ghost use Rattle.p3_formula.specs.Weighted as weigh;
 ghost use Rattle.p3_compile.specs.Tidied.{HasTidyConditions};
 ghost use Rattle.p3_simulation.specs.Assembled.{IsCopyAction, AreCopyActions, IsSplit};
@@ -130,7 +130,7 @@ pub(crate) fn narrow_actions(
     requires names { weigh.AreNamedBelow (length weights.now.by_name) step.now.prefs }
     requires few { weigh.width_of weights.now.by_name step.now ≤ 8 }
     requires room { weigh.weighted_cost weights.now step.now
-        + sum_by (weigh.weight_of weights.now.by_name) step.now.prefs < cost_limit }
+        + sum_by (weigh.weight_of weights.now.by_name) step.now.prefs < weight_bound }
     ensures split { IfOk result (IsSplit go weights.now step.now effects) }
     // They are tidy where the changes are.
     ensures tidy { HasTidyConditions effects

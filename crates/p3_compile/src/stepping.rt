@@ -2,7 +2,7 @@
 
 ghost use Rattle.std.specs.Prelude.{◌≡◌, ◌++◌, ◌<◌, ◌+◌, [], ◌∷◌, length, IfOk, OnOk, IsSome, IsTrue, true};
 ghost use Rattle.std.specs.List.{All, list_all, list_any};
-ghost use Rattle.p3_formula.specs.Conditions.{is_tidy_action, greatest_width};
+ghost use Rattle.p3_formula.specs.Conditions.{is_tidy_action, width_limit};
 ghost use Rattle.p3_formula.specs.Weighted.{AreNamedBelow, width_of};
 ghost use Rattle.p3_formula.specs.Targets.{is_sized_change};
 ghost use Rattle.p3_formula.specs.declared.task.GroundStep.{GroundStep};
@@ -63,7 +63,7 @@ fn chain_actions(
     requires wide { 8 < width_of weights.now.by_name step.now }
     requires effects { list_all (is_sized_change frame.now.go) effects.now ≡ true }
     requires questions { frame.now.go < frame.now.first }
-    requires room { frame.now.first + greatest_width < length names.old }
+    requires room { frame.now.first + width_limit < length names.old }
     ensures named { OnOk result (names.new ≡ names.old ++ current_name step.now ∷ []) }
     ensures chain { IfOk result (IsChain frame.now.go frame.now.first (length names.old)
         weights.now step.now effects.now) }
@@ -95,7 +95,7 @@ fn costed_actions(
     requires ready { IsStepReady frame.now weights.now step.now }
     requires cost { IsSome step.now.cost }
     requires room { is_wide weights.now.by_name step.now ≡ true
-        → frame.now.first + greatest_width < length names.old }
+        → frame.now.first + width_limit < length names.old }
     ensures { IfOk result (HasActions frame.now weights.now step.now names.old names.new) }
 {
     let effects = step_changes(alloc, frame.monitors.items(), &frame.readers, &step.effects)?;
@@ -130,7 +130,7 @@ fn push_step(
     requires frame { IsFrame frame.now }
     requires ready { IsStepReady frame.now weights.now step.now }
     requires room { is_wide weights.now.by_name step.now ≡ true
-        → frame.now.first + greatest_width < length names.old }
+        → frame.now.first + width_limit < length names.old }
     ensures { OnOk result (HasPushed frame.now weights.now step.now names.old names.new
         actions.old actions.new) }
 {

@@ -2,6 +2,7 @@
 
 ghost use Rattle.std.specs.Prelude.{◌≡◌, ◌≤◌, ◌+◌, ◌^◌, ◌-◌, codes, length, not, [], ◌∷◌, IfOk, OnOk, ◌++◌, string_bytes};
 ghost use Rattle.std.specs.Str.{str_to_ascii_lowercase};
+ghost use Rattle.p3_base.specs.Limits.{instance_limit};
 ghost use Rattle.p3_formula.specs.Forms.{IsBelow, truth};
 ghost use Rattle.p3_formula.specs.Guards.{AllAreTidy};
 ghost use Rattle.p3_endphase.specs.Ends.{AreBelow, collect_name, forgo_name, IsMove, IsEndPhase, EndsOneWay, EndsNoWay, OneFits, MovesOn, IsGuarded, AllMoveForward, AllAreAllowed};
@@ -41,7 +42,7 @@ pub fn end_phase(
     requires finish { IsBelow first_atom finish.now }
     requires accept { AreBelow first_atom instances.now }
     requires room { first_atom + length instances.now + 2 ≤ 2 ^ 64 - 1 }
-    requires few { length instances.now ≤ 100000 }
+    requires few { length instances.now ≤ instance_limit }
     // What its actions are.
     ensures actions { IfOk result (IsEndPhase finish.now instances.now first_atom) }
     // From a running state where the plan may end, one list of actions leads to the goal, at the

@@ -10,7 +10,7 @@ use Rattle.p3_tree.specs.StepNumbers.{HasStepNumbers, IsOwn}
 use Rattle.p3_tree.specs.declared.state.Fact.{Fact}
 use Rattle.p3_tree.specs.declared.task.Task.{Task}
 use Rattle.p3_tree.proofs.StepNumberLaws.{steps_have_numbers}
-use Rattle.p3_formula.specs.Conditions.{HasNamesBelow, IsReady, IsWithinLimits, cost_limit}
+use Rattle.p3_formula.specs.Conditions.{HasNamesBelow, IsReady, IsWithinLimits, weight_bound}
 use Rattle.p3_formula.specs.Weighted.{weight_of, weighted_cost}
 use Rattle.p3_formula.specs.declared.target.Weights.{Weights}
 use Rattle.p3_formula.specs.declared.task.GroundStep.{GroundStep}
@@ -39,9 +39,9 @@ module _ (side : Side) (T : Task) (G : GroundTask) (w : Weights) (well : WellFor
         own : IsOwn T kept.step
         own = K.own made.number kept.step kept.number
 
-        by : (o : Option ℕ) → made.cost ≡ o → IsSome o → weighted_cost w made + sum_by (weight_of w.by_name) made.prefs < cost_limit
+        by : (o : Option ℕ) → made.cost ≡ o → IsSome o → weighted_cost w made + sum_by (weight_of w.by_name) made.prefs < weight_bound
         by None at costs = absurd (cc)
-        by (Some c) at costs = below_cost_bound T w has atoms K made.number kept.step made kept.number kept.is cost_limit c (cheap side T well none kept.step.action own.action own.named) at
+        by (Some c) at costs = below_cost_bound T w has atoms K made.number kept.step made kept.number kept.is weight_bound c (cheap side T well none kept.step.action own.action own.named) at
 
     ready : IsReady G w
     ready = record {

@@ -1,6 +1,7 @@
 -- What is asked of a ground task and its weights before the task is compiled, and that the forms of a target are tidy.
-use Rattle.std.specs.Prelude.{◌≡◌, ℕ, ◌+◌, ◌^◌, ◌<◌, ◌≤◌, nat_lt, Bool, true, ◌&&◌, List, [], ◌∷◌, length, sum_by, IsSome, IsTrue}
+use Rattle.std.specs.Prelude.{◌≡◌, ℕ, ◌+◌, ◌<◌, ◌≤◌, nat_lt, Bool, true, ◌&&◌, List, [], ◌∷◌, length, sum_by, IsSome, IsTrue}
 use Rattle.std.specs.List.{All, list_all}
+pub use Rattle.p3_base.specs.Limits.{instance_limit, width_limit, weight_bound}
 use Rattle.p3_formula.specs.Forms.{is_below, IsBelow}
 use Rattle.p3_formula.specs.Modals.{is_modal_below}
 use Rattle.p3_formula.specs.Targets.{is_sized_change}
@@ -40,17 +41,10 @@ pub record HasNamesBelow (count : ℕ) (G : GroundTask) : Type 0 where
 
 -- ---- limits
 
--- the greatest split width, and a number that no cost of an action reaches
-abbrev pub greatest_width : ℕ
-greatest_width = 200
-
-abbrev pub cost_limit : ℕ
-cost_limit = 2 ^ 62
-
 -- a step with a cost is not too wide, and its weighted cost with the weights of all its preferences is small
 pub record IsWithinLimits (weights : Weights) (step : GroundStep) : Type 0 where
-  pub width : IsSome step.cost → width_of weights.by_name step ≤ greatest_width
-  pub cost : IsSome step.cost → weighted_cost weights step + sum_by (weight_of weights.by_name) step.prefs < cost_limit
+  pub width : IsSome step.cost → width_of weights.by_name step ≤ width_limit
+  pub cost : IsSome step.cost → weighted_cost weights step + sum_by (weight_of weights.by_name) step.prefs < weight_bound
 
 -- ---- the conditions
 
@@ -59,7 +53,7 @@ pub record IsReady (G : GroundTask) (weights : Weights) : Type 0 where
   pub bits : length G.initial ≡ G.atoms
   pub numbers : IsTrue (rises 0 G.step_count G.steps)
   pub names : HasNamesBelow (length weights.by_name) G
-  pub few : length G.soft ≤ 100000
+  pub few : length G.soft ≤ instance_limit
   pub limits : All (IsWithinLimits weights) G.steps
 
 -- ---- tidy targets

@@ -1,6 +1,7 @@
 //! The problem half: places in a row, joined by roads, and the packages, which start at the first.
 
 ghost use Rattle.std.specs.Prelude.{◌≡◌, ◌+◌, ◌≤◌, ◌++◌, IfOk, OnOk, string_bytes};
+ghost use Rattle.p3_tree.specs.Commands.{sample_limit};
 ghost use Rattle.p3_tree.specs.Samples.{sample_problem};
 ghost use Rattle.p3_gen.specs.Pieces.{constraints_line, goal_line, objects_line, start_line};
 
@@ -13,7 +14,7 @@ const METRIC: &str =
     "(:metric minimize (+ (total-cost) (* 3 (is-violated calm)) (* 10 (is-violated home)) (* 4 (is-violated tour)) (* 2 (is-violated rest)))))\n";
 
 pub(crate) fn problem_text(alloc: Global, n: u32) -> Result<String, NoMemory>
-    requires { n ≤ 200 }
+    requires { n ≤ sample_limit }
     ensures { IfOk result (λ text. string_bytes text ≡ sample_problem n) }
 {
     let mut text = String::new(alloc);
@@ -27,7 +28,7 @@ pub(crate) fn problem_text(alloc: Global, n: u32) -> Result<String, NoMemory>
 }
 
 fn push_objects(text: &mut String, n: u32) -> Result<(), NoMemory>
-    requires { n ≤ 200 }
+    requires { n ≤ sample_limit }
     ensures { OnOk result (string_bytes text.new ≡ string_bytes text.old ++ objects_line n) }
 {
     text.push_str("(:objects")?;
@@ -39,7 +40,7 @@ fn push_objects(text: &mut String, n: u32) -> Result<(), NoMemory>
 }
 
 fn push_start(text: &mut String, n: u32) -> Result<(), NoMemory>
-    requires { n ≤ 200 }
+    requires { n ≤ sample_limit }
     ensures { OnOk result (string_bytes text.new ≡ string_bytes text.old ++ start_line n) }
 {
     text.push_str("(:init (truck-at l0)")?;

@@ -2,6 +2,7 @@
 
 ghost use Rattle.std.specs.Prelude.{◌≡◌, ◌≤◌, IfOk, length};
 ghost use Rattle.p3_base.specs.declared.refusal.Side.TheVariants.{Source};
+ghost use Rattle.p3_tree.specs.Commands.{sample_limit};
 ghost use Rattle.p3_tree.specs.Samples.{sample_domain, sample_problem, sample_plan};
 ghost use Rattle.p3_tree.specs.Sides.{byte_limit, plan_byte_limit};
 
@@ -25,7 +26,7 @@ pub struct Sample {
 /// The sample with n packages. Each text is short enough to be read.
 pub fn generate(alloc: Global, n: u32) -> Result<Sample, NoMemory>
     requires some { 1 ≤ n }
-    requires few { n ≤ 200 }
+    requires few { n ≤ sample_limit }
     ensures domain { IfOk result (λ sample. sample.domain ≡ sample_domain) }
     ensures problem { IfOk result (λ sample. sample.problem ≡ sample_problem n) }
     ensures plan { IfOk result (λ sample. sample.plan ≡ sample_plan n) }

@@ -10,6 +10,7 @@ use Rattle.std.proofs.lemmas.List.Folds.{list_any-append}
 use Rattle.std.proofs.lemmas.List.Elements.{All-append, All-nil}
 use Rattle.std.proofs.Math.ListN.{get_or-eq_default}
 use mathlib.Core.Logic.{inl, inr, ⊎_elim}
+use Rattle.p3_base.specs.Limits.{instance_limit}
 use Rattle.p3_formula.specs.Conditions.{HasAtomsBelow}
 use Rattle.p3_formula.specs.Forms.{State, is_set}
 use Rattle.p3_formula.specs.Modals.{IsModalBelow, is_read}
@@ -219,7 +220,7 @@ module _ (G : GroundTask) where
       by (inl lt) = ap length (group_begins group lt) ∙ length-map (modals_at G group) (begun G.initial)
       by (inr beyond) = ap length (get_or-eq_default (all_begun G) [] (let c = count in omega (arith, beyond, c))) ∙ ap length (sym (get_or-eq_default (modals_of G) [] beyond))
 
-  pub all_begin : HasAtomsBelow G → length G.soft ≤ 100000 → (readers : List (List Reader)) → AreReaders G readers → AreMarks G (G.initial ∷ []) (record { readers = readers; groups = all_begun G })
+  pub all_begin : HasAtomsBelow G → length G.soft ≤ instance_limit → (readers : List (List Reader)) → AreReaders G readers → AreMarks G (G.initial ∷ []) (record { readers = readers; groups = all_begun G })
   all_begin below few readers are = record {
     follows = record { can = record { below = below; few = few; shape = shape_begins }; readers = are };
     right = λ reader is.

@@ -1,6 +1,7 @@
 -- The marks of all operators of a task, in groups: those of the hard constraints, and those of each instance of a preference.
 use Rattle.std.specs.Prelude.{◌≡◌, ℕ, ◌+◌, ◌≤◌, List, [], ◌∷◌, ◌++◌, length, map, flat_map, fold, slice_index_or, slice_set}
 use Rattle.std.specs.List.{enumerate_from}
+use Rattle.p3_base.specs.Limits.{instance_limit}
 use Rattle.p3_base.specs.declared.showing.Reason.{Reason}
 use Rattle.p3_base.specs.declared.showing.Subject.{Subject}
 use Rattle.p3_base.specs.declared.showing.Subject.TheVariants.{Hard, Soft}
@@ -78,7 +79,7 @@ pub record HasShape (G : GroundTask) (groups : List (List Mark)) : Type 0 where
 -- what is known while operators of a task come to be in one state more
 pub record CanMark (G : GroundTask) (groups : List (List Mark)) : Type 0 where
   pub below : HasAtomsBelow G
-  pub few : length G.soft ≤ 100000
+  pub few : length G.soft ≤ instance_limit
   pub shape : HasShape G groups
 
 -- the operators are filed by their atoms, too

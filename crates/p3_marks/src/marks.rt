@@ -2,6 +2,7 @@
 
 ghost use Rattle.std.specs.Prelude.{◌≡◌, ◌<◌, ◌≤◌, ◌∷◌, [], ◌++◌, IfOk, IsTrue, OnOk, length};
 ghost use Rattle.std.specs.List.{All, list_all};
+ghost use Rattle.p3_base.specs.Limits.{instance_limit};
 ghost use Rattle.p3_formula.specs.Conditions.{HasAtomsBelow};
 ghost use Rattle.p3_formula.specs.Modals.{IsModalBelow};
 ghost use Rattle.p3_formula.specs.Targets.{is_sized_change};
@@ -49,7 +50,7 @@ impl Marks {
     pub fn open(alloc: Global, task: &GroundTask) -> Result<Marks, NoMemory>
         requires below { HasAtomsBelow task.now }
         requires bits { length task.now.initial ≡ task.now.atoms }
-        requires few { length task.now.soft ≤ 100000 }
+        requires few { length task.now.soft ≤ instance_limit }
         ensures { IfOk result (marked.AreMarks task.now (task.now.initial ∷ [])) }
     {
         let readers = readers_of(alloc, task)?;

@@ -45,7 +45,7 @@ use Rattle.p3_metric.proofs.StartLaws.{cut_twice}
 
 -- ---- one action
 
-past_bound : (n : ℕ) → nat_lt 4611686018427387903 n ≡ not (int_lt (pos n) (pos weight_bound))
+past_bound : (n : ℕ) → nat_lt (weight_bound - 1) n ≡ not (int_lt (pos n) (pos weight_bound))
 past_bound n = grind (arith, nat_tests)
 
 module _ (T : Task) (N : Numbers) (ties : IsNumbering T N) (names : N.preferences ≡ ordered_names T) (well : WellFormed T) (w : Weights) (has : HasWeights T w) where
@@ -74,13 +74,13 @@ module _ (T : Task) (N : Numbers) (ties : IsNumbering T N) (names : N.preference
 
     past_cost : is_past T N w Cost (numbered_action N action) ≡ not (int_lt (cost_bound T action) (pos weight_bound))
     past_cost =
-        ap (nat_lt 4611686018427387903) cost_measured ∙ cut-passes 4611686018427387903 (w.total_cost * costs + weights) (omega arith)
+        ap (nat_lt (weight_bound - 1)) cost_measured ∙ cut-passes (weight_bound - 1) (w.total_cost * costs + weights) (omega arith)
         ∙ past_bound (w.total_cost * costs + weights) ∙ ap (λ z. not (int_lt z (pos weight_bound))) (sym (bound_is T well w has action))
 
     past_width : is_past T N w Width (numbered_action N action) ≡ nat_lt width_limit (width T action)
     past_width =
-        ap (nat_lt 200) (preferences_sum Width (counted_in T) (number_counts T well w has N names)) ∙ cut-passes 200 (sum_by (counted_in T) (pref_names (action_prefs T action))) (omega arith)
-        ∙ ap (nat_lt 200) (sym (width_is T well w has action))
+        ap (nat_lt width_limit) (preferences_sum Width (counted_in T) (number_counts T well w has N names)) ∙ cut-passes width_limit (sum_by (counted_in T) (pref_names (action_prefs T action))) (omega arith)
+        ∙ ap (nat_lt width_limit) (sym (width_is T well w has action))
 
 -- ---- the first action
 

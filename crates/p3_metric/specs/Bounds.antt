@@ -1,5 +1,5 @@
 -- What is measured of an action by its numbered trees, cut at the greatest number of 64 bits, and the first action of which it passes a limit.
-use Rattle.std.specs.Prelude.{ℕ, ◌+◌, ◌*◌, ◌^◌, ◌<◌, nat_lt, Bool, List, [], ◌∷◌, length, slice_index_or, if◌then◌else◌, Option, Some, None}
+use Rattle.std.specs.Prelude.{ℕ, ◌+◌, ◌-◌, ◌*◌, ◌^◌, ◌<◌, nat_lt, Bool, List, [], ◌∷◌, length, slice_index_or, if◌then◌else◌, Option, Some, None}
 use Rattle.std.specs.List.{All}
 use Rattle.p3_base.specs.declared.refusal.Code.{Code}
 use Rattle.p3_base.specs.declared.refusal.Code.TheVariants.{CostTooLarge, SplitTooWide}
@@ -20,6 +20,7 @@ use Rattle.p3_numbers.specs.declared.task.NumberedAction.{NumberedAction}
 use Rattle.p3_tree.specs.Costs.{cost_units}
 use Rattle.p3_tree.specs.Names.{Name}
 use Rattle.p3_tree.specs.Refusals.Places.{refusal_at_word}
+use Rattle.p3_tree.specs.Sides.{weight_bound, width_limit}
 use Rattle.p3_tree.specs.declared.task.Action.{Action}
 use Rattle.p3_tree.specs.declared.task.Task.{Task}
 use Rattle.p3_types.specs.Tables.{greatest_value_of}
@@ -81,8 +82,8 @@ measured T N w Width action = shares Width w.by_name N action.pre
 
 -- the greatest that is accepted
 abbrev pub limit_of : Measure → ℕ
-limit_of Cost = 4611686018427387903
-limit_of Width = 200
+limit_of Cost = weight_bound - 1
+limit_of Width = width_limit
 
 abbrev pub code_of : Measure → Code
 code_of Cost = CostTooLarge

@@ -21,7 +21,7 @@ use Rattle.p3_formula.specs.declared.target.Weights.{Weights}
 use Rattle.p3_formula.specs.declared.task.GroundStep.{GroundStep}
 use Rattle.p3_formula.proofs.FormLemmas.{has_atoms-True}
 use Rattle.p3_precprefs.specs.Copies.{HasAtomsIn}
-use Rattle.p3_formula.specs.Conditions.{greatest_width}
+use Rattle.p3_formula.specs.Conditions.{width_limit}
 use Rattle.p3_precprefs.specs.Questions.{IsLink, IsBegin, IsAnswer, IsEnd, AreAnswers, IsChain, is_own, changes_own, AreAllowed}
 
 -- a test of the changes of some atoms
@@ -44,21 +44,21 @@ module _ (go first current : ℕ) where
   own_current : is_own go first current current ≡ true
   own_current = or_right (go == current) _ (or_left (current == current) _ (eq-eqb current current refl))
 
-  own_question : (place : ℕ) → place ≤ greatest_width → is_own go first current (first + place) ≡ true
+  own_question : (place : ℕ) → place ≤ width_limit → is_own go first current (first + place) ≡ true
   own_question place small = or_right (go == (first + place)) _ (or_right (current == (first + place)) _
-      (and_from _ _ (le-leb first (first + place) (omega arith)) (le-leb (first + place) (first + greatest_width) (omega (arith, small)))))
+      (and_from _ _ (le-leb first (first + place) (omega arith)) (le-leb (first + place) (first + width_limit) (omega (arith, small)))))
 
   own_first : is_own go first current first ≡ true
   own_first = let same : first + 0 ≡ first = omega arith in sym (ap (is_own go first current) same) ∙ own_question 0 (omega arith)
 
-module _ (go first current : ℕ) (weights : Weights) (step : GroundStep) (effects : List Change) (few : width_of weights.by_name step ≤ greatest_width) (actions : List TargetAction) (chain : IsChain go first current weights step effects actions) where
+module _ (go first current : ℕ) (weights : Weights) (step : GroundStep) (effects : List Change) (few : width_of weights.by_name step ≤ width_limit) (actions : List TargetAction) (chain : IsChain go first current weights step effects actions) where
   abbrev asked : List GroundPref
   asked = weighted weights.by_name step.prefs
 
   -- what holds of each kind of action holds of all
   module _ (P : TargetAction → Type 0) (Q : GroundPref → Type 0)
-      (answer : (place cost : ℕ) (holds : Bool) (pref : GroundPref) (action : TargetAction) → place < greatest_width → Q pref → IsAnswer first current step.number place holds pref.body cost action → P action) where
-    answers_all : (place : ℕ) (prefs : List GroundPref) (answers : List TargetAction) → AreAnswers first current step.number weights.by_name place prefs answers → place + length prefs ≤ greatest_width → All Q prefs → All P answers
+      (answer : (place cost : ℕ) (holds : Bool) (pref : GroundPref) (action : TargetAction) → place < width_limit → Q pref → IsAnswer first current step.number place holds pref.body cost action → P action) where
+    answers_all : (place : ℕ) (prefs : List GroundPref) (answers : List TargetAction) → AreAnswers first current step.number weights.by_name place prefs answers → place + length prefs ≤ width_limit → All Q prefs → All P answers
     answers_all place [] [] are small all = All-nil P
     answers_all place [] (action ∷ answers) are small all = absurd are
     answers_all place (pref ∷ prefs) [] are small all = absurd are

@@ -21,7 +21,7 @@ use Rattle.p3_formula.specs.declared.task.GroundStep.{GroundStep}
 use Rattle.p3_formula.proofs.FormLemmas.{truth-True}
 use Rattle.p3_formula.proofs.NextLaws.{length-after, is_set-unchanged, after-agree, truth-agree}
 use Rattle.p3_precprefs.specs.Copies.{violation}
-use Rattle.p3_formula.specs.Conditions.{greatest_width, is_step_below}
+use Rattle.p3_formula.specs.Conditions.{width_limit, is_step_below}
 use Rattle.p3_precprefs.specs.Questions.{signed, IsLink, IsBegin, IsAnswer, IsEnd, AreAnswers, IsChain, IsOpen, IsAsking, IsProper, Returns, Last, More, HasOneWay, IsGuarded, is_own}
 use Rattle.p3_formula.proofs.TurnLaws.{unnamed_above, conditions_below}
 use Rattle.p3_precprefs.proofs.TurnLaws.{begun_asking, passed_asking, ended_open, begun_other, passed_other, ended_other}
@@ -82,7 +82,7 @@ two_fit : (name : List ℕ) (source : Form) (holds : Bool) (effects : List Chang
     → is_set bits guard ≡ true → is_set bits other ≡ true → signed holds (truth bits source) ≡ true → truth bits link.pre ≡ true
 two_fit name source holds effects cost link bits guard other links e f h = links.fits bits ∙ (λ i. (e i && (f i && true)) && h i)
 
-module _ (go first current number : ℕ) (by_name : List ℕ) (effects : List Change) (cost : ℕ) (behind : go < first) (far : first + greatest_width < current) (below : list_all (is_sized_change go) effects ≡ true) where
+module _ (go first current number : ℕ) (by_name : List ℕ) (effects : List Change) (cost : ℕ) (behind : go < first) (far : first + width_limit < current) (below : list_all (is_sized_change go) effects ≡ true) where
   abbrev Questions : ℕ → List GroundPref → List TargetAction → Type 0
   Questions = Rest go first current number by_name effects cost
 
@@ -100,20 +100,20 @@ module _ (go first current number : ℕ) (by_name : List ℕ) (effects : List Ch
   ]
 
   module _ (bits : State) (question : ℕ) (asking : IsAsking go first current question bits) where
-    at_question : (place : ℕ) → place ≤ greatest_width → is_set bits (first + place) ≡ true → place ≡ question
+    at_question : (place : ℕ) → place ≤ width_limit → is_set bits (first + place) ≡ true → place ≡ question
     at_question place small set = eqb-true place question (sym (asking.asks place small) ∙ set)
 
-    answer_here : (place answer_cost : ℕ) (holds : Bool) (body : Form) (answer action : TargetAction) → IsAnswer first current number place holds body answer_cost answer → place ≤ greatest_width → answer ≡ action → truth bits action.pre ≡ true
+    answer_here : (place answer_cost : ℕ) (holds : Bool) (body : Form) (answer action : TargetAction) → IsAnswer first current number place holds body answer_cost answer → place ≤ width_limit → answer ≡ action → truth bits action.pre ≡ true
         → (place ≡ question) × (signed holds (truth bits body) ≡ true)
     answer_here place answer_cost holds body answer action answers small is fits =
         let shown = two_guards _ body holds _ _ answer action bits is fits (first + place) current answers in
         (at_question place small shown.0, shown.2)
 
-    end_here : (place : ℕ) (last action : TargetAction) → IsEnd go (first + place) current number effects cost last → place ≤ greatest_width → last ≡ action → truth bits action.pre ≡ true → place ≡ question
+    end_here : (place : ℕ) (last action : TargetAction) → IsEnd go (first + place) current number effects cost last → place ≤ width_limit → last ≡ action → truth bits action.pre ≡ true → place ≡ question
     end_here place last action ends small is fits = at_question place small (two_guards _ True true _ _ last action bits is fits (first + place) current ends).0
 
     -- what fits stands at the question that is asked
-    fits_later : (place : ℕ) (prefs : List GroundPref) (actions : List TargetAction) → Questions place prefs actions → place + length prefs ≤ greatest_width → (action : TargetAction) → Contains actions action → truth bits action.pre ≡ true → place ≤ question
+    fits_later : (place : ℕ) (prefs : List GroundPref) (actions : List TargetAction) → Questions place prefs actions → place + length prefs ≤ width_limit → (action : TargetAction) → Contains actions action → truth bits action.pre ≡ true → place ≤ question
     fits_later place prefs actions (Close _ last ends) few action member fits = elim (head_or_tail last [] action member) [
       | inl is ↦ let here = end_here place last action ends (omega (arith, few)) is fits in omega (arith, here)
       | inr later ↦ in_none action later
@@ -126,7 +126,7 @@ module _ (go first current number : ℕ) (by_name : List ℕ) (effects : List Ch
       ]
     ]
 
-    one_answers : (place : ℕ) (prefs : List GroundPref) (actions : List TargetAction) → Questions place prefs actions → place + length prefs ≤ greatest_width
+    one_answers : (place : ℕ) (prefs : List GroundPref) (actions : List TargetAction) → Questions place prefs actions → place + length prefs ≤ width_limit
         → (one two : TargetAction) → Contains actions one → Contains actions two → truth bits one.pre ≡ true → truth bits two.pre ≡ true → one ≡ two
     one_answers place prefs actions (Close _ last ends) few one two member member_two fits fit = elim (head_or_tail last [] one member) [
       | inl is ↦ elim (head_or_tail last [] two member_two) [ inl same ↦ sym is ∙ same | inr later ↦ in_none two later ]
@@ -158,7 +158,7 @@ module _ (go first current number : ℕ) (by_name : List ℕ) (effects : List Ch
 
     -- ---- where they lead
 
-    answered_asking : (place answer_cost : ℕ) (holds : Bool) (body : Form) (answer : TargetAction) → IsAnswer first current number place holds body answer_cost answer → place ≡ question → place < greatest_width
+    answered_asking : (place answer_cost : ℕ) (holds : Bool) (body : Form) (answer : TargetAction) → IsAnswer first current number place holds body answer_cost answer → place ≡ question → place < width_limit
         → IsAsking go first current (question + 1) (after bits answer.effects)
     answered_asking place answer_cost holds body answer answers here small =
         subst (λ changes. IsAsking go first current (question + 1) (after bits changes)) (ap (λ n. turned ((first + n) ∷ []) ((first + (n + 1)) ∷ [])) (sym here) ∙ sym answers.does)
@@ -169,7 +169,7 @@ module _ (go first current number : ℕ) (by_name : List ℕ) (effects : List Ch
         subst (λ changes. IsOpen go first current (after bits changes)) (ap (λ n. effects ++ turned ((first + n) ∷ current ∷ []) (go ∷ [])) (sym here) ∙ sym ends.does)
         (ended_open go first current behind far bits question asking effects below)
 
-    next_answers : (place : ℕ) (prefs : List GroundPref) (actions : List TargetAction) → Questions place prefs actions → place + length prefs ≤ greatest_width → (action : TargetAction) → Contains actions action → truth bits action.pre ≡ true
+    next_answers : (place : ℕ) (prefs : List GroundPref) (actions : List TargetAction) → Questions place prefs actions → place + length prefs ≤ width_limit → (action : TargetAction) → Contains actions action → truth bits action.pre ≡ true
         → IsProper go first current (after bits action.effects)
     next_answers place prefs actions (Close _ last ends) few action member fits = elim (head_or_tail last [] action member) [
       | inl is ↦ inl (subst (λ (a : TargetAction). IsOpen go first current (after bits a.effects)) is (ended_bits place last ends (end_here place last action ends (omega (arith, few)) is fits)))
@@ -203,7 +203,7 @@ module _ (go first current number : ℕ) (by_name : List ℕ) (effects : List Ch
       (λ is. omega (arith, eqb-true go atom is, low))
       (λ rest. ⊎_elim
       (λ is. omega (arith, eqb-true current atom is, low, behind, far))
-      (λ between. let parts = and_parts (nat_le first atom) (nat_le atom (first + greatest_width)) between in omega (arith, leb-true first atom parts.0, low, behind))
+      (λ between. let parts = and_parts (nat_le first atom) (nat_le atom (first + width_limit)) between in omega (arith, leb-true first atom parts.0, low, behind))
       (or_cases (current == atom) _ rest))
       (or_cases (go == atom) _ own))
 
@@ -214,11 +214,11 @@ module _ (go first current number : ℕ) (by_name : List ℕ) (effects : List Ch
       (λ rest. ⊎_elim
       (λ is. subst (λ n. is_set one n ≡ is_set two n) (eqb-true current atom is) (opens.idle ∙ sym open_two.idle))
       (λ between.
-      let parts = and_parts (nat_le first atom) (nat_le atom (first + greatest_width)) between in
+      let parts = and_parts (nat_le first atom) (nat_le atom (first + width_limit)) between in
       let low = leb-true first atom parts.0 in
-      let high = leb-true atom (first + greatest_width) parts.1 in
+      let high = leb-true atom (first + width_limit) parts.1 in
       let is : first + (atom - first) ≡ atom = omega (arith, low) in
-      let small : atom - first ≤ greatest_width = omega (arith, low, high) in
+      let small : atom - first ≤ width_limit = omega (arith, low, high) in
       subst (λ n. is_set one n ≡ is_set two n) is (opens.quiet (atom - first) small ∙ sym (open_two.quiet (atom - first) small)))
       (or_cases (current == atom) _ rest))
       (or_cases (go == atom) _ own)
@@ -269,7 +269,7 @@ module _ (go first current number : ℕ) (by_name : List ℕ) (effects : List Ch
       count = let c = onward.count in omega (arith, c);
     }
 
-    answered : (place : ℕ) (prefs : List GroundPref) (actions : List TargetAction) → Questions place prefs actions → place + length prefs ≤ greatest_width → ((action : TargetAction) → Contains actions action → Contains all action)
+    answered : (place : ℕ) (prefs : List GroundPref) (actions : List TargetAction) → Questions place prefs actions → place + length prefs ≤ width_limit → ((action : TargetAction) → Contains actions action → Contains all action)
         → All (λ (pref : GroundPref). IsBelow go pref.body) prefs → (bits : State) (question : ℕ) → IsAsking go first current question bits → place ≡ question → IsSameElsewhere start bits → Answered prefs bits
     answered place prefs actions (Close _ last ends) few inside bodies bits question asking here elsewhere =
         let fits : truth bits last.pre ≡ true = two_fit _ True true _ _ last bits (first + place) current ends (asking.asks place (omega (arith, few)) ∙ ap (λ n. n == question) here ∙ eq-eqb question question refl) asking.asked (truth-True bits) in
@@ -310,8 +310,8 @@ module _ (go first current number : ℕ) (by_name : List ℕ) (effects : List Ch
 
 -- ---- the chain of a step
 
-module _ (go first current : ℕ) (weights : Weights) (step : GroundStep) (effects : List Change) (behind : go < first) (far : first + greatest_width < current)
-    (below : list_all (is_sized_change go) effects ≡ true) (few : width_of weights.by_name step ≤ greatest_width) where
+module _ (go first current : ℕ) (weights : Weights) (step : GroundStep) (effects : List Change) (behind : go < first) (far : first + width_limit < current)
+    (below : list_all (is_sized_change go) effects ≡ true) (few : width_of weights.by_name step ≤ width_limit) where
   abbrev asked : List GroundPref
   asked = weighted weights.by_name step.prefs
 
@@ -328,7 +328,7 @@ module _ (go first current : ℕ) (weights : Weights) (step : GroundStep) (effec
   }
 
   module _ (begin : TargetAction) (others : List TargetAction) (is_whole : IsWhole begin others) where
-    room : 0 + length asked ≤ greatest_width
+    room : 0 + length asked ≤ width_limit
     room = omega (arith, few)
 
     begin_shows : (bits : State) (action : TargetAction) → begin ≡ action → truth bits action.pre ≡ true → (is_set bits go ≡ true) × (truth bits step.pre ≡ true)

@@ -11,7 +11,7 @@ use Rattle.p3_formula.specs.Targets.{is_sized_change}
 use Rattle.p3_formula.specs.declared.form.Change.{Change}
 use Rattle.p3_formula.proofs.TurnLaws.{is_among, turned_at, turned_other, unnamed_above}
 use Rattle.p3_formula.proofs.NextLaws.{length-after, is_set-unchanged}
-use Rattle.p3_formula.specs.Conditions.{greatest_width}
+use Rattle.p3_formula.specs.Conditions.{width_limit}
 use Rattle.p3_precprefs.specs.Questions.{IsOpen, IsAsking, is_own}
 
 -- ---- the chain's own atoms
@@ -38,7 +38,7 @@ apart true y = refl
 apart false true = refl
 apart false false = refl
 
-module _ (go first current : ℕ) (behind : go < first) (far : first + greatest_width < current) where
+module _ (go first current : ℕ) (behind : go < first) (far : first + width_limit < current) where
   go_no_question : (place : ℕ) → ((first + place) == go) ≡ false
   go_no_question place = ne_eqb (first + place) go (λ same. omega (arith, same, behind))
 
@@ -48,10 +48,10 @@ module _ (go first current : ℕ) (behind : go < first) (far : first + greatest_
   question_no_go : (place : ℕ) → (go == (first + place)) ≡ false
   question_no_go place = ne_eqb go (first + place) (λ same. omega (arith, same, behind))
 
-  question_no_current : (place : ℕ) → place ≤ greatest_width → (current == (first + place)) ≡ false
+  question_no_current : (place : ℕ) → place ≤ width_limit → (current == (first + place)) ≡ false
   question_no_current place small = ne_eqb current (first + place) (λ same. omega (arith, same, small, far))
 
-  current_no_question : (place : ℕ) → place ≤ greatest_width → ((first + place) == current) ≡ false
+  current_no_question : (place : ℕ) → place ≤ width_limit → ((first + place) == current) ≡ false
   current_no_question place small = ne_eqb (first + place) current (λ same. omega (arith, same, small, far))
 
   current_no_go : (go == current) ≡ false
@@ -90,7 +90,7 @@ module _ (go first current : ℕ) (behind : go < first) (far : first + greatest_
     -- ---- a question is answered
 
     module _ (question : ℕ) (asking : IsAsking go first current question bits) where
-      pub passed_asking : question < greatest_width → IsAsking go first current (question + 1) (after bits (turned ((first + question) ∷ []) ((first + (question + 1)) ∷ [])))
+      pub passed_asking : question < width_limit → IsAsking go first current (question + 1) (after bits (turned ((first + question) ∷ []) ((first + (question + 1)) ∷ [])))
       passed_asking more = record {
         room = let l = length-after bits (turned ((first + question) ∷ []) ((first + (question + 1)) ∷ [])) in let r = asking.room in omega (arith, l, r);
         within = omega (arith, more);
@@ -137,12 +137,12 @@ module _ (go first current atom : ℕ) (other : is_own go first current atom ≡
   not_current : (current == atom) ≡ false
   not_current = (or_parts (current == atom) _ (or_parts (go == atom) _ other).1).0
 
-  not_question : (place : ℕ) → place ≤ greatest_width → ((first + place) == atom) ≡ false
+  not_question : (place : ℕ) → place ≤ width_limit → ((first + place) == atom) ≡ false
   not_question place small = ne_eqb (first + place) atom (λ same. no same)
     where
       no : first + place ≡ atom → ⊥
-      no same = both_ways (nat_le first atom && nat_le atom (first + greatest_width)) (or_parts (current == atom) _ (or_parts (go == atom) _ other).1).1
-          (and_from (nat_le first atom) (nat_le atom (first + greatest_width)) (le-leb first atom (omega (arith, same))) (le-leb atom (first + greatest_width) (omega (arith, same, small))))
+      no same = both_ways (nat_le first atom && nat_le atom (first + width_limit)) (or_parts (current == atom) _ (or_parts (go == atom) _ other).1).1
+          (and_from (nat_le first atom) (nat_le atom (first + width_limit)) (le-leb first atom (omega (arith, same))) (le-leb atom (first + width_limit) (omega (arith, same, small))))
 
   first_no : (first == atom) ≡ false
   first_no = let same : first ≡ first + 0 = omega arith in ap (λ n. n == atom) same ∙ not_question 0 (omega arith)
@@ -150,8 +150,8 @@ module _ (go first current atom : ℕ) (other : is_own go first current atom ≡
   pub begun_other : (bits : State) → is_set (after bits (turned (go ∷ []) (first ∷ current ∷ []))) atom ≡ is_set bits atom
   begun_other bits = is_set-unchanged bits (turned (go ∷ []) (first ∷ current ∷ [])) atom (λ i. not_go i || (first_no i || (not_current i || false)))
 
-  pub passed_other : (bits : State) (question : ℕ) → question < greatest_width → is_set (after bits (turned ((first + question) ∷ []) ((first + (question + 1)) ∷ []))) atom ≡ is_set bits atom
+  pub passed_other : (bits : State) (question : ℕ) → question < width_limit → is_set (after bits (turned ((first + question) ∷ []) ((first + (question + 1)) ∷ []))) atom ≡ is_set bits atom
   passed_other bits question more = is_set-unchanged bits (turned ((first + question) ∷ []) ((first + (question + 1)) ∷ [])) atom (λ i. not_question question (omega (arith, more)) i || (not_question (question + 1) (omega (arith, more)) i || false))
 
-  pub ended_other : (bits : State) (question : ℕ) (effects : List Change) → question ≤ greatest_width → is_set (after bits (effects ++ turned ((first + question) ∷ current ∷ []) (go ∷ []))) atom ≡ is_set (after bits effects) atom
+  pub ended_other : (bits : State) (question : ℕ) (effects : List Change) → question ≤ width_limit → is_set (after bits (effects ++ turned ((first + question) ∷ current ∷ []) (go ∷ []))) atom ≡ is_set (after bits effects) atom
   ended_other bits question effects small = turned_other bits effects ((first + question) ∷ current ∷ []) (go ∷ []) atom (λ i. not_question question small i || (not_current i || false)) (λ i. not_go i || false)

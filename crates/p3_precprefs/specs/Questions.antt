@@ -3,7 +3,7 @@ use Rattle.std.specs.Prelude.{◌≡◌, ◌⊎◌, ℕ, ◌+◌, ◌<◌, ◌�
 use Rattle.std.specs.List.{All, list_all}
 use Rattle.p3_base.specs.Copies.{answer_name, copy_prefix, end_name}
 use Rattle.p3_base.specs.Words.{Name}
-use Rattle.p3_formula.specs.Conditions.{greatest_width}
+use Rattle.p3_formula.specs.Conditions.{width_limit}
 use Rattle.p3_formula.specs.Forms.{State, is_set, truth, has_atoms}
 use Rattle.p3_formula.specs.Guards.{turned, is_changed}
 use Rattle.p3_formula.specs.Next.{after}
@@ -93,15 +93,15 @@ pub record IsOpen (go first current : ℕ) (bits : State) : Type 0 where
   pub room : current < length bits
   pub running : is_set bits go ≡ true
   pub idle : is_set bits current ≡ false
-  pub quiet : (place : ℕ) → place ≤ greatest_width → is_set bits (first + place) ≡ false
+  pub quiet : (place : ℕ) → place ≤ width_limit → is_set bits (first + place) ≡ false
 
 -- of the chain's own atoms only the current atom and that question are set
 pub record IsAsking (go first current question : ℕ) (bits : State) : Type 0 where
   pub room : current < length bits
-  pub within : question ≤ greatest_width
+  pub within : question ≤ width_limit
   pub stopped : is_set bits go ≡ false
   pub asked : is_set bits current ≡ true
-  pub asks : (place : ℕ) → place ≤ greatest_width → is_set bits (first + place) ≡ (place == question)
+  pub asks : (place : ℕ) → place ≤ width_limit → is_set bits (first + place) ≡ (place == question)
 
 abbrev pub IsProper : ℕ → ℕ → ℕ → State → Type 0
 IsProper go first current bits = IsOpen go first current bits ⊎ ((question : ℕ) × IsAsking go first current question bits)
@@ -136,7 +136,7 @@ pub record IsGuarded (go current : ℕ) (actions : List TargetAction) : Type 0 w
 
 -- the running atom, the current atom, and the question atoms
 abbrev pub is_own : ℕ → ℕ → ℕ → ℕ → Bool
-is_own go first current atom = (go == atom) || ((current == atom) || (nat_le first atom && nat_le atom (first + greatest_width)))
+is_own go first current atom = (go == atom) || ((current == atom) || (nat_le first atom && nat_le atom (first + width_limit)))
 
 -- the action changes only the chain's own atoms and those that the effects change
 abbrev pub changes_own : ℕ → ℕ → ℕ → List Change → TargetAction → Bool

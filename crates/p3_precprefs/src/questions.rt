@@ -5,7 +5,7 @@ ghost use Rattle.std.specs.List.{list_all};
 ghost use Rattle.std.specs.Str.{str_to_ascii_lowercase};
 ghost use Rattle.p3_base.specs.Copies as named;
 ghost use Rattle.p3_base.specs.Copies.{copy_prefix};
-ghost use Rattle.p3_formula.specs.Conditions.{is_step_below, greatest_width, cost_limit};
+ghost use Rattle.p3_formula.specs.Conditions.{is_step_below, width_limit, weight_bound};
 ghost use Rattle.p3_formula.specs.Guards.{AllAreTidy};
 ghost use Rattle.p3_formula.specs.Targets.{is_sized_change};
 ghost use Rattle.p3_formula.specs.Weighted as weigh;
@@ -33,13 +33,13 @@ pub fn ask(
     requires cost { IsSome step.now.cost }
     requires names { weigh.AreNamedBelow (length weights.now.by_name) step.now.prefs }
     requires wide { 9 ≤ weigh.width_of weights.now.by_name step.now }
-    requires few { weigh.width_of weights.now.by_name step.now ≤ greatest_width }
+    requires few { weigh.width_of weights.now.by_name step.now ≤ width_limit }
     requires room { weigh.weighted_cost weights.now step.now + sum_by
-        (weigh.weight_of weights.now.by_name) step.now.prefs < cost_limit }
+        (weigh.weight_of weights.now.by_name) step.now.prefs < weight_bound }
     requires step { is_step_below go step.now ≡ true }
     requires effects { list_all (is_sized_change go) effects.now ≡ true }
     requires questions { go < first }
-    requires current { first + greatest_width < current }
+    requires current { first + width_limit < current }
     // What its actions are.
     ensures actions { IfOk result (made.IsChain go first current weights.now step.now effects.now) }
     // From open bits where the step fits, one list of them leads back to open bits; else none fits.
@@ -69,9 +69,9 @@ fn chain(
     current: usize,
 ) -> Result<List<TargetAction>, NoMemory>
     requires names { weigh.AreNamedBelow (length weights.now.by_name) step.now.prefs }
-    requires few { weigh.width_of weights.now.by_name step.now ≤ greatest_width }
-    requires room { weigh.weighted_cost weights.now step.now < cost_limit }
-    requires current { first + greatest_width < current }
+    requires few { weigh.width_of weights.now.by_name step.now ≤ width_limit }
+    requires room { weigh.weighted_cost weights.now step.now < weight_bound }
+    requires current { first + width_limit < current }
     ensures { IfOk result (made.IsChain go first current weights.now step.now effects.now) }
 {
     let mut actions = List::new(alloc);
@@ -101,8 +101,8 @@ fn push_questions(
     current: usize,
 ) -> Result<usize, NoMemory>
     requires names { weigh.AreNamedBelow (length by_name.now) step.now.prefs }
-    requires few { weigh.width_of by_name.now step.now ≤ greatest_width }
-    requires current { first + greatest_width < current }
+    requires few { weigh.width_of by_name.now step.now ≤ width_limit }
+    requires current { first + width_limit < current }
     ensures count { IfOk result (λ count. count ≡ weigh.width_of by_name.now step.now) }
     ensures pushed { OnOk result
         (made.IsAsked first current step.now.number by_name.now

@@ -6,6 +6,7 @@ use Rattle.std.proofs.lemmas.Bool.{cases_eq}
 use Rattle.std.proofs.lemmas.List.{get_or-set_same, get_or-set_other, length-map}
 use Rattle.std.proofs.lemmas.List.Elements.{All-set}
 use mathlib.Core.Logic.{inl, inr}
+use Rattle.p3_base.specs.Limits.{instance_limit}
 use Rattle.p3_formula.specs.Forms.{State}
 use Rattle.p3_formula.specs.Modals.{IsModalBelow}
 use Rattle.p3_formula.specs.Weighted.{HasNameBelow}
@@ -17,7 +18,7 @@ use Rattle.p3_run.specs.declared.readers.Reader.{Reader}
 use Rattle.p3_run.proofs.ReaderLaws.{modal_below}
 use Rattle.p3_run.proofs.TallyLaws.{can_add, can_remove, recount_law}
 
-pub few_groups : (G : GroundTask) → length G.soft ≤ 100000 → length (modals_of G) ≤ 100001
+pub few_groups : (G : GroundTask) → length G.soft ≤ instance_limit → length (modals_of G) ≤ instance_limit + 1
 few_groups G few = let l : length (map (λ (soft : GroundSoft). soft.parts) G.soft) ≡ length G.soft = simp length-map in omega (arith, l, few)
 
 -- there is a stage for each operator still
@@ -56,7 +57,7 @@ module _ (G : GroundTask) (by_name : List ℕ) (state : State) (watches : List W
   name_below : HasNameBelow (length by_name) watch.name
   name_below = can.named reader.group _ group_within
 
-  few : length watches ≤ 100001
+  few : length watches ≤ instance_limit + 1
   few = let f = few_groups G can.few in let s = can.shape.groups in omega (arith, f, s)
 
   pub add_fits : All (λ w. w < 2 ^ 64) by_name → is_met watch.stages ≡ true → is_met then_is.stages ≡ false → CanAdd by_name watch.name tally

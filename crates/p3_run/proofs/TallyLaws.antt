@@ -10,6 +10,7 @@ use Rattle.std.proofs.lemmas.List.{get_or-set_same, get_or-set_other, get_or-rep
 use Rattle.std.proofs.lemmas.List.Sums.{sum_by-set, sum_by_push, sum_by-le, count_by-le-length}
 use Rattle.std.proofs.Math.ListN.{get_or-eq_default}
 use mathlib.Core.Logic.{◌⊎◌, inl, inr}
+use Rattle.p3_base.specs.Limits.{instance_limit}
 use Rattle.p3_formula.specs.GroundPlans.{is_numbered}
 use Rattle.p3_formula.specs.Weighted.{HasNameBelow, named_weight}
 use Rattle.p3_run.specs.Groups.{Watch, is_met, watch_at, violating, violating_weight, IsCounted}
@@ -107,14 +108,14 @@ module _ (by_name : List ℕ) where
       by true = omega arith
       by false = named_small w.name
 
-    pub few_violating : (all : List Watch) (n : ℕ) → length all ≤ 100001 → violating n all ≤ 100001
+    pub few_violating : (all : List Watch) (n : ℕ) → length all ≤ instance_limit + 1 → violating n all ≤ instance_limit + 1
     few_violating all n few = let h = count_by-le-length (counts_for n) all in omega (arith, h, few)
 
-    pub light_violating : (all : List Watch) → length all ≤ 100001 → violating_weight by_name all ≤ 100001 * 2 ^ 64
+    pub light_violating : (all : List Watch) → length all ≤ instance_limit + 1 → violating_weight by_name all ≤ (instance_limit + 1) * 2 ^ 64
     light_violating all few = let h = sum_by-le weight_for (2 ^ 64) all (λ k d lt. weight_small (get_or all k d)) in omega (arith, h, few)
 
     -- there is room for one more
-    pub room_for : (watches more : List Watch) (name : Option ℕ) (tally : Counted) → length more ≤ 100001 → HasNameBelow (length by_name) name → IsCounted by_name watches tally
+    pub room_for : (watches more : List Watch) (name : Option ℕ) (tally : Counted) → length more ≤ instance_limit + 1 → HasNameBelow (length by_name) name → IsCounted by_name watches tally
         → ((n : ℕ) → violating n watches + one_of name n ≡ violating n more) → violating_weight by_name watches + named_weight by_name name ≡ violating_weight by_name more → CanAdd by_name name tally
     room_for watches more name tally few below counted up up_weight = record {
       named = below;
@@ -191,7 +192,7 @@ module _ (by_name : List ℕ) where
       by false false w i = tally_like (even_count false w i) (even_weight false w i) counted
 
     module _ (small : All (λ w. w < 2 ^ 64) by_name) where
-      pub can_add : (tally : Counted) → length watches ≤ 100001 → HasNameBelow (length by_name) watch.name → IsCounted by_name watches tally → is_met watch.stages ≡ true → is_met later.stages ≡ false → CanAdd by_name watch.name tally
+      pub can_add : (tally : Counted) → length watches ≤ instance_limit + 1 → HasNameBelow (length by_name) watch.name → IsCounted by_name watches tally → is_met watch.stages ≡ true → is_met later.stages ≡ false → CanAdd by_name watch.name tally
       can_add tally few below counted was is =
           room_for small watches after watch.name tally (let l = length-set watches group later in omega (arith, l, few)) below counted (up_count was is) (up_weight was is)
 
@@ -224,7 +225,7 @@ module _ (by_name : List ℕ) where
     one_more : (n : ℕ) → violating n watches + one_of watch.name n ≡ violating n (watches ++ watch ∷ [])
     one_more n = sym (count_more watches watch false unmet n ∙ ap (λ k. violating n watches + cond k 1 0) (and-true (is_numbered n watch.name)))
 
-    pub can_add_more : All (λ w. w < 2 ^ 64) by_name → (tally : Counted) → length (watches ++ watch ∷ []) ≤ 100001 → HasNameBelow (length by_name) watch.name → IsCounted by_name watches tally → CanAdd by_name watch.name tally
+    pub can_add_more : All (λ w. w < 2 ^ 64) by_name → (tally : Counted) → length (watches ++ watch ∷ []) ≤ instance_limit + 1 → HasNameBelow (length by_name) watch.name → IsCounted by_name watches tally → CanAdd by_name watch.name tally
     can_add_more small tally few below counted = room_for small watches (watches ++ watch ∷ []) watch.name tally few below counted one_more (sym (weight_more watches watch false unmet))
 
   pub tally_more : (watches : List Watch) (watch : Watch) (tally : Counted) → HasNameBelow (length by_name) watch.name → IsCounted by_name watches tally

@@ -3,6 +3,7 @@ use Rattle.std.proofs.Common.{◌≡◌, ◌∙◌, ℕ, ◌+◌, ◌*◌, ◌^�
 use Rattle.std.specs.Prelude.{position, replicate, slice_set, zip}
 use Rattle.std.specs.List.{All, prefix_len, list_all}
 use Rattle.std.proofs.lemmas.List.{length-take-le, take_more_set, length-replicate, get_or-replicate, length-map}
+use Rattle.p3_base.specs.Limits.{instance_limit}
 use Rattle.p3_formula.specs.Forms.{State, truth, IsBelow}
 use Rattle.p3_formula.specs.GroundPlans.{GroundPlan, step_of, ground_visited, ground_moves, ground_cost, ground_violated, ground_loss, ground_fits, false_prefs}
 use Rattle.p3_formula.specs.Next.{after}
@@ -65,7 +66,7 @@ module _ (G : GroundTask) (weights : Weights) (readers : List (List Reader)) (fo
   pub cheap : cost ≤ most_steps * 10 ^ 27
   cheap = let h = cheap_steps G weights can is.can.small plan is.run.short in let c = is.run.cost in omega (arith, h, c)
 
-  few : length watches ≤ 100001
+  few : length watches ≤ instance_limit + 1
   few = let f = few_groups G can.ready.few in let s = ap length is.run.watches in let t = (shape_of G (ground_visited G plan)).groups in omega (arith, f, s, t)
 
   pub light : soft.worth + prefs.worth < 2 ^ 126
@@ -189,7 +190,7 @@ module _ (G : GroundTask) (weights : Weights) (can : CanBeRun G weights) where
   pub first_named : AreNamedBelow (length weights.by_name) (watches_of (G.initial ∷ []) G)
   first_named = named_groups G weights can (G.initial ∷ [])
 
-  pub first_few : length (watches_of (G.initial ∷ []) G) ≤ 100001
+  pub first_few : length (watches_of (G.initial ∷ []) G) ≤ instance_limit + 1
   first_few = let f = few_groups G can.ready.few in let t = (shape_of G (G.initial ∷ [])).groups in omega (arith, f, t)
 
   pub first_run : (small : All (λ w. w < 2 ^ 64) weights.by_name) (readers : List (List Reader)) (found : List Found) (done : List ℕ) (state : State) (watches : List Watch) (soft prefs : Counted)

@@ -1,6 +1,7 @@
 -- The operators of the hard constraints, and those of each instance of a preference, as groups that are satisfied where each of theirs is.
 use Rattle.std.specs.Prelude.{◌≡◌, ℕ, ◌<◌, ◌≤◌, Bool, not, ◌&&◌, cond, List, [], ◌∷◌, length, map, slice_index_or, slice_set, count_by, sum_by, Option, None, fold, IsTrue, false}
 use Rattle.std.specs.List.{All, list_all}
+use Rattle.p3_base.specs.Limits.{instance_limit}
 use Rattle.p3_formula.specs.Conditions.{HasAtomsBelow}
 use Rattle.p3_formula.specs.Forms.{State}
 use Rattle.p3_formula.specs.GroundPlans.{is_numbered}
@@ -113,7 +114,7 @@ AreNamedBelow count watches = All (λ (watch : Watch). HasNameBelow count watch.
 pub record CanRenew (G : GroundTask) (by_name : List ℕ) (state : State) (watches : List Watch) (tally : Counted) : Type 0 where
   pub below : HasAtomsBelow G
   pub bits : length state ≡ G.atoms
-  pub few : length G.soft ≤ 100000
+  pub few : length G.soft ≤ instance_limit
   pub named : AreNamedBelow (length by_name) watches
   pub shape : HasShape G watches
   pub counted : IsCounted by_name watches tally

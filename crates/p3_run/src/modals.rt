@@ -2,6 +2,7 @@
 //! instance of a preference.
 
 ghost use Rattle.std.specs.Prelude.{◌≡◌, ◌<◌, ◌≤◌, length};
+ghost use Rattle.p3_base.specs.Limits.{instance_limit};
 ghost use Rattle.p3_run.specs.Groups as watched;
 
 use crate::readers::Reader;
@@ -9,7 +10,7 @@ use p3_formula::{GroundModal, GroundTask};
 
 /// How many groups there are.
 pub fn group_count(task: &GroundTask) -> usize
-    requires { length task.now.soft ≤ 100000 }
+    requires { length task.now.soft ≤ instance_limit }
     ensures { result ≡ length (watched.modals_of task.now) }
 {
     task.soft.len() + 1

@@ -1,6 +1,7 @@
 //! Which operators read an atom.
 
 ghost use Rattle.std.specs.Prelude.{◌≡◌, ◌+◌, ◌<◌, ◌≤◌, length, replicate, [], IfOk, OnOk};
+ghost use Rattle.p3_base.specs.Limits.{instance_limit};
 ghost use Rattle.p3_formula.specs.Conditions.{HasAtomsBelow};
 ghost use Rattle.p3_run.specs.Groups.{modals_of};
 ghost use Rattle.p3_formula.specs.AtomLists.{atoms_of, modal_atoms};
@@ -137,7 +138,7 @@ fn no_readers(alloc: Global, count: usize) -> Result<Vec<List<Reader>>, NoMemory
 /// Want of memory.
 pub fn readers_of(alloc: Global, task: &GroundTask) -> Result<Vec<List<Reader>>, NoMemory>
     requires below { HasAtomsBelow task.now }
-    requires few { length task.now.soft ≤ 100000 }
+    requires few { length task.now.soft ≤ instance_limit }
     ensures { IfOk result (λ readers. AreReaders task.now readers.items) }
 {
     let mut readers = no_readers(alloc, task.atoms)?;

@@ -3,6 +3,7 @@ use Rattle.std.proofs.Common.{◌≡◌, ◌∙◌, ◌≢◌, ◌⊎◌, inl, i
 use Rattle.std.specs.Prelude.{◌==◌, Contains, is_some, find}
 use Rattle.std.proofs.lemmas.Bool.{cases_eq, eq-eqb, ne_eqb, eqb-true}
 use Rattle.std.proofs.lemmas.List.Elements.{Contains-append_cases, Contains-append_left, Contains-append_right}
+use Rattle.p3_base.specs.Limits.{width_limit}
 use Rattle.p3_formula.specs.Forms.{State, is_set, truth}
 use Rattle.p3_formula.specs.Next.{after}
 use Rattle.p3_formula.specs.declared.target.TargetAction.{TargetAction}
@@ -149,7 +150,7 @@ module _ (go first size : ℕ) (behind_go : go < first) (counted : TargetAction 
     not_go same = let far = asking.behind in omega (arith, same, far, behind_go)
 
     -- only the current step's actions fit
-    pub current_is : (from : ℕ) → first + 200 < from → (steps : List GroundStep) (action : TargetAction) (o : Owner from steps action) → truth bits action.pre ≡ true → o.current ≡ current
+    pub current_is : (from : ℕ) → first + width_limit < from → (steps : List GroundStep) (action : TargetAction) (o : Owner from steps action) → truth bits action.pre ≡ true → o.current ≡ current
     current_is from far steps action o fits = ⊎_elim (λ set. absurd (no_go set)) (λ set. by set (cases_eq o.current current)) (o.made.gadget.guarded bits action o.own fits)
       where
         beyond : is_set bits o.current ≡ true → o.current ≢ current → from ≤ o.current → ⊥
@@ -162,7 +163,7 @@ module _ (go first size : ℕ) (behind_go : go < first) (counted : TargetAction 
     own_asking : (other : ℕ) → other ≡ current → IsAsking go first size other bits
     own_asking other same = subst (λ c. IsAsking go first size c bits) (sym same) asking
 
-    pub amid_one : (from to : ℕ) → first + 200 < from → (steps : List GroundStep) (all : List TargetAction) → Gadgets from to steps all
+    pub amid_one : (from to : ℕ) → first + width_limit < from → (steps : List GroundStep) (all : List TargetAction) → Gadgets from to steps all
         → (one other : TargetAction) → Contains all one → Contains all other → truth bits one.pre ≡ true → truth bits other.pre ≡ true → one ≡ other
     amid_one from to far steps all (NoSteps _) one other member member_two fits fit = in_none one member
     amid_one from to far steps all (Costless _ _ step others rest none are) one other member member_two fits fit = amid_one from to far others rest are one other member member_two fits fit
@@ -178,7 +179,7 @@ module _ (go first size : ℕ) (behind_go : go < first) (counted : TargetAction 
           ]
         ]
       where
-        ahead : first + 200 < next
+        ahead : first + width_limit < next
         ahead = let up = goes_up from mine next owns in omega (arith, up, far)
 
         mine_is : (action : TargetAction) → Contains actions action → truth bits action.pre ≡ true → mine ≡ current
@@ -191,7 +192,7 @@ module _ (go first size : ℕ) (behind_go : go < first) (counted : TargetAction 
         clash : (action : TargetAction) → Contains actions action → truth bits action.pre ≡ true → {another : TargetAction} → (o : Owner next others another) → o.current ≡ current → ⊥
         clash action own holds o is = ⊎_elim (λ same. not_go (sym is ∙ same)) (λ low. past mine next owns (mine_is action own holds) (omega (arith, low, is))) o.located
 
-    module _ (from to : ℕ) (far : first + 200 < from) (steps : List GroundStep) (all : List TargetAction) (are : Gadgets from to steps all) (action : TargetAction) (member : Contains all action) (fits : truth bits action.pre ≡ true) where
+    module _ (from to : ℕ) (far : first + width_limit < from) (steps : List GroundStep) (all : List TargetAction) (are : Gadgets from to steps all) (action : TargetAction) (member : Contains all action) (fits : truth bits action.pre ≡ true) where
       pub amid_counts : counted action ≡ None
       amid_counts = let o = owner from to steps all are action member in o.made.gadget.amid_counts bits (own_asking o.current (current_is from far steps action o fits)) action o.own fits
 

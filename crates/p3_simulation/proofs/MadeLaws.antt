@@ -3,6 +3,7 @@ use Rattle.std.proofs.Common.{◌≡◌, ◌∙◌, ◌⊎◌, inl, inr, ⊎_eli
 use Rattle.std.specs.Prelude.{Contains}
 use Rattle.std.proofs.lemmas.Bool.{cases_eq}
 use Rattle.std.proofs.lemmas.List.Elements.{Contains-append_cases, Contains-append_left, Contains-append_right}
+use Rattle.p3_base.specs.Limits.{width_limit}
 use Rattle.p3_formula.specs.Forms.{State, is_set, truth}
 use Rattle.p3_formula.specs.Next.{after}
 use Rattle.p3_formula.specs.Targets.{Fits}
@@ -54,7 +55,7 @@ module _ (G : GroundTask) (weights : Weights) (X : Target) (monitors : List Moni
     pub behind_go : go < first
     behind_go = let e = is.chain in let c = count_is in omega arith
 
-    pub far : first + 200 < first + 201
+    pub far : first + width_limit < first + 201
     far = omega arith
 
     -- an action is of a step or of the end phase

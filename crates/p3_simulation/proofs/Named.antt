@@ -7,6 +7,7 @@ use Rattle.std.proofs.lemmas.List.{map-append}
 use Rattle.std.proofs.lemmas.List.Elements.{All-head, All-tail}
 use Rattle.std.proofs.lemmas.List.Folds.{list_all-append}
 use Rattle.p3_base.specs.Copies.{copy_name, question_name}
+use Rattle.p3_base.specs.Limits.{instance_limit, width_limit}
 use Rattle.p3_base.specs.Words.{Name, is_lowered, is_name, is_predicate_name}
 use Rattle.p3_formula.specs.Conditions.{IsReady, IsWithinLimits, rises}
 use Rattle.p3_formula.specs.Targets.{IsNamed, action_names, ends_with_c_number}
@@ -111,7 +112,7 @@ copies_named go number effects (copy ∷ copies) (action ∷ actions) are = λ i
 -- ---- the chain of a step
 
 module _ (first current number : ℕ) (by_name : List ℕ) (fits : number < 2 ^ 64) where
-  answers_risen : (place : ℕ) (prefs : List GroundPref) (answers : List TargetAction) → AreAnswers first current number by_name place prefs answers → place + length prefs ≤ 200 → Actions (from_step number + (256 + 2 * place)) (from_step number + 1023) (names answers)
+  answers_risen : (place : ℕ) (prefs : List GroundPref) (answers : List TargetAction) → AreAnswers first current number by_name place prefs answers → place + length prefs ≤ width_limit → Actions (from_step number + (256 + 2 * place)) (from_step number + 1023) (names answers)
   answers_risen place [] [] are few = omega (arith, few)
   answers_risen place [] (action ∷ answers) are few = absurd are
   answers_risen place (pref ∷ prefs) [] are few = absurd are
@@ -129,10 +130,10 @@ module _ (first current number : ℕ) (by_name : List ℕ) (fits : number < 2 ^ 
         ),
       )
     where
-      yes_key : (place : ℕ) → place < 200 → key (question_name number (codes "y" ++ decimal place)) ≡ from_step number + (256 + 2 * place)
+      yes_key : (place : ℕ) → place < width_limit → key (question_name number (codes "y" ++ decimal place)) ≡ from_step number + (256 + 2 * place)
       yes_key place small = read_written key_of (codes "q") number (codes "y" ++ decimal place) refl fits refl ∙ ap (λ n. from_step number + n) (read_numbered answer_place (codes "y") place refl (omega (arith, small)))
 
-      no_key : (place : ℕ) → place < 200 → key (question_name number (codes "n" ++ decimal place)) ≡ from_step number + (257 + 2 * place)
+      no_key : (place : ℕ) → place < width_limit → key (question_name number (codes "n" ++ decimal place)) ≡ from_step number + (257 + 2 * place)
       no_key place small = read_written key_of (codes "q") number (codes "n" ++ decimal place) refl fits refl ∙ ap (λ n. from_step number + n) (read_numbered answer_place (codes "n") place refl (omega (arith, small)))
 
 -- ---- the steps
@@ -179,7 +180,7 @@ module _ (go first : ℕ) (weights : Weights) (monitors : List Monitor) where
 -- ---- the end phase
 
 module _ (first : ℕ) where
-  settles_risen : (number : ℕ) (instances : List SoftEnd) (actions : List TargetAction) → Settles first number instances actions → number + length instances ≤ 100000 → Actions (8 * 2 ^ 64 + 2 * number) (9 * 2 ^ 64) (names actions)
+  settles_risen : (number : ℕ) (instances : List SoftEnd) (actions : List TargetAction) → Settles first number instances actions → number + length instances ≤ instance_limit → Actions (8 * 2 ^ 64 + 2 * number) (9 * 2 ^ 64) (names actions)
   settles_risen number [] [] settles few = omega (arith, few)
   settles_risen number [] (action ∷ actions) settles few = absurd settles
   settles_risen number (instance ∷ instances) [] settles few = absurd settles
@@ -197,7 +198,7 @@ module _ (first : ℕ) where
         ),
       )
 
-  phase_risen : (finish : Form) (instances : List SoftEnd) (actions : List TargetAction) → AreActions first finish instances actions → length instances ≤ 100000 → Actions (7 * 2 ^ 64) (9 * 2 ^ 64) (names actions)
+  phase_risen : (finish : Form) (instances : List SoftEnd) (actions : List TargetAction) → AreActions first finish instances actions → length instances ≤ instance_limit → Actions (7 * 2 ^ 64) (9 * 2 ^ 64) (names actions)
   phase_risen finish instances [] are few = absurd are
   phase_risen finish instances (action ∷ actions) are few =
       let finish_is : key action.name ≡ 7 * 2 ^ 64 = ap key are.0.is_named in (

@@ -6,6 +6,7 @@ use Rattle.std.proofs.lemmas.Bool.{and_parts, and_from, lt-ltb, eqb-true, leb-tr
 use Rattle.std.proofs.lemmas.List.Elements.{All-head, All-tail, All-nil, All-cons}
 use Rattle.std.proofs.lemmas.List.Folds.{list_all-append}
 use Rattle.std.proofs.lemmas.List.Sums.{AllPass-from_list_all, list_all-from_AllPass}
+use Rattle.p3_base.specs.Limits.{width_limit}
 use Rattle.p3_formula.specs.Conditions.{IsReady, IsWithinLimits, is_step_below}
 use Rattle.p3_formula.specs.Forms.{is_below, has_atoms}
 use Rattle.p3_formula.specs.Targets.{is_sized_action, is_sized_change, IsSized}
@@ -51,16 +52,16 @@ module _ (go first size : ℕ) (behind_go : go < first) (room : first ≤ size) 
       (and_from _ _ (are.0.pre.reads (λ atom. nat_lt atom size) (λ i. lt-ltb go size (omega (arith, behind_go, room)) i && true) (All-head (λ (c : StepCopy). HasAtomsIn (λ atom. nat_lt atom size) c.pre) copy copies within)) (ap (list_all (is_sized_change size)) are.0.does ∙ sized))
       (copies_sized number effects copies actions are.1 (All-tail (λ (c : StepCopy). HasAtomsIn (λ atom. nat_lt atom size) c.pre) copy copies within) sized)
 
-  own_below : (current : ℕ) → first + 200 < current → current < size → (atom : ℕ) → is_own go first current atom ≡ true → nat_lt atom size ≡ true
+  own_below : (current : ℕ) → first + width_limit < current → current < size → (atom : ℕ) → is_own go first current atom ≡ true → nat_lt atom size ≡ true
   own_below current far fits atom own = lt-ltb atom size (⊎_elim
       (λ is. let e = eqb-true go atom is in omega (arith, e, behind_go, room))
       (λ rest. ⊎_elim (λ is. let e = eqb-true current atom is in omega (arith, e, fits))
-      (λ between. let high = leb-true atom (first + 200) (and_parts (nat_le first atom) _ between).1 in omega (arith, high, far, fits))
+      (λ between. let high = leb-true atom (first + width_limit) (and_parts (nat_le first atom) _ between).1 in omega (arith, high, far, fits))
       (or_cases (current == atom) _ rest)) (or_cases (go == atom) _ own))
 
   module _ (weights : Weights) (monitors : List Monitor) where
     pub steps_sized : (from to : ℕ) (steps : List GroundStep) (actions : List TargetAction) → AreOfSteps go first weights monitors from to steps actions → list_all (is_step_below go) steps ≡ true
-        → All (IsWithinLimits weights) steps → first + 200 < from → (from < to → to ≤ size) → list_all (is_sized_action size) actions ≡ true
+        → All (IsWithinLimits weights) steps → first + width_limit < from → (from < to → to ≤ size) → list_all (is_sized_action size) actions ≡ true
     steps_sized from to steps actions (NoSteps _) below limits far fits = refl
     steps_sized from to steps actions (OneStep _ next _ step others own rest are more) below limits far fits =
         list_all-append (is_sized_action size) own rest
@@ -69,7 +70,7 @@ module _ (go first size : ℕ) (behind_go : go < first) (room : first ≤ size) 
         parts : (is_step_below go step ≡ true) × (list_all (is_step_below go) others ≡ true)
         parts = and_parts (is_step_below go step) _ below
 
-        by : (next : ℕ) (own : List TargetAction) → AreOfStep go first weights monitors from next step own → next ≤ to → (first + 200 < next → (next < to → to ≤ size) → list_all (is_sized_action size) rest ≡ true)
+        by : (next : ℕ) (own : List TargetAction) → AreOfStep go first weights monitors from next step own → next ≤ to → (first + width_limit < next → (next < to → to ≤ size) → list_all (is_sized_action size) rest ≡ true)
             → (list_all (is_sized_action size) own && list_all (is_sized_action size) rest) ≡ true
         by next own (Costless _ none) up onward = onward far fits
         by next own (Narrow _ effects _ costs few does split) up onward =

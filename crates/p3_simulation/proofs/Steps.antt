@@ -5,6 +5,7 @@ use Rattle.std.specs.List.{list_all}
 use Rattle.std.proofs.lemmas.Bool.{and_parts, ltb-true, lt-ltb, le-ltb}
 use Rattle.std.proofs.lemmas.List.Elements.{All-head, All-tail}
 use Rattle.p3_base.specs.Copies.{copy_name}
+use Rattle.p3_base.specs.Limits.{width_limit}
 use Rattle.p3_base.specs.Words.{Name}
 use Rattle.p3_formula.specs.Conditions.{is_step_below, IsWithinLimits, rises}
 use Rattle.p3_formula.specs.Forms.{State, is_below}
@@ -74,7 +75,7 @@ module _ (G : GroundTask) (count : G.step_count ≤ 2 ^ 64) where
 module _ (G : GroundTask) (weights : Weights) (monitors : List Monitor) (go first size : ℕ) (inside : G.atoms ≤ go) (behind : go < first) (count : G.step_count ≤ 2 ^ 64)
     (constraints : List GroundModal) (monitors_are : AreMonitors G.initial G.atoms go constraints monitors) (constraints_below : list_all (is_modal_below G.atoms) constraints ≡ true) where
   pub gadgets_of : (low from to : ℕ) (steps : List GroundStep) (actions : List TargetAction) → AreOfSteps go first weights monitors from to steps actions
-      → rises low G.step_count steps ≡ true → list_all (is_step_below G.atoms) steps ≡ true → All (IsWithinLimits weights) steps → first + 200 < from → (from < to → to ≤ size)
+      → rises low G.step_count steps ≡ true → list_all (is_step_below G.atoms) steps ≡ true → All (IsWithinLimits weights) steps → first + width_limit < from → (from < to → to ≤ size)
       → AreGadgets go first size (counted G) weights G.atoms monitors from to steps actions
   gadgets_of low from to steps actions (NoSteps _) rising below limits far room = gadget.NoSteps from
   gadgets_of low from to steps actions (OneStep _ next _ step others own rest are more) rising below limits far room =
@@ -93,7 +94,7 @@ module _ (G : GroundTask) (weights : Weights) (monitors : List Monitor) (go firs
       does_all : (effects : List Change) (does : IsEffects go monitors step effects) (state : State) → after state effects ≡ after state (step.effects ++ flat_map (λ effects. effects) (spread_of effects does).changes)
       does_all effects does state = does.does state ∙ ap (λ list. after state (step.effects ++ list)) (sym (spread_of effects does).same)
 
-      by : (next : ℕ) (own : List TargetAction) → AreOfStep go first weights monitors from next step own → next ≤ to → (first + 200 < next → (next < to → to ≤ size) → AreGadgets go first size (counted G) weights G.atoms monitors next to others rest)
+      by : (next : ℕ) (own : List TargetAction) → AreOfStep go first weights monitors from next step own → next ≤ to → (first + width_limit < next → (next < to → to ≤ size) → AreGadgets go first size (counted G) weights G.atoms monitors next to others rest)
           → AreGadgets go first size (counted G) weights G.atoms monitors from to (step ∷ others) (own ++ rest)
       by next own (Costless _ none) up onward = gadget.Costless from to step others rest none (onward far room)
       by next own (Narrow _ effects _ costs few does split) up onward =
@@ -114,5 +115,5 @@ module _ (G : GroundTask) (weights : Weights) (monitors : List Monitor) (go firs
           })
           (onward (omega (arith, far)) (λ more. room (omega (arith, more))))
         where
-          some_width : is_some step.cost ≡ true → width_of weights.by_name step ≤ 200
+          some_width : is_some step.cost ≡ true → width_of weights.by_name step ≤ width_limit
           some_width costs = (All-head (IsWithinLimits weights) step others limits).width costs

@@ -6,6 +6,7 @@ use Rattle.std.proofs.lemmas.Bool.{and_parts, and_from, cases_eq, eqb-true, leb-
 use Rattle.std.proofs.lemmas.List.Elements.{All-contains, Contains-append_cases}
 use Rattle.std.proofs.lemmas.List.Sums.{sum_by-cons}
 use Rattle.p3_base.specs.Copies.{copy_name, extra_of, question_name}
+use Rattle.p3_base.specs.Limits.{width_limit}
 use Rattle.p3_base.specs.Words.{Name}
 use Rattle.p3_formula.specs.Conditions.{is_step_below}
 use Rattle.p3_formula.specs.Forms.{State, is_set, truth}
@@ -27,7 +28,7 @@ use Rattle.p3_precprefs.proofs.ChainAtoms.{chain_changes}
 use Rattle.p3_simulation.proofs.Walks.{head_or_tail, in_none}
 use Rattle.p3_simulation.specs.Gadgets.{IsOpen, IsAsking, Turns, Back, On, Turn, IsGadget}
 
-module _ (go first size current : ℕ) (behind : go < first) (far : first + 200 < current) (room : current < size) where
+module _ (go first size current : ℕ) (behind : go < first) (far : first + width_limit < current) (room : current < size) where
   -- ---- the chain's own bits, and the others
 
   -- behind the running atom no other atoms than the chain's own are set
@@ -38,21 +39,21 @@ module _ (go first size current : ℕ) (behind : go < first) (far : first + 200 
   pub data Place (atom : ℕ) : Type 0 where
     IsGo : atom ≡ go → Place atom
     IsCurrent : atom ≡ current → Place atom
-    IsQuestion : (place : ℕ) → place ≤ 200 → atom ≡ first + place → Place atom
+    IsQuestion : (place : ℕ) → place ≤ width_limit → atom ≡ first + place → Place atom
 
   place_of : (atom : ℕ) → is_own go first current atom ≡ true → Place atom
   place_of atom own = ⊎_elim (λ is. IsGo (sym (eqb-true go atom is)))
       (λ rest. ⊎_elim (λ is. IsCurrent (sym (eqb-true current atom is)))
-      (λ between. let both = and_parts (nat_le first atom) _ between in let low = leb-true first atom both.0 in let high = leb-true atom (first + 200) both.1 in
+      (λ between. let both = and_parts (nat_le first atom) _ between in let low = leb-true first atom both.0 in let high = leb-true atom (first + width_limit) both.1 in
       IsQuestion (atom - first) (omega (arith, low, high)) (omega (arith, low, high)))
       (or_cases (current == atom) _ rest)) (or_cases (go == atom) _ own)
 
   own_current : is_own go first current current ≡ true
   own_current = or_right (go == current) _ (or_left (current == current) _ (eq-eqb current current refl))
 
-  own_question : (place : ℕ) → place ≤ 200 → is_own go first current (first + place) ≡ true
+  own_question : (place : ℕ) → place ≤ width_limit → is_own go first current (first + place) ≡ true
   own_question place small = or_right (go == (first + place)) _ (or_right (current == (first + place)) _
-      (and_from _ _ (le-leb first (first + place) (omega arith)) (le-leb (first + place) (first + 200) (omega (arith, small)))))
+      (and_from _ _ (le-leb first (first + place) (omega arith)) (le-leb (first + place) (first + width_limit) (omega (arith, small)))))
 
   module _ (bits : State) where
     opened : IsOpen go first size bits → asked.IsOpen go first current bits
@@ -88,7 +89,7 @@ module _ (go first size current : ℕ) (behind : go < first) (far : first + 200 
         asks = λ place small. at place small (cases_eq place asking.question);
       }
         where
-          at : (place : ℕ) → place ≤ 200 → (place ≡ asking.question) ⊎ (place ≡ asking.question → ⊥) → is_set bits (first + place) ≡ (place == asking.question)
+          at : (place : ℕ) → place ≤ width_limit → (place ≡ asking.question) ⊎ (place ≡ asking.question → ⊥) → is_set bits (first + place) ≡ (place == asking.question)
           at place small (inl same) = ap (λ n. is_set bits (first + n)) same ∙ asking.asks ∙ sym (eq-eqb place asking.question same)
           at place small (inr differ) = asking.clear (first + place) (omega (arith, behind)) (λ same. omega (arith, same, small, far)) (λ same. differ (omega (arith, same))) ∙ sym (ne_eqb place asking.question differ)
 
@@ -128,7 +129,7 @@ module _ (go first size current : ℕ) (behind : go < first) (far : first + 200 
   -- ---- the chain
 
   module _ (counted : TargetAction → Option ℕ) (weights : Weights) (step : GroundStep) (effects wanted : List Change) (actions : List TargetAction)
-      (many : 8 < width_of weights.by_name step) (few : width_of weights.by_name step ≤ 200) (step_below : is_step_below go step ≡ true) (chain : IsChain go first current weights step effects actions)
+      (many : 8 < width_of weights.by_name step) (few : width_of weights.by_name step ≤ width_limit) (step_below : is_step_below go step ≡ true) (chain : IsChain go first current weights step effects actions)
       (below : list_all (is_sized_change go) effects ≡ true) (does : (state : State) → after state effects ≡ after state wanted)
       (counts : (action : TargetAction) (rest : Name) → action.name ≡ copy_name step.number rest → counted action ≡ Some step.number)
       (uncounted : (action : TargetAction) (rest : Name) → action.name ≡ question_name step.number rest → counted action ≡ None) where

@@ -1,5 +1,6 @@
 -- What the actions of a step do: from open bits, where the running atom alone is set behind the sources and the monitors' atoms, one list of them leads to open bits again.
 use Rattle.std.specs.Prelude.{◌≡◌, ◌≢◌, ◌⊎◌, ℕ, ◌+◌, ◌<◌, ◌≤◌, true, false, List, [], ◌∷◌, ◌++◌, length, sum_by, Option, Some, None, Contains, is_some, flat_map}
+use Rattle.p3_base.specs.Limits.{width_limit}
 use Rattle.p3_formula.specs.Forms.{State, is_set, truth}
 use Rattle.p3_formula.specs.Next.{after}
 use Rattle.p3_base.specs.Copies.{extra_of}
@@ -22,10 +23,10 @@ module _ (go first size : ℕ) where
   pub record IsAsking (current : ℕ) (bits : State) : Type 0 where
     pub room : length bits ≡ size
     pub stopped : is_set bits go ≡ false
-    pub behind : first + 200 < current
+    pub behind : first + width_limit < current
     pub asked : is_set bits current ≡ true
     pub question : ℕ
-    pub within : question ≤ 200
+    pub within : question ≤ width_limit
     pub asks : is_set bits (first + question) ≡ true
     pub clear : (atom : ℕ) → go < atom → atom ≢ current → atom ≢ first + question → is_set bits atom ≡ false
 

@@ -101,9 +101,13 @@ names_of command = map (λ (input : Input). input.name) (inputs command) ++ map 
 abbrev pub has_file_words : Command → Bool
 has_file_words command = list_all is_file_word (names_of command) && are_different (map (λ (out : Output). out.name) (outputs command))
 
--- a decimal number from 1 to 200 without superfluous zeros
+-- the greatest number of a sample
+abbrev pub sample_limit : ℕ
+sample_limit = 200
+
+-- a decimal number from 1 to the limit without superfluous zeros
 abbrev pub sample_number : Word → Option ℕ
-sample_number word = find (λ n. bytes_eq word (decimal n)) (range_with_len 1 200)
+sample_number word = find (λ n. bytes_eq word (decimal n)) (range_with_len 1 sample_limit)
 
 -- the number behind the word of a command, and the names behind it
 abbrev pub numbered : Bool → List Word → Option (ℕ × List Word)

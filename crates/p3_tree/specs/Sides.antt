@@ -4,6 +4,7 @@ use Rattle.p3_base.specs.declared.refusal.Side.{Side}
 use Rattle.p3_base.specs.declared.refusal.Side.TheVariants.{Source, Written}
 use Rattle.p3_base.specs.declared.refusal.Role.{Role}
 use Rattle.p3_base.specs.declared.refusal.Role.TheVariants as role
+pub use Rattle.p3_base.specs.Limits.{instance_limit, width_limit, weight_bound}
 
 -- the two texts of a task
 pub data Half : Type 0 where
@@ -47,21 +48,9 @@ size_limit Written = 50000000
 abbrev pub step_count_limit : ℕ
 step_count_limit = 20000000
 
--- the preference instances of constraints and goal
-abbrev pub instance_limit : ℕ
-instance_limit = 100000
-
--- the weighted preferences of an action's precondition
-abbrev pub width_limit : ℕ
-width_limit = 200
-
 -- the decimal places of the metric
 abbrev pub metric_place_limit : ℕ
 metric_place_limit = 6
-
--- coefficients of the metric in absolute value, and the cost bounds of actions, stay below this
-abbrev pub weight_bound : ℕ
-weight_bound = 2 ^ 62
 
 -- so many units of one amount or value are too many; the costs of a written task are not bounded by it
 abbrev pub cost_bound_of : Side → Option ℕ

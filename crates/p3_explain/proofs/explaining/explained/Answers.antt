@@ -1,4 +1,5 @@
 use Rattle.std.proofs.Common.{◌≡◌, ◌∙◌, ◌≤◌, List, length, sym, ap, subst}
+use Rattle.p3_base.specs.Limits.{instance_limit}
 use Rattle.p3_tree.specs.Limits.{step_count}
 use Rattle.p3_tree.specs.Sides.{step_count_limit}
 use Rattle.p3_tree.specs.declared.task.Step.{Step}
@@ -30,7 +31,7 @@ pub open-requires-clause-few : goal.open-requires-clause-few
 open-requires-clause-few c =
     let whole = c.args.whole.now in
     let can = can_be_run whole.ground_task whole.weights (record { task = whole.checked.task; together = belong_together whole }) in
-    subst (λ (G : GroundTask). length G.soft ≤ 100000) (sym c.ground_task-task.ensures) can.ready.few
+    subst (λ (G : GroundTask). length G.soft ≤ instance_limit) (sym c.ground_task-task.ensures) can.ready.few
 
 pub walk-requires-clause-task : goal.walk-requires-clause-task
 walk-requires-clause-task c = c.ground_task-task.ensures ∙ sym (ap (λ (ran : Ran). ran.task) c.in_ok-run.ensures.begun)
