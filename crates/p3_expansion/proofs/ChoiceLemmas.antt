@@ -2,7 +2,7 @@
 use Rattle.std.proofs.Common.{◌≡◌, ◌∙◌, ℕ, ◌+◌, ◌*◌, ◌/◌, ◌%◌, ◌<◌, ◌≤◌, List, [], ◌∷◌, ◌++◌, map, length, take, drop, get_or, refl, sym, ap, subst, arith, zero, suc, length-append, add-one}
 use Rattle.std.specs.Prelude.{flat_map, slice_index_or}
 use Rattle.std.proofs.Math.Seq.{drop-cons}
-use Rattle.std.proofs.Math.Nat.{suc-mul, mul_assoc}
+use Rattle.std.proofs.Math.Nat.{le-mul_of_pos_right, mul-pos, mul_assoc, suc-mul}
 use Rattle.std.proofs.lemmas.Nat.{div_below, mod_below, div-add-mod', div-mul-add}
 use Rattle.std.proofs.lemmas.List.{get_or-map, length-map, length-take}
 use Rattle.std.proofs.lemmas.List.Concat.{get_or-flat_map}
@@ -84,6 +84,21 @@ module _ (N : Numbers) where
   product-next ranges i d before after objects within here is =
       ap (λ n. n * choice_count N (drop (i + 1) ranges)) (is ∙ ap (λ items. before * length items) here)
       ∙ mul_assoc before (length (range_at N (get_or ranges i d))) (choice_count N (drop (i + 1) ranges)) ∙ ap (λ n. before * n) (sym (count-next ranges i d within))
+
+  -- where a range has an object, it has no choices only where those behind it have none
+  pub some-next : (ranges : List ℕ) (i d : ℕ) (objects : List ℕ) → i < length ranges → objects ≡ range_at N (get_or ranges i d) → 0 < length objects
+      → 0 < choice_count N (drop (i + 1) ranges) → 0 < choice_count N (drop i ranges)
+  some-next ranges i d objects within here some behind =
+      subst (λ n. 0 < n) (sym (count-next ranges i d within)) (mul-pos (subst (λ items. 0 < length items) here some) behind)
+
+  -- where there are choices at all, the objects of the first ranges give no more of them
+  pub count-least : (ranges : List ℕ) (i d before : ℕ) (objects : List ℕ) → i < length ranges → objects ≡ range_at N (get_or ranges i d)
+      → before * choice_count N (drop i ranges) ≡ choice_count N ranges → 0 < choice_count N ranges → before * length objects ≤ choice_count N ranges
+  count-least ranges i d before objects within here is some =
+      let whole : (before * length objects) * choice_count N (drop (i + 1) ranges) ≡ choice_count N ranges
+      whole = product-next ranges i d before (before * length objects) objects within here refl ∙ is in
+      subst (λ n. before * length objects ≤ n) whole
+      (le-mul_of_pos_right (before * length objects) (positive 0 (before * length objects) (choice_count N (drop (i + 1) ranges)) (subst (λ n. 0 < n) (sym whole) some)).0)
 
   pub choice-end : (ranges : List ℕ) (i rest : ℕ) → length ranges ≤ i → choice N (drop i ranges) rest ≡ []
   unfolding choice

@@ -1,11 +1,12 @@
 //! Choices of one object of each range, one after another.
 
-ghost use Rattle.std.specs.Prelude.{◌≡◌, ◌<◌, ◌++◌, length, take, slice_index_or, OnOk, IfOk};
-ghost use Rattle.std.specs.Bool.{OnTrue};
+ghost use Rattle.std.specs.Prelude.{◌≡◌, ◌≤◌, ◌<◌, ◌^◌, ◌++◌, length, take, slice_index_or, OnOk};
+ghost use Rattle.std.specs.Bool.{OnFalse, OnTrue};
+ghost use Rattle.std.specs.Result.{MatchResult};
 ghost use Rattle.p3_numbers.specs.Slots.{range_at};
 ghost use Rattle.p3_numbers.specs.Choices.{choice, choice_count as count_of};
 
-use p3_base::NoMemory;
+use p3_base::{NoMemory, TooLarge};
 use p3_numbers::Numbers;
 
 /// The objects of a range.
@@ -30,7 +31,8 @@ pub fn object_at(objects: &[u32], place: usize) -> u32
 
 /// Whether a range has no object.
 fn has_empty(numbers: &Numbers, ranges: &[u32]) -> bool
-    ensures { OnTrue result (count_of numbers.now ranges.now ≡ 0) }
+    ensures none { OnTrue result (count_of numbers.now ranges.now ≡ 0) }
+    ensures some { OnFalse result (0 < count_of numbers.now ranges.now) }
 {
     for range in ranges {
         if objects_of(numbers, *range).is_empty() {
@@ -41,8 +43,13 @@ fn has_empty(numbers: &Numbers, ranges: &[u32]) -> bool
 }
 
 /// How many choices there are.
-pub fn choice_count(numbers: &Numbers, ranges: &[u32]) -> Result<usize, NoMemory>
-    ensures { IfOk result (λ count. count ≡ count_of numbers.now ranges.now) }
+///
+/// # Errors
+///
+/// `TooLarge` exactly from 2 ^ 64 on.
+pub fn choice_count(numbers: &Numbers, ranges: &[u32]) -> Result<usize, TooLarge>
+    ensures { MatchResult result (λ count. count ≡ count_of numbers.now ranges.now)
+        (λ _. 2 ^ 64 ≤ count_of numbers.now ranges.now) }
 {
     if has_empty(numbers, ranges) {
         return Ok(0);
@@ -51,7 +58,7 @@ pub fn choice_count(numbers: &Numbers, ranges: &[u32]) -> Result<usize, NoMemory
     for range in ranges {
         match count.checked_mul(objects_of(numbers, *range).len()) {
             Some(more) => count = more,
-            None => return Err(NoMemory),
+            None => return Err(TooLarge),
         }
     }
     Ok(count)

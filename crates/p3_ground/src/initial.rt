@@ -1,10 +1,11 @@
 //! The total cost before the first step.
 
-ghost use Rattle.std.specs.Prelude.{◌≡◌, ◌≤◌, [], IfOk};
+ghost use Rattle.std.specs.Prelude.{◌≡◌, ◌≤◌, ◌^◌, []};
+ghost use Rattle.std.specs.Result.{MatchResult};
 ghost use Rattle.p3_tree.specs.Costs.{cost_places, entry_value, initial_cost as cost_at_start};
 ghost use Rattle.p3_tree.specs.Names.{total_cost};
 
-use p3_base::NoMemory;
+use p3_base::TooLarge;
 use p3_steps::units_at;
 use p3_tree::{Init, Task};
 use p3_types::Checked;
@@ -55,13 +56,17 @@ pub(crate) fn places_of(task: &Checked) -> u32
     task.cost_places()
 }
 
-/// The total cost before the first step, in units of the last decimal place of the task's costs. A
-/// cost of 10^18 units or more is refused with the metric, so it has room.
-pub(crate) fn initial_cost(task: &Checked) -> Result<u64, NoMemory>
-    ensures { IfOk result (λ cost. cost ≡ cost_at_start task.now.task) }
+/// The total cost before the first step, in units of the last decimal place of the task's costs.
+///
+/// # Errors
+///
+/// `TooLarge` exactly from 2 ^ 64 units on; from 10^18 units on a task is refused with its metric.
+pub(crate) fn initial_cost(task: &Checked) -> Result<u64, TooLarge>
+    ensures { MatchResult result (λ cost. cost ≡ cost_at_start task.now.task)
+        (λ _. 2 ^ 64 ≤ cost_at_start task.now.task) }
 {
     match u64::try_from(units_at_start(task.task(), places_of(task))) {
         Ok(cost) => Ok(cost),
-        Err(_) => Err(NoMemory),
+        Err(_) => Err(TooLarge),
     }
 }

@@ -79,12 +79,7 @@ impl<'t> Evaluator<'t> {
             Num::TotalCost(at) => Ok(self.cost(*at)),
             Num::Violated(name) => self.violated(name),
             Num::Neg(at, part) => self.negation(*at, part.get()),
-            Num::Sub(at, first, second) => {
-                let minuend = self.evaluate(first.get())?;
-                let subtrahend = self.evaluate(second.get())?;
-                let measured = minus(self.alloc, minuend, subtrahend)?;
-                accepted(measured, self.too_large(*at))
-            }
+            Num::Sub(at, first, second) => self.difference(*at, first.get(), second.get()),
             Num::Sum(at, parts) => self.sum(*at, parts.items()),
             Num::Product(at, parts) => self.product(*at, parts.items()),
         }
@@ -128,6 +123,28 @@ impl<'t> Evaluator<'t> {
     {
         let form = self.evaluate(part)?;
         let measured = negated(self.alloc, form)?;
+        accepted(measured, self.too_large(at))
+    }
+
+    /// The form of a difference.
+    #[inline(never)]
+    #[cycle(evaluate)]
+    fn difference(
+        &self,
+        at: u32,
+        first: &'t Num,
+        second: &'t Num,
+    ) -> Result<Linear<'t>, MetricFail>
+        requires { IsFit self.now.task.now (num.Sub at first.now second.now) }
+        ensures form { IfOk result
+            (IsEvaluated self.now.task.now (num.Sub at first.now second.now)) }
+        ensures fails { IfErr result
+            (IsFailure self.now.task.now self.now.role
+            (operations (num.Sub at first.now second.now))) }
+    {
+        let minuend = self.evaluate(first)?;
+        let subtrahend = self.evaluate(second)?;
+        let measured = minus(self.alloc, minuend, subtrahend)?;
         accepted(measured, self.too_large(at))
     }
 

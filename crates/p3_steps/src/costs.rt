@@ -1,7 +1,8 @@
 //! Amounts and values in units, and what effects cost.
 
-ghost use Rattle.std.specs.Prelude.{◌≡◌, ◌+◌, ◌≤◌, flat_map, map, IfOk, OnOk};
+ghost use Rattle.std.specs.Prelude.{◌≡◌, ◌+◌, ◌≤◌, ◌^◌, flat_map, map, IfOk, OnOk};
 ghost use Rattle.std.specs.Hash.DefaultHasher as sip;
+ghost use Rattle.std.specs.Result.{MatchResult};
 ghost use Rattle.p3_tree.specs.Costs.{total};
 ghost use Rattle.p3_numbers.specs.Slots.{value_of as meaning_of, values_of};
 ghost use Rattle.p3_names.specs.Keys.{start_after, told_numbers};
@@ -15,7 +16,7 @@ ghost use Rattle.p3_steps.specs.Costs.{
   units_at as units_at_places,
 };
 
-use p3_base::NoMemory;
+use p3_base::{NoMemory, TooLarge};
 use p3_names::{Digest, Key};
 use p3_numbers::{Argument, NumberedAmount, NumberedEffect, NumberedValue};
 use p3_tree::Numeral;
@@ -101,13 +102,17 @@ fn table_of<'t>(
     Ok(table)
 }
 
-/// The sum, where it is not too great.
-fn sum(first: u128, second: u128) -> Result<u128, NoMemory>
-    ensures { IfOk result (λ sum. sum ≡ first + second) }
+/// The sum.
+///
+/// # Errors
+///
+/// `TooLarge` exactly from 2 ^ 128 on.
+fn sum(first: u128, second: u128) -> Result<u128, TooLarge>
+    ensures { MatchResult result (λ sum. sum ≡ first + second) (λ _. 2 ^ 128 ≤ first + second) }
 {
     match first.checked_add(second) {
         Some(sum) => Ok(sum),
-        None => Err(NoMemory),
+        None => Err(TooLarge),
     }
 }
 

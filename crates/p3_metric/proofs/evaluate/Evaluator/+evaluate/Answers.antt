@@ -39,59 +39,38 @@ negation-returns-clause-fails t c =
 
 -- ---- differences
 
-pub evaluate-evaluate-requires : goal.evaluate-evaluate-requires
-evaluate-evaluate-requires t c =
-    let P : Num → Type 0 = IsFit c.args.self.now.task.now in
-    (search (rules, the_lemmas), subst P (sym c.get-in-Sub.ensures) (fit_first c.args.self.now.task.now c.in-Sub.at c.in-Sub.first c.in-Sub.second (subst P c.in-Sub.is c.requires)))
+pub difference-evaluate-requires : goal.difference-evaluate-requires
+difference-evaluate-requires t c = (search (rules, the_lemmas), fit_first c.args.self.now.task.now c.args.at c.args.first.now c.args.second.now c.requires)
 
-pub evaluate-evaluate-requires-in-Sub : goal.evaluate-evaluate-requires-in-Sub
-evaluate-evaluate-requires-in-Sub t c =
-    let P : Num → Type 0 = IsFit c.args.self.now.task.now in
-    (search (rules, the_lemmas), subst P (sym c.get-in-Sub-2.ensures) (fit_second c.args.self.now.task.now c.in-Sub.at c.in-Sub.first c.in-Sub.second (subst P c.in-Sub.is c.requires)))
+pub difference-evaluate-requires-2 : goal.difference-evaluate-requires-2
+difference-evaluate-requires-2 t c = (search (rules, the_lemmas), fit_second c.args.self.now.task.now c.args.at c.args.first.now c.args.second.now c.requires)
 
-pub evaluate-returns-in_err-minuend-in-Sub-clause-fails : goal.evaluate-returns-in_err-minuend-in-Sub-clause-fails
-evaluate-returns-in_err-minuend-in-Sub-clause-fails t c =
+pub difference-returns-in_err-minuend-clause-fails : goal.difference-returns-in_err-minuend-clause-fails
+difference-returns-in_err-minuend-clause-fails t c =
     let p = err_from_is_err_and c.from_residual.result c.from_residual.ensures.1 in
-    let first = c.get-in-Sub.result.now in
-    let whole : c.args.tree.now ≡ num.Sub c.in-Sub.at first c.in-Sub.second = c.in-Sub.is ∙ ap (λ tree. num.Sub c.in-Sub.at tree c.in-Sub.second) (sym c.get-in-Sub.ensures) in
-    let fail = c.in_err-minuend-in-Sub.field-0.0 in
-    let P : Num → Type 0 = λ tree. IsFailure c.args.self.now.task.now c.args.self.now.role (operations tree) fail in
-    rw (p.1, p.2) (subst P (sym whole) (first_fails c.args.self.now.task.now c.in-Sub.at first c.in-Sub.second c.args.self.now.role fail c.in_err-minuend-in-Sub.ensures.fails))
+    rw (p.1, p.2) (first_fails c.args.self.now.task.now c.args.at c.args.first.now c.args.second.now c.args.self.now.role c.in_err-minuend.field-0.0 c.in_err-minuend.ensures.fails)
 
-pub evaluate-returns-in_err-subtrahend-in-Sub-clause-fails : goal.evaluate-returns-in_err-subtrahend-in-Sub-clause-fails
-evaluate-returns-in_err-subtrahend-in-Sub-clause-fails t c =
-    let p = err_from_is_err_and c.from_residual-in_err-subtrahend-in-Sub.result c.from_residual-in_err-subtrahend-in-Sub.ensures.1 in
-    let first = c.get-in-Sub.result.now in
-    let second = c.get-in-Sub-2.result.now in
-    let whole : c.args.tree.now ≡ num.Sub c.in-Sub.at first second = c.in-Sub.is ∙ (λ i. num.Sub c.in-Sub.at (sym c.get-in-Sub.ensures i) (sym c.get-in-Sub-2.ensures i)) in
-    let fail = c.in_err-subtrahend-in-Sub.field-0.0 in
-    let P : Num → Type 0 = λ tree. IsFailure c.args.self.now.task.now c.args.self.now.role (operations tree) fail in
-    rw (p.1, p.2) (subst P (sym whole) (second_fails c.args.self.now.task.now c.in-Sub.at first second c.args.self.now.role fail c.in_ok-minuend-in-Sub.ensures.form.fine c.in_err-subtrahend-in-Sub.ensures.fails))
+pub difference-returns-in_err-subtrahend-clause-fails : goal.difference-returns-in_err-subtrahend-clause-fails
+difference-returns-in_err-subtrahend-clause-fails t c =
+    let p = err_from_is_err_and c.from_residual-in_err-subtrahend.result c.from_residual-in_err-subtrahend.ensures.1 in
+    rw (p.1, p.2) (second_fails c.args.self.now.task.now c.args.at c.args.first.now c.args.second.now c.args.self.now.role c.in_err-subtrahend.field-0.0 c.in_ok-minuend.ensures.form.fine c.in_err-subtrahend.ensures.fails)
 
-pub evaluate-returns-in_ok-measured-in-Sub-clause-form : goal.evaluate-returns-in_ok-measured-in-Sub-clause-form
-evaluate-returns-in_ok-measured-in-Sub-clause-form t c =
-    let m = c.in_ok-measured-in-Sub.measured in
+pub difference-returns-clause-form : goal.difference-returns-clause-form
+difference-returns-clause-form t c =
+    let m = c.in_ok-measured.measured in
     let T = c.args.self.now.task.now in
-    let first = c.get-in-Sub.result.now in
-    let second = c.get-in-Sub-2.result.now in
-    let whole : c.args.tree.now ≡ num.Sub c.in-Sub.at first second = c.in-Sub.is ∙ (λ i. num.Sub c.in-Sub.at (sym c.get-in-Sub.ensures i) (sym c.get-in-Sub-2.ensures i)) in
-    let P : Num → Type 0 = λ tree. IsEvaluated T tree m.form in
-    accepted_form c.accepted.result (IsEvaluated T c.args.tree.now) m.form m.small c.accepted.ensures.form c.accepted.ensures.small
-    (λ e. subst P (sym whole) (difference_evaluated T c.in-Sub.at first second c.in_ok-minuend-in-Sub.minuend c.in_ok-subtrahend-in-Sub.subtrahend m.form c.in_ok-minuend-in-Sub.ensures.form c.in_ok-subtrahend-in-Sub.ensures.form c.in_ok-measured-in-Sub.ensures.difference (c.in_ok-measured-in-Sub.ensures.small e)))
+    accepted_form c.accepted.result (IsEvaluated T (num.Sub c.args.at c.args.first.now c.args.second.now)) m.form m.small c.accepted.ensures.form c.accepted.ensures.small
+    (λ e. difference_evaluated T c.args.at c.args.first.now c.args.second.now c.in_ok-minuend.minuend c.in_ok-subtrahend.subtrahend m.form c.in_ok-minuend.ensures.form c.in_ok-subtrahend.ensures.form c.in_ok-measured.ensures.difference (c.in_ok-measured.ensures.small e))
 
-pub evaluate-returns-in_ok-measured-in-Sub-clause-fails : goal.evaluate-returns-in_ok-measured-in-Sub-clause-fails
-evaluate-returns-in_ok-measured-in-Sub-clause-fails t c =
-    let m = c.in_ok-measured-in-Sub.measured in
+pub difference-returns-clause-fails : goal.difference-returns-clause-fails
+difference-returns-clause-fails t c =
+    let m = c.in_ok-measured.measured in
     let T = c.args.self.now.task.now in
     let role = c.args.self.now.role in
-    let first = c.get-in-Sub.result.now in
-    let second = c.get-in-Sub-2.result.now in
-    let whole : c.args.tree.now ≡ num.Sub c.in-Sub.at first second = c.in-Sub.is ∙ (λ i. num.Sub c.in-Sub.at (sym c.get-in-Sub.ensures i) (sym c.get-in-Sub-2.ensures i)) in
-    let refusal = refused_at role (num.Sub c.in-Sub.at first second) in
-    let P : Num → Type 0 = λ tree. IsFailure T role (operations tree) (Refused refusal) in
-    accepted_fails c.accepted.result (IsFailure T role (operations c.args.tree.now)) c.too_large.result refusal m.small c.accepted.ensures.refusal c.accepted.ensures.large
-    (c.too_large.ensures ∙ sym (refused-Sub role c.in-Sub.at first second))
-    (λ e. subst P (sym whole) (difference_fails T c.in-Sub.at first second c.in_ok-minuend-in-Sub.minuend c.in_ok-subtrahend-in-Sub.subtrahend m.form c.in_ok-minuend-in-Sub.ensures.form c.in_ok-subtrahend-in-Sub.ensures.form c.in_ok-measured-in-Sub.ensures.difference role (c.in_ok-measured-in-Sub.ensures.large e)))
+    let tree = num.Sub c.args.at c.args.first.now c.args.second.now in
+    accepted_fails c.accepted.result (IsFailure T role (operations tree)) c.too_large.result _ m.small c.accepted.ensures.refusal c.accepted.ensures.large
+    (c.too_large.ensures ∙ sym (refused-Sub role c.args.at c.args.first.now c.args.second.now))
+    (λ e. difference_fails T c.args.at c.args.first.now c.args.second.now c.in_ok-minuend.minuend c.in_ok-subtrahend.subtrahend m.form c.in_ok-minuend.ensures.form c.in_ok-subtrahend.ensures.form c.in_ok-measured.ensures.difference role (c.in_ok-measured.ensures.large e))
 
 -- ---- sums
 
