@@ -23,7 +23,7 @@ use crate::texts::Texts;
 use p3_base::NoMemory;
 use p3_compile::compile;
 use p3_eval::Whole;
-use p3_gen::{Sample, generate};
+use p3_writer::{Sample, generate};
 use p3_reports::Report;
 use p3_tree::Plan;
 use std::alloc::Global;

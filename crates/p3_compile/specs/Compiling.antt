@@ -11,9 +11,9 @@ use Rattle.p3_formula.specs.declared.target.Target.{Target}
 use Rattle.p3_formula.specs.declared.target.TargetAction.{TargetAction}
 use Rattle.p3_formula.specs.declared.target.Weights.{Weights}
 use Rattle.p3_formula.specs.declared.task.GroundTask.{GroundTask}
-use Rattle.p3_endphase.specs.Ends.{AreBelow, IsEndPhase}
-use Rattle.p3_endphase.specs.declared.phase.EndPhase.{EndPhase}
-use Rattle.p3_endphase.specs.declared.phase.SoftEnd.{SoftEnd}
+use Rattle.p3_simulation.specs.Ends.{AreBelow, IsEndPhase}
+use Rattle.p3_simulation.specs.declared.phase.EndPhase.{EndPhase}
+use Rattle.p3_simulation.specs.declared.phase.SoftEnd.{SoftEnd}
 use Rattle.p3_simulation.specs.Naming.{all_numbered}
 use Rattle.p3_simulation.specs.Watching.{AreMonitors, AreSoftEnds, all_accept, all_modals}
 use Rattle.p3_compile.specs.Readers.{readers_from, IsRising}

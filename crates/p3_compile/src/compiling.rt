@@ -17,7 +17,7 @@ use crate::reading::readers;
 use crate::stepping::{Frame, has_wide, push_all, steps_actions};
 use crate::watching::monitors;
 use p3_base::{List, Name, NoMemory};
-use p3_endphase::{EndPhase, end_phase};
+use p3_simulation::{EndPhase, end_phase};
 use p3_formula::{Bits, GroundTask, Target, TargetAction, Weights};
 use p3_simulation::assembled_targets_are_compiled;
 use std::alloc::Global;

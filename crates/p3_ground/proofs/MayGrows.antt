@@ -6,8 +6,8 @@ use Rattle.p3_formula.specs.Folds.{fold_forms}
 use Rattle.p3_formula.specs.Forms.{State}
 use Rattle.p3_formula.specs.declared.form.Form.{Form, Row_of-Form, end_of-Form, more_of-Form}
 use Rattle.p3_formula.specs.declared.form.Form.TheVariants.{True, False, Atom, Not', And', Or'}
-use Rattle.p3_reach.specs.May.{may, may_layer, may_hold, may_fail}
-use Rattle.p3_reach.specs.Closed.{IsWithin}
+use Rattle.p3_ground.specs.May.{may, may_layer, may_hold, may_fail}
+use Rattle.p3_ground.specs.Closed.{IsWithin}
 
 and-to : (a b c d : Bool) → (a ≡ true → c ≡ true) → (b ≡ true → d ≡ true) → (a && b) ≡ true → (c && d) ≡ true
 and-to true b c d f g h = ap (λ x. x && d) (f refl) ∙ g h

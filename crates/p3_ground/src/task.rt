@@ -3,7 +3,7 @@
 ghost use Rattle.std.specs.Prelude.{◌≡◌, ◌++◌, ◌∷◌, [], false, drop as drop_first, if◌then◌else◌};
 ghost use Rattle.std.specs.Prelude.{slice_index_or, IfOk, IfErr, OnOk};
 ghost use Rattle.std.specs.List.{list_all};
-ghost use Rattle.p3_reach.specs.Closed.{steps_that_may};
+ghost use Rattle.p3_ground.specs.Closed.{steps_that_may};
 ghost use Rattle.p3_formula.specs.Forms.{State};
 ghost use Rattle.p3_ground.specs.Pruned.{pruned, steps_over};
 ghost use Rattle.p3_ground.specs.Rests.{joined_of};
@@ -15,8 +15,8 @@ use crate::rest::{Rest, Taken};
 use crate::whole::whole;
 use p3_base::{List, NoMemory};
 use p3_formula::{GroundStep, GroundTask};
-use p3_limits::size_refusal;
-use p3_reach::reachable;
+use p3_types::size_refusal;
+use crate::reachable;
 use p3_types::Checked;
 use std::alloc::Global;
 

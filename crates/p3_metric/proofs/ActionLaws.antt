@@ -11,8 +11,8 @@ use Rattle.p3_base.specs.declared.refusal.Refusal.{Refusal}
 use Rattle.p3_base.specs.declared.refusal.Role.{Role}
 use Rattle.p3_base.specs.declared.refusal.Side.{Side}
 use Rattle.p3_formula.specs.declared.target.Weights.{Weights}
-use Rattle.p3_limits.proofs.CutLaws.{cut-passes, cut-plus, cut-plus_right}
-use Rattle.p3_limits.specs.Cuts.{cut}
+use Rattle.p3_types.proofs.CutLaws.{cut-passes, cut-plus, cut-plus_right}
+use Rattle.p3_types.specs.Cuts.{cut}
 use Rattle.p3_numbers.proofs.KnownLaws.{task-known}
 use Rattle.p3_numbers.specs.Effects.{is_known_effect}
 use Rattle.p3_numbers.specs.Goals.{goal_of, is_known_goal, numbered_name}

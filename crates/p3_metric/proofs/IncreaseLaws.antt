@@ -5,9 +5,9 @@ use Rattle.std.specs.List.{list_all}
 use Rattle.std.proofs.lemmas.Bool.{and_parts, le-ltb, lt-ltb}
 use Rattle.std.proofs.lemmas.List.Sums.{sum_by-append}
 use mathlib.Core.Former.{Count}
-use Rattle.p3_limits.proofs.CutLaws.{cut-zero, cut-total-zero, sum-cons}
-use Rattle.p3_limits.proofs.SizeLemmas.{cut_total-map, hidden_effects}
-use Rattle.p3_limits.specs.Cuts.{cut, cut_sum, cut_total}
+use Rattle.p3_types.proofs.CutLaws.{cut-zero, cut-total-zero, sum-cons}
+use Rattle.p3_types.proofs.SizeLemmas.{cut_total-map, hidden_effects}
+use Rattle.p3_types.specs.Cuts.{cut, cut_sum, cut_total}
 use Rattle.p3_numbers.proofs.PlaceLemmas.{found_name, found_within}
 use Rattle.p3_numbers.specs.Conditions.{condition_of}
 use Rattle.p3_numbers.specs.Effects.{amount_of, effect_of, effect_layer, is_known_amount, is_known_effect, known_effect_layer}

@@ -8,11 +8,11 @@ use Rattle.std.proofs.lemmas.Bool.{and_parts}
 use Rattle.std.proofs.lemmas.List.{map-append}
 use Rattle.std.proofs.lemmas.List.Sums.{sum_by-append}
 use mathlib.Core.Former.{Count}
-use Rattle.p3_limits.proofs.CutLaws.{cut-zero, cut-total-zero, cut-each, sum-cons}
-use Rattle.p3_limits.proofs.PreferenceLaws.{length-bind}
-use Rattle.p3_limits.proofs.SizeLaws.{choices-are}
-use Rattle.p3_limits.proofs.SizeLemmas.{cut_total-map, hidden_goals}
-use Rattle.p3_limits.specs.Cuts.{cut, cut_choices, cut_sum, cut_total}
+use Rattle.p3_types.proofs.CutLaws.{cut-zero, cut-total-zero, cut-each, sum-cons}
+use Rattle.p3_types.proofs.PreferenceLaws.{length-bind}
+use Rattle.p3_types.proofs.SizeLaws.{choices-are}
+use Rattle.p3_types.proofs.SizeLemmas.{cut_total-map, hidden_goals}
+use Rattle.p3_types.specs.Cuts.{cut, cut_choices, cut_sum, cut_total}
 use Rattle.p3_numbers.specs.Conditions.{condition_of}
 use Rattle.p3_numbers.specs.Folds.{fold_goal}
 use Rattle.p3_numbers.specs.Goals.{goal_of, goal_layer, numbered_name, is_known_goal, known_goal_layer}

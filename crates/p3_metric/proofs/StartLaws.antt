@@ -13,8 +13,8 @@ use Rattle.p3_tree.specs.declared.task.Init.TheVariants as init
 use Rattle.p3_tree.specs.declared.task.Task.{Task}
 use Rattle.p3_tree.specs.declared.term.Ref.{Ref}
 use Rattle.p3_tree.specs.declared.term.Term.{Term}
-use Rattle.p3_limits.proofs.CutLaws.{cut-times}
-use Rattle.p3_limits.specs.Cuts.{cut}
+use Rattle.p3_types.proofs.CutLaws.{cut-times}
+use Rattle.p3_types.specs.Cuts.{cut}
 use Rattle.p3_metric.specs.Start.{start_in, start_of_entry}
 
 never : (n : ℕ) → nat_eq (suc n) 0 ≡ false

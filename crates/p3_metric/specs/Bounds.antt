@@ -6,7 +6,7 @@ use Rattle.p3_base.specs.declared.refusal.Code.TheVariants.{CostTooLarge, SplitT
 use Rattle.p3_base.specs.declared.refusal.Refusal.{Refusal}
 use Rattle.p3_base.specs.declared.refusal.Role.{Role}
 use Rattle.p3_formula.specs.declared.target.Weights.{Weights}
-use Rattle.p3_limits.specs.Cuts.{cut, cut_choices, cut_sum}
+use Rattle.p3_types.specs.Cuts.{cut, cut_choices, cut_sum}
 use Rattle.p3_numbers.specs.Folds.{fold_effect, fold_goal}
 use Rattle.p3_numbers.specs.Slots.{name_at}
 use Rattle.p3_numbers.specs.declared.effect.NumberedAmount.{NumberedAmount}

@@ -13,7 +13,7 @@ use crate::increases::greatest_cost;
 use crate::measure::Measure;
 use p3_base::{Code, Refusal, Role};
 use p3_formula::Weights;
-use p3_limits::{cut_product, cut_sum, domain_role, refusal_at};
+use p3_types::{cut_product, cut_sum, domain_role, refusal_at};
 use p3_numbers::NumberedAction;
 use p3_tree::{Action, Ref};
 use p3_types::Checked;

@@ -1,11 +1,11 @@
 //! What the preferences of a goal count for together.
 
 ghost use Rattle.std.specs.Prelude.{◌≡◌};
-ghost use Rattle.p3_limits.specs.Cuts.{cut_total};
+ghost use Rattle.p3_types.specs.Cuts.{cut_total};
 ghost use Rattle.p3_metric.specs.Bounds as bounds;
 
 use crate::measure::Measure;
-use p3_limits::{choice_count, cut_product, cut_sum};
+use p3_types::{choice_count, cut_product, cut_sum};
 use p3_numbers::{Goal, Numbers};
 
 /// The weight of a preference's name by its number; one without a name has none.

@@ -1,16 +1,16 @@
 //! What an effect costs at most.
 
 ghost use Rattle.std.specs.Prelude.{◌≡◌};
-ghost use Rattle.p3_limits.specs.Cuts.{cut, cut_total};
+ghost use Rattle.p3_types.specs.Cuts.{cut, cut_total};
 ghost use Rattle.p3_metric.specs.Bounds as bounds;
 
 use crate::units::units_at;
-use p3_limits::cut_sum;
+use p3_types::cut_sum;
 use p3_numbers::{NumberedAmount, NumberedEffect};
 use p3_types::Checked;
 
 /// The number, or `u64::MAX` where it is more.
-#[tactic(auto, unfolding(p3_limits::specs::Cuts::cut))]
+#[tactic(auto, unfolding(p3_types::specs::Cuts::cut))]
 fn cut_units(units: u128) -> u64
     ensures { result ≡ cut units }
 {

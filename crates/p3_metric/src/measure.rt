@@ -1,7 +1,7 @@
 //! What is measured of an action.
 
 ghost use Rattle.std.specs.Prelude.{◌≡◌};
-ghost use Rattle.p3_limits.specs.Cuts.{cut};
+ghost use Rattle.p3_types.specs.Cuts.{cut};
 ghost use Rattle.p3_metric.specs.Bounds as bounds;
 
 use p3_base::Code;
@@ -37,7 +37,7 @@ impl Measure {
     }
 
     /// What a preference of the weight counts for.
-    #[tactic(auto, unfolding(p3_limits::specs::Cuts::cut))]
+    #[tactic(auto, unfolding(p3_types::specs::Cuts::cut))]
     pub(crate) fn share(self, weight: u64) -> u64
         ensures { result ≡ cut (bounds.share self weight) }
     {

@@ -10,7 +10,7 @@ ghost use Rattle.p3_metric.specs.Weighed.{HasWeights, IsWeights};
 use crate::MetricFail;
 use crate::evaluate::Evaluator;
 use p3_formula::Weights;
-use p3_limits::problem_role;
+use p3_types::problem_role;
 use p3_names::{Key, listed_key};
 use p3_types::Checked;
 use std::alloc::Global;

@@ -36,7 +36,7 @@ use crate::leaves::constant;
 use crate::linear::Linear;
 use crate::words::refusal_at_operator;
 use p3_base::{Code, NoMemory, Refusal, Role};
-use p3_limits::{domain_role, refusal_at};
+use p3_types::{domain_role, refusal_at};
 use p3_tree::{Num, Numeral};
 
 /// The decimal places that a metric may have.

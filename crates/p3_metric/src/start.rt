@@ -4,7 +4,7 @@ ghost use Rattle.std.specs.Prelude.{◌≡◌, ◌&&◌, [], if◌then◌else◌
 ghost use Rattle.p3_tree.specs.Costs.{cost_units, initial_cost};
 ghost use Rattle.p3_tree.specs.Names.{same_name, same_names, total_cost};
 ghost use Rattle.p3_tree.specs.States.{meanings};
-ghost use Rattle.p3_limits.specs.Cuts.{cut};
+ghost use Rattle.p3_types.specs.Cuts.{cut};
 ghost use Rattle.p3_metric.specs.Start.{start_in, start_of_entry};
 
 use crate::evaluate::Evaluator;

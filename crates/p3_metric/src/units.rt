@@ -1,9 +1,9 @@
 //! Costs in units.
 
 ghost use Rattle.std.specs.Prelude.{◌≡◌, ◌*◌, ◌-◌, ◌^◌};
-ghost use Rattle.p3_limits.specs.Cuts.{cut};
+ghost use Rattle.p3_types.specs.Cuts.{cut};
 
-use p3_limits::cut_product;
+use p3_types::cut_product;
 use p3_tree::Numeral;
 
 /// A cost in units of the last of so many decimal places, or `u64::MAX` where it is more.

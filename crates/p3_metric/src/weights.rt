@@ -34,7 +34,7 @@ use crate::negative::first_negative;
 use crate::spot::Spot;
 use p3_base::{Code, Direction, List, Name, NoMemory, Refusal, Role, as_number};
 use p3_formula::Weights;
-use p3_limits::refusal_at;
+use p3_types::refusal_at;
 use std::alloc::Global;
 
 /// The absolute value of a number below the bound of weights.

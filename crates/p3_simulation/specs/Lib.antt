@@ -1,5 +1,6 @@
-pub mod Gadgets
-pub mod Parts
-pub mod Naming
-pub mod Watching
 pub mod Assembled
+pub mod Ends
+pub mod Gadgets
+pub mod Naming
+pub mod Parts
+pub mod Watching

@@ -1,8 +1,10 @@
 pub mod LayoutLemmas
+pub mod LengthLemmas
+pub mod PieceLemmas
 pub mod PoolLemmas
 pub mod Texts
+pub mod UnconditionalLaws
 pub mod WrittenForms
 pub mod WrittenPlans
 pub mod WrittenShape
 pub mod WrittenSteps
-pub mod UnconditionalLaws

@@ -1,5 +1,6 @@
 pub mod AtomTexts
 pub mod Layout
+pub mod Pieces
 pub mod TaskOf
 pub mod Texts
 pub mod Written

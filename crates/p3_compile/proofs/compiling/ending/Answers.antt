@@ -1,7 +1,7 @@
 use Rattle.std.proofs.Common.{◌≡◌, ◌∙◌, ℕ, [], ◌∷◌, List, length, take, drop, refl, sym, ap, subst, arith}
 use Rattle.std.proofs.lemmas.Bool.{and_from}
 use Rattle.std.proofs.lemmas.Result.{IfOk-weaker}
-use Rattle.p3_endphase.specs.Ends.{AreBelow}
+use Rattle.p3_simulation.specs.Ends.{AreBelow}
 use Rattle.p3_formula.specs.Forms.{is_below, truth}
 use Rattle.p3_monitors.specs.declared.watching.Monitor.{Monitor}
 use Rattle.p3_simulation.specs.Watching.{AreSoftEnds, modals}

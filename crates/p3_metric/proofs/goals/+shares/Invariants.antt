@@ -1,5 +1,5 @@
 use Rattle.std.proofs.Common.{◌≡◌, drop}
-use Rattle.p3_limits.specs.Cuts.{cut_total}
+use Rattle.p3_types.specs.Cuts.{cut_total}
 use Rattle.p3_metric.specs.Bounds.{shares}
 use Rattle.p3_metric.proofs.goals.+shares.Given as goal
 

@@ -1,5 +1,5 @@
 use Rattle.std.proofs.Common.{◌≡◌, drop}
-use Rattle.p3_limits.specs.Cuts.{cut_total}
+use Rattle.p3_types.specs.Cuts.{cut_total}
 use Rattle.p3_metric.specs.Bounds.{greatest_cost}
 use Rattle.p3_metric.proofs.increases.+greatest_cost.Given as goal
 

@@ -1,5 +1,5 @@
 use Rattle.std.proofs.Common.{◌∙◌, ◌*◌, ◌^◌, ap}
-use Rattle.p3_limits.specs.Cuts.{cut}
+use Rattle.p3_types.specs.Cuts.{cut}
 use Rattle.p3_metric.proofs.StartLaws.{cut_twice}
 use Rattle.p3_metric.proofs.units.units_at.Goals as goal
 

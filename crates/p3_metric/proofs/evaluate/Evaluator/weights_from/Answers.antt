@@ -8,7 +8,7 @@ use Rattle.p3_tree.specs.Costs.{initial_cost}
 use Rattle.p3_tree.specs.Metrics.{signed}
 use Rattle.p3_tree.specs.Names.{Name}
 use Rattle.p3_metric.specs.Entries.{number_at}
-use Rattle.p3_limits.specs.Cuts.{cut}
+use Rattle.p3_types.specs.Cuts.{cut}
 use Rattle.p3_metric.proofs.WeightLaws.{base_is, cost_weighs, count_weighs, length_mapped, mapped_at}
 use Rattle.p3_metric.proofs.evaluate.Evaluator.weights_from.Goals as goal
 

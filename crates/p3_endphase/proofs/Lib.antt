@@ -1,4 +1,0 @@
-pub mod MoveLemmas
-pub mod EndLemmas
-pub mod ActionLemmas
-pub mod WholeLemmas

@@ -1,7 +1,0 @@
-pub mod CutLaws
-pub mod ExcessLaws
-pub mod FindLemmas
-pub mod PreferenceLaws
-pub mod PreferenceLemmas
-pub mod SizeLaws
-pub mod SizeLemmas

@@ -1,4 +1,0 @@
-pub mod Cuts
-pub mod Sizes
-pub mod Preferences
-pub mod Excess

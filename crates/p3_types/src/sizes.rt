@@ -1,0 +1,182 @@
+//! The expanded sizes of numbered trees.
+
+ghost use Rattle.std.specs.Prelude.{◌≡◌};
+ghost use Rattle.p3_types.specs.Cuts.{cut_choices, cut_total};
+ghost use Rattle.p3_types.specs.Sizes as size;
+
+use crate::choices::{choice_count, cut_product, cut_sum};
+use p3_numbers::{Condition, Goal, NumberedConstraint, NumberedEffect, NumberedModal, Numbers};
+
+/// The size of a tree above one part.
+fn above(part: u64) -> u64
+    ensures { result ≡ size.above part }
+{
+    cut_sum(1, part)
+}
+
+/// The size of a tree above two parts.
+fn above_two(first: u64, second: u64) -> u64
+    ensures { result ≡ size.above_two first second }
+{
+    cut_sum(above(first), second)
+}
+
+/// The size of a tree above one part for each choice of objects.
+fn above_each(numbers: &Numbers, ranges: &[u32], body: u64) -> u64
+    ensures { result ≡ size.above_each (cut_choices numbers.now ranges.now) body }
+{
+    above(cut_product(choice_count(numbers, ranges), body))
+}
+
+/// The size of a condition. It takes no memory.
+#[cycle(condition)]
+#[tactic(auto, using(crate::proofs::SizeLemmas::condition_sizes))]
+fn condition_size(numbers: &Numbers, condition: &Condition) -> u64
+    ensures { result ≡ size.condition_size numbers.now condition.now }
+{
+    match condition {
+        Condition::Atom { .. } => 1,
+        Condition::Equal(_, _) => 1,
+        Condition::And(parts) => conditions_size(numbers, parts.items()),
+        Condition::Or(parts) => conditions_size(numbers, parts.items()),
+        Condition::Not(part) => above(condition_size(numbers, part.get())),
+        Condition::Imply(first, second) => {
+            let first = condition_size(numbers, first.get());
+            above_two(first, condition_size(numbers, second.get()))
+        }
+        Condition::Exists(ranges, body) => {
+            above_each(numbers, ranges.items(), condition_size(numbers, body.get()))
+        }
+        Condition::Forall(ranges, body) => {
+            above_each(numbers, ranges.items(), condition_size(numbers, body.get()))
+        }
+    }
+}
+
+/// The size of a condition that is made of the parts.
+#[cycle(condition)]
+fn conditions_size(numbers: &Numbers, parts: &[Condition]) -> u64
+    ensures { result ≡ cut_total (size.condition_size numbers.now) 1 parts.now }
+{
+    let mut total = 1;
+    for part in parts {
+        total = cut_sum(total, condition_size(numbers, part));
+    }
+    total
+}
+
+/// The size of an effect. It takes no memory.
+#[cycle(effect)]
+#[tactic(auto, using(crate::proofs::SizeLemmas::effect_sizes))]
+pub(crate) fn effect_size(numbers: &Numbers, effect: &NumberedEffect) -> u64
+    ensures { result ≡ size.effect_size numbers.now effect.now }
+{
+    match effect {
+        NumberedEffect::Add { .. } => 1,
+        NumberedEffect::Del { .. } => 1,
+        NumberedEffect::All(parts) => effects_size(numbers, parts.items()),
+        NumberedEffect::Each(ranges, body) => {
+            above_each(numbers, ranges.items(), effect_size(numbers, body.get()))
+        }
+        NumberedEffect::If(condition, body) => {
+            let condition = condition_size(numbers, condition);
+            above_two(condition, effect_size(numbers, body.get()))
+        }
+        NumberedEffect::Cost(_) => 1,
+    }
+}
+
+/// The size of an effect that is made of the parts.
+#[cycle(effect)]
+fn effects_size(numbers: &Numbers, parts: &[NumberedEffect]) -> u64
+    ensures { result ≡ cut_total (size.effect_size numbers.now) 1 parts.now }
+{
+    let mut total = 1;
+    for part in parts {
+        total = cut_sum(total, effect_size(numbers, part));
+    }
+    total
+}
+
+/// The size of a precondition or goal. It takes no memory.
+#[cycle(goal)]
+#[tactic(auto, using(crate::proofs::SizeLemmas::goal_sizes))]
+pub(crate) fn goal_size(numbers: &Numbers, goal: &Goal) -> u64
+    ensures { result ≡ size.goal_size numbers.now goal.now }
+{
+    match goal {
+        Goal::Plain(condition) => condition_size(numbers, condition),
+        Goal::Both(parts) => goals_size(numbers, parts.items()),
+        Goal::Each(ranges, body) => {
+            above_each(numbers, ranges.items(), goal_size(numbers, body.get()))
+        }
+        Goal::Soft(preference) => above(condition_size(numbers, &preference.body)),
+    }
+}
+
+/// The size of a goal that is made of the parts.
+#[cycle(goal)]
+fn goals_size(numbers: &Numbers, parts: &[Goal]) -> u64
+    ensures { result ≡ cut_total (size.goal_size numbers.now) 1 parts.now }
+{
+    let mut total = 1;
+    for part in parts {
+        total = cut_sum(total, goal_size(numbers, part));
+    }
+    total
+}
+
+/// The size of an operator over two conditions.
+fn pair_size(numbers: &Numbers, first: &Condition, second: &Condition) -> u64
+    ensures { result ≡ size.above_two (size.condition_size numbers.now first.now)
+        (size.condition_size numbers.now second.now) }
+{
+    let first = condition_size(numbers, first);
+    above_two(first, condition_size(numbers, second))
+}
+
+/// The size of a modal operator.
+fn modal_size(numbers: &Numbers, operator: &NumberedModal) -> u64
+    ensures { result ≡ size.modal_size numbers.now operator.now }
+{
+    match operator {
+        NumberedModal::AtEnd(condition) => above(condition_size(numbers, condition)),
+        NumberedModal::Always(condition) => above(condition_size(numbers, condition)),
+        NumberedModal::Sometime(condition) => above(condition_size(numbers, condition)),
+        NumberedModal::AtMostOnce(condition) => above(condition_size(numbers, condition)),
+        NumberedModal::SometimeAfter(first, second) => pair_size(numbers, first, second),
+        NumberedModal::SometimeBefore(first, second) => pair_size(numbers, first, second),
+    }
+}
+
+/// The size of constraints. It takes no memory.
+#[cycle(constraint)]
+#[tactic(auto, using(crate::proofs::SizeLemmas::constraint_sizes))]
+pub(crate) fn constraint_size(numbers: &Numbers, constraint: &NumberedConstraint) -> u64
+    ensures { result ≡ size.constraint_size numbers.now constraint.now }
+{
+    match constraint {
+        NumberedConstraint::Both(parts) => constraints_size(numbers, parts.items()),
+        NumberedConstraint::Each(ranges, body) => {
+            above_each(
+                numbers,
+                ranges.items(),
+                constraint_size(numbers, body.get()),
+            )
+        }
+        NumberedConstraint::Single(operator) => modal_size(numbers, operator),
+        NumberedConstraint::Soft { body, .. } => above(constraint_size(numbers, body.get())),
+    }
+}
+
+/// The size of constraints that are made of the parts.
+#[cycle(constraint)]
+fn constraints_size(numbers: &Numbers, parts: &[NumberedConstraint]) -> u64
+    ensures { result ≡ cut_total (size.constraint_size numbers.now) 1 parts.now }
+{
+    let mut total = 1;
+    for part in parts {
+        total = cut_sum(total, constraint_size(numbers, part));
+    }
+    total
+}

@@ -1,0 +1,16 @@
+//! What no worked row can say: tables of forms, what is asked of a regression once more, a long chain of
+//! steps, texts of targets, an outline by itself, and calls of the outside.
+#![tactic(auto)]
+
+#[cfg(test)]
+mod forms;
+#[cfg(test)]
+mod outlines;
+#[cfg(test)]
+mod outside;
+#[cfg(test)]
+mod reached;
+#[cfg(test)]
+mod regressions;
+#[cfg(test)]
+mod written;
