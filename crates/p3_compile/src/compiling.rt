@@ -17,9 +17,8 @@ use crate::reading::readers;
 use crate::stepping::{Frame, has_wide, push_all, steps_actions};
 use crate::watching::monitors;
 use p3_base::{List, Name, NoMemory};
-use p3_simulation::{EndPhase, end_phase};
 use p3_formula::{Bits, GroundTask, Target, TargetAction, Weights};
-use p3_simulation::assembled_targets_are_compiled;
+use p3_simulation::{EndPhase, assembled_targets_are_compiled, end_phase};
 use std::alloc::Global;
 
 /// The name of the running atom.

@@ -11,13 +11,12 @@ ghost use Rattle.p3_ground.specs.Sparse.{IsGroundingOf};
 ghost use Rattle.p3_ground.specs.Whole.{IsFailOf, IsWhole, IsWithinLimits};
 
 use crate::error::GroundFail;
+use crate::reach::reachable;
 use crate::rest::{Rest, Taken};
 use crate::whole::whole;
 use p3_base::{List, NoMemory};
 use p3_formula::{GroundStep, GroundTask};
-use p3_types::size_refusal;
-use crate::reachable;
-use p3_types::Checked;
+use p3_types::{Checked, size_refusal};
 use std::alloc::Global;
 
 /// The step goes last where it is marked.

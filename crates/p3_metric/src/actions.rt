@@ -13,10 +13,9 @@ use crate::increases::greatest_cost;
 use crate::measure::Measure;
 use p3_base::{Code, Refusal, Role};
 use p3_formula::Weights;
-use p3_types::{cut_product, cut_sum, domain_role, refusal_at};
 use p3_numbers::NumberedAction;
 use p3_tree::{Action, Ref};
-use p3_types::Checked;
+use p3_types::{Checked, cut_product, cut_sum, domain_role, refusal_at};
 
 /// The refusal at a name.
 fn refusal_at_name(code: Code, role: Role, name: &Ref) -> Refusal

@@ -129,12 +129,7 @@ impl<'t> Evaluator<'t> {
     /// The form of a difference.
     #[inline(never)]
     #[cycle(evaluate)]
-    fn difference(
-        &self,
-        at: u32,
-        first: &'t Num,
-        second: &'t Num,
-    ) -> Result<Linear<'t>, MetricFail>
+    fn difference(&self, at: u32, first: &'t Num, second: &'t Num) -> Result<Linear<'t>, MetricFail>
         requires { IsFit self.now.task.now (num.Sub at first.now second.now) }
         ensures form { IfOk result
             (IsEvaluated self.now.task.now (num.Sub at first.now second.now)) }

@@ -5,8 +5,8 @@ ghost use Rattle.p3_types.specs.Cuts.{cut_total};
 ghost use Rattle.p3_metric.specs.Bounds as bounds;
 
 use crate::measure::Measure;
-use p3_types::{choice_count, cut_product, cut_sum};
 use p3_numbers::{Goal, Numbers};
+use p3_types::{choice_count, cut_product, cut_sum};
 
 /// The weight of a preference's name by its number; one without a name has none.
 fn weight_at(by_name: &[u64], name: Option<u32>) -> u64

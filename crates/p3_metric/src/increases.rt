@@ -5,9 +5,8 @@ ghost use Rattle.p3_types.specs.Cuts.{cut, cut_total};
 ghost use Rattle.p3_metric.specs.Bounds as bounds;
 
 use crate::units::units_at;
-use p3_types::cut_sum;
 use p3_numbers::{NumberedAmount, NumberedEffect};
-use p3_types::Checked;
+use p3_types::{Checked, cut_sum};
 
 /// The number, or `u64::MAX` where it is more.
 #[tactic(auto, unfolding(p3_types::specs::Cuts::cut))]

@@ -10,9 +10,8 @@ ghost use Rattle.p3_metric.specs.Weighed.{HasWeights, IsWeights};
 use crate::MetricFail;
 use crate::evaluate::Evaluator;
 use p3_formula::Weights;
-use p3_types::problem_role;
 use p3_names::{Key, listed_key};
-use p3_types::Checked;
+use p3_types::{Checked, problem_role};
 use std::alloc::Global;
 
 /// The key of the names of a checked task's preferences.

@@ -36,8 +36,8 @@ use crate::leaves::constant;
 use crate::linear::Linear;
 use crate::words::refusal_at_operator;
 use p3_base::{Code, NoMemory, Refusal, Role};
-use p3_types::{domain_role, refusal_at};
 use p3_tree::{Num, Numeral};
+use p3_types::{domain_role, refusal_at};
 
 /// The decimal places that a metric may have.
 const METRIC_PLACE_LIMIT: u32 = 6;

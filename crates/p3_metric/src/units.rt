@@ -3,8 +3,8 @@
 ghost use Rattle.std.specs.Prelude.{◌≡◌, ◌*◌, ◌-◌, ◌^◌};
 ghost use Rattle.p3_types.specs.Cuts.{cut};
 
-use p3_types::cut_product;
 use p3_tree::Numeral;
+use p3_types::cut_product;
 
 /// A cost in units of the last of so many decimal places, or `u64::MAX` where it is more.
 pub(crate) fn units_at(places: u32, numeral: Numeral) -> u64
