@@ -9,4 +9,3 @@ pub mod CopyLaws
 pub mod PlanLaws
 pub mod FlatLaws
 pub mod WorkedCases
-pub mod CaseLemmas

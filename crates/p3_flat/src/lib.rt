@@ -3,8 +3,6 @@
 #![tactic(auto)]
 
 mod atoms;
-#[cfg(test)]
-mod cases;
 mod choices;
 mod excluding;
 mod flattening;

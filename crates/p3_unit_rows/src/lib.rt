@@ -1,7 +1,9 @@
-//! What no worked row can say: tables of forms, what is asked of a regression once more, a long chain of
-//! steps, texts of targets, an outline by itself, and calls of the outside.
+//! What no worked row can say: tables of forms, what is asked of a regression once more, a flattening, a
+//! long chain of steps, texts of targets, an outline by itself, and calls of the outside.
 #![tactic(auto)]
 
+#[cfg(test)]
+mod flattened;
 #[cfg(test)]
 mod forms;
 #[cfg(test)]

@@ -3,8 +3,8 @@
 ghost use Rattle.std.specs.Prelude.{◌≡◌, codes, IfOk};
 ghost use Rattle.p3_flat.specs.Flattened.{CanBeFlattened};
 
-use crate::flatten;
 use p3_base::{List, Name, NoMemory};
+use p3_flat::flatten;
 use p3_formula::{Bits, Change, Effects, Form, Target, TargetAction};
 use std::alloc::Global;
 use std::test::Fail;
