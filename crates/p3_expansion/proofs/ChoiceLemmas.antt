@@ -95,8 +95,7 @@ module _ (N : Numbers) where
   pub count-least : (ranges : List ℕ) (i d before : ℕ) (objects : List ℕ) → i < length ranges → objects ≡ range_at N (get_or ranges i d)
       → before * choice_count N (drop i ranges) ≡ choice_count N ranges → 0 < choice_count N ranges → before * length objects ≤ choice_count N ranges
   count-least ranges i d before objects within here is some =
-      let whole : (before * length objects) * choice_count N (drop (i + 1) ranges) ≡ choice_count N ranges
-      whole = product-next ranges i d before (before * length objects) objects within here refl ∙ is in
+      let whole : (before * length objects) * choice_count N (drop (i + 1) ranges) ≡ choice_count N ranges = product-next ranges i d before (before * length objects) objects within here refl ∙ is in
       subst (λ n. before * length objects ≤ n) whole
       (le-mul_of_pos_right (before * length objects) (positive 0 (before * length objects) (choice_count N (drop (i + 1) ranges)) (subst (λ n. 0 < n) (sym whole) some)).0)
 
