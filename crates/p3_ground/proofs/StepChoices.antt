@@ -26,7 +26,7 @@ use Rattle.p3_numbers.specs.declared.task.NumberedTask.{NumberedTask}
 use Rattle.p3_numbers.proofs.BindingLemmas.{tuples_fill, tuples_mean}
 use Rattle.p3_numbers.proofs.KnownLaws.{task-known}
 use Rattle.p3_types.proofs.ChoiceLemmas.{choice_at, length-tuples}
-use Rattle.p3_types.proofs.SizeFindLemmas.{found_action}
+use Rattle.p3_types.proofs.FindLemmas.{found_action}
 use Rattle.p3_types.proofs.StepLemmas.{step_at}
 use Rattle.p3_expansion.proofs.NextLemmas.{all-at, within-get}
 use Rattle.p3_ground.specs.StepParts.{IsSomeChoice, NumbersAreChoices}

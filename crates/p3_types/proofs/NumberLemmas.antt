@@ -16,7 +16,7 @@ use Rattle.p3_numbers.specs.Slots.{range_at}
 use Rattle.p3_numbers.specs.Tasks.{IsNumberedTask}
 use Rattle.p3_numbers.specs.declared.task.NumberedAction.{NumberedAction}
 use Rattle.p3_numbers.specs.declared.task.NumberedTask.{NumberedTask}
-use Rattle.p3_types.proofs.SizeFindLemmas.{ranges_are, among_is}
+use Rattle.p3_types.proofs.FindLemmas.{ranges_are, among_is}
 use Rattle.p3_types.proofs.NameOrderLemmas.{slice_at}
 use Rattle.p3_types.proofs.StepLemmas.{known_at}
 use Rattle.p3_types.proofs.StepTableLemmas.{known, first_is, numbered_here, count_between, step_between}

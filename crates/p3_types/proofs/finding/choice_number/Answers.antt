@@ -3,7 +3,7 @@ use Rattle.std.specs.Str.{str_to_ascii_lowercase}
 use Rattle.p3_tree.specs.Names.{Name, has_name}
 use Rattle.p3_numbers.specs.Slots.{name_at}
 use Rattle.p3_types.specs.Finds.{IsRange, IsNarrowed}
-use Rattle.p3_types.proofs.SizeFindLemmas.{none_among, too_few, stretch_none, stretch_more, stretch_end}
+use Rattle.p3_types.proofs.FindLemmas.{none_among, too_few, stretch_none, stretch_more, stretch_end}
 use Rattle.p3_types.proofs.finding.choice_number.Goals as goal
 
 pub returns-then-count-eq0 : goal.returns-then-count-eq0

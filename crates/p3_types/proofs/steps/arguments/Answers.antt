@@ -4,7 +4,7 @@ use Rattle.std.specs.List.{All}
 use Rattle.p3_numbers.specs.Slots.{name_at, object_names}
 use Rattle.p3_numbers.specs.Choices.{choice}
 use Rattle.p3_types.proofs.StepLemmas.{next_argument, no_argument}
-use Rattle.p3_types.proofs.step_counts.arguments.Goals as goal
+use Rattle.p3_types.proofs.steps.arguments.Goals as goal
 
 pub nonzero_div-block : goal.nonzero_div-block
 nonzero_div-block c =

@@ -1,7 +1,7 @@
 use Rattle.std.proofs.Common.{◌≡◌, ◌<◌, ◌++◌, drop}
 use Rattle.p3_numbers.specs.Slots.{object_names}
 use Rattle.p3_numbers.specs.Choices.{choice_count, choice}
-use Rattle.p3_types.proofs.step_counts.arguments.Given as goal
+use Rattle.p3_types.proofs.steps.arguments.Given as goal
 
 abbrev pub invariant-loop-range : goal.invariant-loop-range
 invariant-loop-range l = record {

@@ -1,7 +1,7 @@
 use Rattle.std.proofs.Common.{◌∙◌, ◌*◌, ap, refl, min}
 use Rattle.std.proofs.Common.{length}
 use Rattle.p3_types.proofs.StepLemmas.{capped_none, capped_more}
-use Rattle.p3_types.proofs.step_counts.capped_count.Goals as goal
+use Rattle.p3_types.proofs.steps.capped_count.Goals as goal
 use Rattle.p3_types.specs.FirstSteps.{too_many}
 
 pub loop-range-init : goal.loop-range-init

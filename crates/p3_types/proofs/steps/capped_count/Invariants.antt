@@ -1,6 +1,6 @@
 use Rattle.std.proofs.Common.{◌≡◌, min, take}
 use Rattle.p3_numbers.specs.Choices.{choice_count}
-use Rattle.p3_types.proofs.step_counts.capped_count.Given as goal
+use Rattle.p3_types.proofs.steps.capped_count.Given as goal
 use Rattle.p3_types.specs.FirstSteps.{too_many}
 
 abbrev pub invariant-loop-range : goal.invariant-loop-range

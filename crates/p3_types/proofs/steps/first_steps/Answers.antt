@@ -5,7 +5,7 @@ use Rattle.p3_numbers.specs.declared.task.NumberedAction.{NumberedAction}
 use Rattle.p3_numbers.specs.Choices.{choice_count}
 use Rattle.p3_types.specs.FirstSteps.{firsts_from, too_many}
 use Rattle.p3_types.proofs.StepLemmas.{next_first, firsts_next}
-use Rattle.p3_types.proofs.step_counts.first_steps.Goals as goal
+use Rattle.p3_types.proofs.steps.first_steps.Goals as goal
 
 pub loop-action-preserved : goal.loop-action-preserved
 loop-action-preserved c =

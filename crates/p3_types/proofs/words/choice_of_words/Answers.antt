@@ -4,9 +4,9 @@ use Rattle.p3_tree.specs.Names.{Name, has_name}
 use Rattle.p3_numbers.specs.Slots.{name_at}
 use Rattle.p3_types.specs.Finds.{IsRange, IsNarrowed}
 use Rattle.p3_lexer.specs.StepWords.{words_left}
-use Rattle.p3_types.proofs.SizeFindLemmas.{none_among, too_few, stretch_none, stretch_more, stretch_end}
+use Rattle.p3_types.proofs.FindLemmas.{none_among, too_few, stretch_none, stretch_more, stretch_end}
 use Rattle.p3_types.proofs.WordLemmas.{none_left, one_left}
-use Rattle.p3_types.proofs.refused_words.choice_of_words.Goals as goal
+use Rattle.p3_types.proofs.words.choice_of_words.Goals as goal
 
 pub returns-then-count-eq0 : goal.returns-then-count-eq0
 returns-then-count-eq0 c = none_among c.args.numbers.now c.args.ranges.now (words_left c.args.lexer.now) (sym c.requires.count ∙ c.if-count-eq0.true)

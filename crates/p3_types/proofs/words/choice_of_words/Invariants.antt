@@ -1,7 +1,7 @@
 use Rattle.std.proofs.Common.{◌≡◌, ◌≤◌, drop, length}
 use Rattle.p3_types.specs.Finds.{IsStretch}
 use Rattle.p3_lexer.specs.StepWords.{words_left}
-use Rattle.p3_types.proofs.refused_words.choice_of_words.Given as goal
+use Rattle.p3_types.proofs.words.choice_of_words.Given as goal
 
 abbrev pub invariant-loop-place : goal.invariant-loop-place
 invariant-loop-place l = record {

@@ -2,7 +2,7 @@ use Rattle.std.proofs.Common.{◌∙◌, Some, ap, sym, subst, map}
 use Rattle.std.specs.Str.{str_to_ascii_lowercase}
 use Rattle.p3_tree.specs.Names.{has_name}
 use Rattle.p3_types.specs.Finds.{IsNumberAt}
-use Rattle.p3_types.proofs.SizeFindLemmas.{action_name, unknown_action, found_action, found_number, other_arguments}
+use Rattle.p3_types.proofs.FindLemmas.{action_name, unknown_action, found_action, found_number, other_arguments}
 use Rattle.p3_types.proofs.NameOrderLemmas.{slice_within}
 use Rattle.p3_types.proofs.TableLemmas.{well_formed_from}
 use Rattle.p3_types.proofs.checked.Checked.find.Goals as goal

@@ -5,7 +5,7 @@ use Rattle.p3_tree.specs.declared.task.Action.{Action}
 use Rattle.p3_types.specs.Finds.{IsNumberAt}
 use Rattle.p3_types.specs.NameOrders.{IsNameOrder, action_names}
 use Rattle.p3_lexer.specs.StepWords.{words_left}
-use Rattle.p3_types.proofs.SizeFindLemmas.{action_name, unknown_action, found_action, found_number, other_arguments}
+use Rattle.p3_types.proofs.FindLemmas.{action_name, unknown_action, found_action, found_number, other_arguments}
 use Rattle.p3_types.proofs.NameOrderLemmas.{slice_within}
 use Rattle.p3_types.proofs.TableLemmas.{well_formed_from}
 use Rattle.p3_types.proofs.WordLemmas.{no_step, word_is_action, words_are_args}
