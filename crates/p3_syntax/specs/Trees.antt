@@ -120,6 +120,9 @@ abbrev pub constraint_at : Bool → Place Constraint
 constraint_at true = constraint_place
 constraint_at false = inner_place
 
+abbrev pub both_constraints : Bool → Parts → Option Constraint
+both_constraints may_be_soft behind = constraint.both_form any_word (listed (constraint_at may_be_soft) (expressions_of behind))
+
 abbrev pub each_constraint : Bool → Parts → Option Constraint
 each_constraint may_be_soft behind = constraint.each_form any_word (listed (constraint_at may_be_soft) (expressions_of behind))
 

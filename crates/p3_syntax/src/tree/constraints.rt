@@ -1,10 +1,10 @@
 //! Constraints over the visited states.
 
 ghost use Rattle.p3_tree.specs.Grammar.Words.{each_at};
-ghost use Rattle.p3_tree.specs.Grammar.Constraints.{at_end_form, modal_place, constraint_place, constraint_or_empty_place};
+ghost use Rattle.p3_tree.specs.Grammar.Constraints.{at_end_form, modal_place, single_form, constraint_place, constraint_or_empty_place};
 ghost use Rattle.p3_outline.specs.Nodes.{expression_of, expressions_of};
 ghost use Rattle.p3_syntax.specs.Reading.{Gives};
-ghost use Rattle.p3_syntax.specs.Trees.{constraint_at, constraint_by, each_constraint, modal_by, soft_constraint};
+ghost use Rattle.p3_syntax.specs.Trees.{both_constraints, constraint_at, constraint_by, each_constraint, modal_by, soft_constraint};
 
 use crate::error::Fault;
 use crate::tree::formulas::{formula, two_formulas};
@@ -59,6 +59,14 @@ pub fn modal(alloc: Global, view: View<'_, '_>) -> Result<Modal, Fault>
     modal_by(alloc, list.word.text, list.behind)
 }
 
+/// An operator over the visited states, as a constraint.
+#[inline(never)]
+fn single_form(alloc: Global, view: View<'_, '_>) -> Result<Constraint, Fault>
+    ensures { Gives (λ tree. tree) result (single_form (expression_of view.entry)) }
+{
+    Ok(Constraint::Single(modal(alloc, view)?))
+}
+
 /// The constraints of parts.
 #[inline(never)]
 #[cycle(constraint_at)]
@@ -73,9 +81,23 @@ fn constraints(
     let mut left = parts;
     let mut found = List::new(alloc);
     while let Some(view) = left.next() {
-        found.push(constraint_at(alloc, may_be_soft, view)?)?;
+        // A `?` would keep a second copy of the constraint on the stack of each level.
+        match constraint_at(alloc, may_be_soft, view) {
+            Ok(constraint) => found.push(constraint)?,
+            Err(fault) => return Err(fault),
+        }
     }
     Ok(found)
+}
+
+/// `(and` constraint* `)`.
+#[inline(never)]
+#[cycle(constraint_at)]
+#[tactic(auto, using(crate::proofs::TreeLemmas::trees_listed))]
+fn both_form(alloc: Global, may_be_soft: bool, behind: Parts<'_, '_>) -> Result<Constraint, Fault>
+    ensures { Gives (λ tree. tree) result (both_constraints may_be_soft behind.entry) }
+{
+    Ok(Constraint::Both(constraints(alloc, may_be_soft, behind)?))
 }
 
 #[inline(never)]
@@ -112,7 +134,6 @@ fn preference_form(
 
 /// The constraint of a list by its first word.
 #[cycle(constraint_at)]
-#[tactic(auto, using(crate::proofs::TreeLemmas::trees_listed))]
 fn constraint_by(
     alloc: Global,
     may_be_soft: bool,
@@ -123,15 +144,17 @@ fn constraint_by(
     ensures { Gives (λ tree. tree) result
         (constraint_by may_be_soft view.entry word.entry behind.entry) }
 {
+    // Each form returns, so that all of them share one place for the result on the stack.
     if may_be_soft && is(word.text, b"preference") {
-        preference_form(alloc, word, behind)
-    } else if is(word.text, b"and") {
-        Ok(Constraint::Both(constraints(alloc, may_be_soft, behind)?))
-    } else if is(word.text, b"forall") {
-        each_form(alloc, may_be_soft, behind)
-    } else {
-        Ok(Constraint::Single(modal(alloc, view)?))
+        return preference_form(alloc, word, behind);
     }
+    if is(word.text, b"and") {
+        return both_form(alloc, may_be_soft, behind);
+    }
+    if is(word.text, b"forall") {
+        return each_form(alloc, may_be_soft, behind);
+    }
+    single_form(alloc, view)
 }
 
 /// The constraint that a view is, with preferences in it where they may stand.

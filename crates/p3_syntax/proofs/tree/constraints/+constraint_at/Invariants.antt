@@ -5,19 +5,22 @@ use Rattle.p3_syntax.specs.Trees.{constraint_at}
 use Rattle.p3_syntax.proofs.tree.constraints.+constraint_at.Given as goal
 
 abbrev pub decreases-constraint_at : goal.decreases-constraint_at
-decreases-constraint_at l = 3 * length l.view.below.now + 3
+decreases-constraint_at l = 4 * length l.view.below.now + 4
 
 abbrev pub decreases-constraint_by : goal.decreases-constraint_by
-decreases-constraint_by l = 3 * length l.behind.nodes.now + 2
+decreases-constraint_by l = 4 * length l.behind.nodes.now + 3
 
-abbrev pub decreases-constraints : goal.decreases-constraints
-decreases-constraints l = 3 * length l.parts.nodes.now + 1
+abbrev pub decreases-both_form : goal.decreases-both_form
+decreases-both_form l = 4 * length l.behind.nodes.now + 2
 
 abbrev pub decreases-each_form : goal.decreases-each_form
-decreases-each_form l = 3 * length l.behind.nodes.now + 1
+decreases-each_form l = 4 * length l.behind.nodes.now + 2
 
 abbrev pub decreases-preference_form : goal.decreases-preference_form
-decreases-preference_form l = 3 * length l.behind.nodes.now + 1
+decreases-preference_form l = 4 * length l.behind.nodes.now + 2
+
+abbrev pub decreases-constraints : goal.decreases-constraints
+decreases-constraints l = 4 * length l.parts.nodes.now + 1
 
 -- what is found and what is left make up the whole
 abbrev pub invariant-constraints-loop-view : goal.invariant-constraints-loop-view
