@@ -1,4 +1,5 @@
 pub mod AtomTexts
+pub mod DomainText
 pub mod Layout
 pub mod TaskOf
 pub mod Texts
