@@ -6,7 +6,7 @@ use Rattle.p3_simulation.specs.Naming.{numbered}
 use Rattle.p3_compile.specs.Readers.{readers_from}
 use Rattle.p3_compile.specs.Watched.{named_more}
 use Rattle.p3_compile.proofs.FrameLaws.{framed_is}
-use Rattle.p3_compile.proofs.compiling.framed.Goals as goal
+use Rattle.p3_compile.proofs.begun.framed.Goals as goal
 
 pub monitors-requires-clause-behind : goal.monitors-requires-clause-behind
 monitors-requires-clause-behind c =

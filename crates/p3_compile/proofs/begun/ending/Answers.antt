@@ -9,7 +9,7 @@ use Rattle.p3_simulation.proofs.Bounds.{below_more}
 use Rattle.p3_compile.specs.Ending.{accepting, soft_ends}
 use Rattle.p3_compile.proofs.EndLaws.{hard_inside, soft_are, finish_truth, accepting_below, cut_before, ends_below, are_soft_ends, ends_count, phase_tidy}
 use Rattle.p3_compile.proofs.FrameLaws.{frame_before, sources_inside}
-use Rattle.p3_compile.proofs.compiling.ending.Goals as goal
+use Rattle.p3_compile.proofs.begun.ending.Goals as goal
 
 -- the monitors of the hard constraints, and the others
 front_is : (count hard : ℕ) (monitors all part : List Monitor) → part ≡ take count monitors → count ≡ hard → monitors ≡ all → part ≡ take hard all

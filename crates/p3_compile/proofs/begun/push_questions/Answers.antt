@@ -4,7 +4,7 @@ use Rattle.std.specs.List.{list_any}
 use Rattle.std.proofs.lemmas.List.{append-nil}
 use Rattle.p3_simulation.specs.Naming.{all_numbered, is_wide, question_names}
 use Rattle.p3_compile.proofs.FrameLaws.{some_questions, no_questions}
-use Rattle.p3_compile.proofs.compiling.push_questions.Goals as goal
+use Rattle.p3_compile.proofs.begun.push_questions.Goals as goal
 
 pub returns-in_ok-push_numbered : goal.returns-in_ok-push_numbered
 returns-in_ok-push_numbered c =
