@@ -1,11 +1,11 @@
 -- What is put together is an assembled target.
-use Rattle.std.proofs.Common.{◌≡◌, ◌∙◌, ℕ, zero, suc, ◌+◌, ◌-◌, ◌<◌, ◌≤◌, ◌^◌, Bool, true, false, List, [], ◌∷◌, ◌++◌, length, get_or, replicate, refl, ap, arith, append_assoc, length-append}
+use Rattle.std.proofs.Common.{◌≡◌, ◌∙◌, ℕ, zero, suc, ◌+◌, ◌-◌, ◌<◌, ◌≤◌, Bool, true, false, List, [], ◌∷◌, ◌++◌, length, get_or, replicate, refl, ap, arith, append_assoc, length-append}
 use Rattle.std.specs.Prelude.{codes}
 use Rattle.std.specs.List.{All, flat_map, list_all}
 use Rattle.std.proofs.lemmas.Bool.{and_parts, and_from}
-use Rattle.std.proofs.lemmas.List.{length-replicate}
+use Rattle.std.proofs.lemmas.List.{length-map, length-replicate}
 use Rattle.std.proofs.lemmas.List.Folds.{list_all-append}
-use Rattle.p3_base.specs.Words.{Name}
+use Rattle.std.proofs.lemmas.List.FromFn.{length-map-range_with_len}
 use Rattle.p3_formula.specs.Conditions.{HasTidyForms, IsReady, is_step_below, is_tidy_action}
 use Rattle.p3_formula.specs.Forms.{State}
 use Rattle.p3_formula.specs.Kept.{atom_count}
@@ -14,16 +14,17 @@ use Rattle.p3_formula.specs.declared.form.Form.TheVariants.{Atom}
 use Rattle.p3_formula.specs.declared.modal.GroundModal.{GroundModal}
 use Rattle.p3_formula.specs.declared.target.TargetAction.{TargetAction}
 use Rattle.p3_formula.specs.declared.target.Weights.{Weights}
+use Rattle.p3_formula.specs.declared.task.GroundStep.{GroundStep}
 use Rattle.p3_formula.specs.declared.task.GroundTask.{GroundTask}
-use Rattle.p3_simulation.specs.declared.phase.EndPhase.{EndPhase}
 use Rattle.p3_monitors.specs.declared.watching.Monitor.{Monitor}
 use Rattle.p3_simulation.specs.Assembled.{Assembly, IsAssembled}
-use Rattle.p3_simulation.specs.Naming.{all_numbered, atom_names, question_names, wide_steps}
-use Rattle.p3_simulation.specs.Watching.{AreMonitors, all_modals, initial_bits}
+use Rattle.p3_simulation.specs.Naming.{all_numbered, atom_names, current_name, numbered, question_names, wide_steps}
+use Rattle.p3_simulation.specs.Watching.{AreMonitors, all_modals}
 use Rattle.p3_simulation.proofs.Bounds.{step_more}
 use Rattle.p3_simulation.proofs.Watched.{none_own}
-use Rattle.p3_compile.specs.Compiling.{IsEnding, IsFrameOf, IsFramed, first_names, target_of}
+use Rattle.p3_compile.specs.Compiling.{IsBegun, IsFrameOf, first_names, target_of}
 use Rattle.p3_compile.specs.Stepping.{HasStepActions, IsFrame, IsStepReady, current_names}
+use Rattle.p3_compile.specs.declared.begun.BegunTarget.{BegunTarget}
 use Rattle.p3_compile.specs.declared.stepping.Frame.{Frame}
 use Rattle.p3_compile.proofs.FrameLaws.{frame_before, frame_behind, sources_inside}
 use Rattle.p3_compile.proofs.StepLists.{changed_below}
@@ -62,79 +63,95 @@ bits_count start from to (modal ∷ modals) (monitor ∷ monitors) are =
     let rest = bits_count start (from + atom_count modal) to modals monitors are.1 in
     let own = are.0.entries in omega (arith, joined, rest, own)
 
-module _ (G : GroundTask) (weights : Weights) (frame : Frame) (names asked : List Name) (framed : IsFramed G names frame) (questions : asked ≡ names ++ question_names (wide_steps weights.by_name G.steps)) where
-  asked_count : length asked ≡ frame.first + length (question_names (wide_steps weights.by_name G.steps))
-  asked_count = ap length questions ∙ length-append names (question_names (wide_steps weights.by_name G.steps)) ∙ ap (λ n. n + length (question_names (wide_steps weights.by_name G.steps))) framed.counted
+module _ (G : GroundTask) (weights : Weights) (begun : BegunTarget) (is : IsBegun G weights begun) where
+  abbrev wide : List GroundStep
+  wide = wide_steps weights.by_name G.steps
 
-  module _ (all : List Name) (actions : List TargetAction) (steps : HasStepActions frame weights G.steps asked all actions) where
-    pub long_enough : frame.go + 2 ≤ length all
-    long_enough =
-        let a = asked_count in
-        let b = ap length steps.named ∙ length-append asked (current_names weights.by_name G.steps) in
-        let q = framed.is.questions in omega (arith, a, b, q)
+  names_count : length begun.names ≡ begun.frame.first + length (question_names wide) + length wide
+  names_count =
+      let all = ap length is.named ∙ length-append (first_names G begun.frame.go ++ question_names wide) (current_names weights.by_name G.steps) in
+      let front = length-append (first_names G begun.frame.go) (question_names wide) in
+      let currents = length-map wide current_name in
+      let counted = is.counted in omega (arith, all, front, currents, counted)
 
-    all_names : all ≡ atom_names G.atoms (frame.go - G.atoms) (length G.soft + 1) (wide_steps weights.by_name G.steps)
-    all_names =
-        let sources = all_numbered (codes "f") 0 G.atoms in
-        let watched = all_numbered (codes "m") 0 (frame.go - G.atoms) in
-        let chain = all_numbered (codes "e") 0 (length G.soft + 1) in
-        let wide = question_names (wide_steps weights.by_name G.steps) in
-        steps.named
-        ∙ ap (λ list. list ++ current_names weights.by_name G.steps) (questions ∙ ap (λ list. list ++ wide) framed.named)
-        ∙ append_assoc (first_names G frame.go) wide (current_names weights.by_name G.steps)
-        ∙ append_assoc sources (watched ++ (codes "go" ∷ chain)) (wide ++ current_names weights.by_name G.steps)
-        ∙ ap (λ list. sources ++ list) (append_assoc watched (codes "go" ∷ chain) (wide ++ current_names weights.by_name G.steps))
+  pub first_inside : begun.frame.first ≤ length begun.names
+  first_inside = let c = names_count in omega (arith, c)
 
-    -- ---- the whole
+  -- where some step is wide, the current atoms stand behind the question atoms
+  pub current_first : 0 < length wide → begun.current ≡ begun.frame.first + 201
+  current_first some = is.current_is ∙ by wide some
+    where
+      by : (steps : List GroundStep) → 0 < length steps → begun.frame.first + length (question_names steps) ≡ begun.frame.first + 201
+      by [] some = absurd (omega (arith, some))
+      by (step ∷ steps) some = ap (λ n. begun.frame.first + n) (length-map-range_with_len (numbered (codes "h")) 0 201)
 
-    module _ (phase : EndPhase) (ending : IsEnding G weights frame phase) where
-      abbrev pub made : Assembly
-      made = record {
-        monitors = frame.monitors;
-        go = frame.go;
-        first = frame.first;
-        last = frame.first + 201 + length (wide_steps weights.by_name G.steps);
-        actions = actions;
-        phase = phase;
-        finish = ending.finish;
-        instances = ending.instances;
-      }
+  pub currents_inside : begun.current + length wide ≤ length begun.names
+  currents_inside = let c = names_count in let f = is.current_is in omega (arith, c, f)
 
-      module _ (ready : IsReady G weights) (initial : State) (idle : ℕ) (rest : idle ≡ length all - frame.go - 1) (initial_is : initial ≡ initial_bits G.initial frame.monitors idle) where
-        bits_long : length initial ≡ length all
-        bits_long =
-            let own = flat_map (λ (monitor : Monitor). monitor.initial) frame.monitors in
-            let joined = ap length initial_is ∙ length-append G.initial (own ++ true ∷ replicate idle false) ∙ ap (λ n. length G.initial + n) (length-append own (true ∷ replicate idle false)) in
-            let idles = length-replicate idle false in
-            let watched = bits_count G.initial G.atoms frame.go (all_modals G) frame.monitors framed.is.monitors in
-            let enough = long_enough in let own_bits = ready.bits in omega (arith, joined, idles, watched, enough, own_bits, rest)
+  long_enough : begun.frame.go + 2 ≤ length begun.names
+  long_enough = let f = first_inside in let q = is.frame_is.questions in omega (arith, f, q)
 
-        pub assembled_is : G.step_count < 2 ^ 32 → length all < 2 ^ 64 → IsAssembled G weights (target_of all initial actions phase) made
-        assembled_is small room = record {
-          questions = framed.is.questions;
-          names = all_names;
-          room = room;
-          numbers = small;
-          monitors = framed.is.monitors;
-          idle = idle;
-          initial = initial_is;
-          bits = bits_long;
-          steps = steps.are;
-          actions = refl;
-          goal = refl;
-          accepts = ending.accepts;
-          finish = ending.below;
-          ends = ending.ends;
-          instances = ending.accept_below;
-          phase = ending.phase_is;
-        }
+  all_names : begun.names ≡ atom_names G.atoms (begun.frame.go - G.atoms) (length G.soft + 1) wide
+  all_names =
+      let sources = all_numbered (codes "f") 0 G.atoms in
+      let watched = all_numbered (codes "m") 0 (begun.frame.go - G.atoms) in
+      let chain = all_numbered (codes "e") 0 (length G.soft + 1) in
+      let currents = current_names weights.by_name G.steps in
+      is.named
+      ∙ append_assoc (first_names G begun.frame.go) (question_names wide) currents
+      ∙ append_assoc sources (watched ++ (codes "go" ∷ chain)) (question_names wide ++ currents)
+      ∙ ap (λ list. sources ++ list) (append_assoc watched (codes "go" ∷ chain) (question_names wide ++ currents))
 
-      atom_tidy : (atom : ℕ) → is_tidy (Atom atom) ≡ true
-      unfolding look
-      atom_tidy atom = refl
+  bits_long : IsReady G weights → length begun.initial ≡ length begun.names
+  bits_long ready =
+      let own = flat_map (λ (monitor : Monitor). monitor.initial) begun.frame.monitors in
+      let idle = length begun.names - begun.frame.go - 1 in
+      let joined = ap length is.initial_is ∙ length-append G.initial (own ++ true ∷ replicate idle false) ∙ ap (λ n. length G.initial + n) (length-append own (true ∷ replicate idle false)) in
+      let idles = length-replicate idle false in
+      let watched = bits_count G.initial G.atoms begun.frame.go (all_modals G) begun.frame.monitors is.frame_is.monitors in
+      let enough = long_enough in let own_bits = ready.bits in omega (arith, joined, idles, watched, enough, own_bits)
 
-      pub tidy_target : (initial : State) → HasTidyForms (target_of all initial actions phase)
-      tidy_target initial = record {
-        goal = ap is_tidy ending.phase_is.reached ∙ atom_tidy _;
-        actions = list_all-append is_tidy_action actions phase.actions ∙ and_from (list_all is_tidy_action actions) _ steps.tidy ending.tidy;
-      }
+  -- ---- the whole
+
+  module _ (actions : List TargetAction) (steps : HasStepActions begun.frame weights G.steps actions) where
+    abbrev pub made : Assembly
+    made = record {
+      monitors = begun.frame.monitors;
+      go = begun.frame.go;
+      first = begun.frame.first;
+      last = begun.frame.first + 201 + length wide;
+      actions = actions;
+      phase = begun.phase;
+      finish = is.ends.finish;
+      instances = is.ends.instances;
+    }
+
+    pub assembled_is : IsReady G weights → IsAssembled G weights (target_of begun.names begun.initial actions begun.phase) made
+    assembled_is ready = record {
+      questions = is.frame_is.questions;
+      names = all_names;
+      room = is.room;
+      numbers = is.steps;
+      monitors = is.frame_is.monitors;
+      idle = length begun.names - begun.frame.go - 1;
+      initial = is.initial_is;
+      bits = bits_long ready;
+      steps = steps.are;
+      actions = refl;
+      goal = refl;
+      accepts = is.ends.accepts;
+      finish = is.ends.below;
+      ends = is.ends.ends;
+      instances = is.ends.accept_below;
+      phase = is.ends.phase_is;
+    }
+
+    atom_tidy : (atom : ℕ) → is_tidy (Atom atom) ≡ true
+    unfolding look
+    atom_tidy atom = refl
+
+    pub tidy_target : HasTidyForms (target_of begun.names begun.initial actions begun.phase)
+    tidy_target = record {
+      goal = ap is_tidy is.ends.phase_is.reached ∙ atom_tidy _;
+      actions = list_all-append is_tidy_action actions begun.phase.actions ∙ and_from (list_all is_tidy_action actions) _ steps.tidy is.ends.tidy;
+    }

@@ -7,9 +7,11 @@ pub mod TidiedLists
 pub mod Touched
 pub mod UpdateLists
 pub mod EndLists
+pub mod WideSteps
 pub mod StepLists
 pub mod FrameLaws
 pub mod EndLaws
 pub mod AssembledLaws
+pub mod BegunLaws
 pub mod LeanLists
 pub mod LeanLaws

@@ -1,13 +1,12 @@
 -- The actions of one step, and of one step more.
-use Rattle.std.proofs.Common.{◌≡◌, ◌∙◌, ℕ, ◌+◌, ◌<◌, ◌==◌, nat_lt, Bool, true, false, not, ◌&&◌, ◌||◌, cond, List, [], ◌∷◌, ◌++◌, length, map, take, drop, get_or, refl, sym, ap, subst, arith, append_assoc, length-append}
+use Rattle.std.proofs.Common.{◌≡◌, ◌∙◌, ℕ, ◌+◌, ◌<◌, ◌≤◌, ◌==◌, nat_lt, Bool, true, false, not, ◌&&◌, ◌||◌, List, [], ◌∷◌, ◌++◌, length, map, take, drop, get_or, refl, sym, ap, subst, arith, append_assoc, length-append}
 use Rattle.std.specs.Prelude.{Contains, is_some, IfOk, OnOk, Result, Ok, Err}
-use Rattle.std.specs.List.{All, list_all, list_any, range_with_len}
+use Rattle.std.specs.List.{list_all, list_any, range_with_len}
 use Rattle.std.proofs.Math.Bool.{and-false}
 use Rattle.std.proofs.lemmas.Bool.{and_parts, and_from, ltb-true, ltb-false}
-use Rattle.std.proofs.lemmas.List.{append-nil, length-map, map-append, take-append-drop, take_more}
+use Rattle.std.proofs.lemmas.List.{append-nil, take-append-drop}
 use Rattle.std.proofs.lemmas.List.Elements.{All-append, All-nil, All-weaker, Contains-append_left, Contains-push, filter-append}
 use Rattle.std.proofs.lemmas.List.Folds.{list_all-append}
-use Rattle.p3_base.specs.Words.{Name}
 use Rattle.p3_formula.specs.Conditions.{width_limit, is_step_below, is_tidy_action}
 use Rattle.p3_formula.specs.Forms.{State, is_set, truth}
 use Rattle.p3_formula.specs.Next.{after}
@@ -22,15 +21,16 @@ use Rattle.p3_formula.specs.declared.task.GroundStep.{GroundStep}
 use Rattle.p3_precprefs.specs.Questions.{AreAnswers, IsChain}
 use Rattle.p3_monitors.specs.declared.watching.Monitor.{Monitor}
 use Rattle.p3_simulation.specs.Assembled.{AreOfStep, AreOfSteps, Costless, Narrow, Wide, NoSteps, OneStep, IsSplit}
-use Rattle.p3_simulation.specs.Naming.{current_name, is_wide, wide_steps}
+use Rattle.p3_simulation.specs.Naming.{is_wide, wide_steps}
 use Rattle.p3_simulation.specs.Parts.{AreBefore}
 use Rattle.p3_simulation.specs.Watching.{IsEffects}
 use Rattle.p3_compile.specs.Tidied.{AreTidied, NoChange, IsKept, IsLeftOut, NeverHappens, HasTidyConditions}
 use Rattle.p3_compile.specs.Lean.{IsOfSteps, IsStepAction}
 use Rattle.p3_compile.specs.Updated.{HasChanges}
-use Rattle.p3_compile.specs.Stepping.{HasActions, HasCurrentAtoms, HasPushed, HasStepActions, busy_in, current_names}
+use Rattle.p3_compile.specs.Stepping.{AreMade, HasActions, busy_in}
 use Rattle.p3_compile.specs.declared.stepping.Frame.{Frame}
 use Rattle.p3_compile.proofs.LeanLists.{copies_lean, chain_lean}
+use Rattle.p3_compile.proofs.WideSteps.{next_steps, wide_next, wide_one}
 
 -- ---- the changes of a step
 
@@ -106,41 +106,42 @@ module _ (frame : Frame) (weights : Weights) (step : GroundStep) where
   costs_wide : is_some step.cost ≡ true → (b : Bool) → nat_lt 8 (width_of weights.by_name step) ≡ b → is_wide weights.by_name step ≡ b
   costs_wide costs b many = (λ i. costs i && nat_lt 8 (width_of weights.by_name step)) ∙ many
 
-  wide_one : (b : Bool) → is_wide weights.by_name step ≡ b → wide_steps weights.by_name (step ∷ []) ≡ cond b (step ∷ []) []
-  wide_one b e = ap (λ b. cond b (step ∷ []) []) e
-
-  -- of a step that is not wide, no name is pushed
-  unnamed : (from : ℕ) (old : List Name) (actions : List TargetAction) → is_wide weights.by_name step ≡ false → AreOfStep frame.go frame.first weights frame.monitors from from step actions
+  -- a step that is not wide has no current atom
+  unnamed : (from : ℕ) (actions : List TargetAction) → is_wide weights.by_name step ≡ false → AreOfStep frame.go frame.first weights frame.monitors from from step actions
       → AreOfStep frame.go frame.first weights frame.monitors from (from + length (wide_steps weights.by_name (step ∷ []))) step actions
-  unnamed from old actions plain are = subst (λ n. AreOfStep frame.go frame.first weights frame.monitors from n step actions) (nothing from ∙ ap (λ list. from + length list) (sym (wide_one false plain))) are
+  unnamed from actions plain are = subst (λ n. AreOfStep frame.go frame.first weights frame.monitors from n step actions) (nothing from ∙ ap (λ list. from + length list) (sym (wide_one weights.by_name step false plain))) are
     where
       nothing : (n : ℕ) → n ≡ n + 0
       nothing n = omega arith
 
-  same_names : (old : List Name) → is_wide weights.by_name step ≡ false → old ≡ old ++ current_names weights.by_name (step ∷ [])
-  same_names old plain = sym (append-nil old) ∙ ap (λ list. old ++ map current_name list) (sym (wide_one false plain))
+  same_number : (old : ℕ) → is_wide weights.by_name step ≡ false → old ≡ old + length (wide_steps weights.by_name (step ∷ []))
+  same_number old plain = nothing old ∙ ap (λ list. old + length list) (sym (wide_one weights.by_name step false plain))
+    where
+      nothing : (n : ℕ) → n ≡ n + 0
+      nothing n = omega arith
 
-  pub costless : (old : List Name) → is_some step.cost ≡ false → HasActions frame weights step old old []
-  costless old none =
+  pub costless : (old : ℕ) (actions : List TargetAction) → actions ≡ [] → is_some step.cost ≡ false → HasActions frame weights step old old actions
+  costless old actions empty none =
       let plain : is_wide weights.by_name step ≡ false = λ i. none i && nat_lt 8 (width_of weights.by_name step) in
-      record { named = same_names old plain; are = λ from current. unnamed from old [] plain (Costless step none); tidy = refl; lean = All-nil (IsStepAction weights.by_name (busy_in frame step) step) }
+      subst (HasActions frame weights step old old) (sym empty)
+      (record { next = same_number old plain; are = λ from current. unnamed from [] plain (Costless step none); tidy = refl; lean = All-nil (IsStepAction weights.by_name (busy_in frame step) step) })
 
-  pub narrow : (old : List Name) (effects : List Change) (actions : List TargetAction) → is_some step.cost ≡ true → nat_lt 8 (width_of weights.by_name step) ≡ false → IsEffects frame.go frame.monitors step effects → HasChanges step.effects frame.monitors effects
+  pub narrow : (old : ℕ) (effects : List Change) (actions : List TargetAction) → is_some step.cost ≡ true → nat_lt 8 (width_of weights.by_name step) ≡ false → IsEffects frame.go frame.monitors step effects → HasChanges step.effects frame.monitors effects
       → IsSplit frame.go weights step effects actions → list_all is_tidy_action actions ≡ true → HasActions frame weights step old old actions
   narrow old effects actions costs few is has split tidy =
       let plain = costs_wide costs false few in
-      record { named = same_names old plain; are = λ from current. unnamed from old actions plain (Narrow step effects actions costs (ltb-false 8 (width_of weights.by_name step) few) is split); tidy = tidy; lean = copies_lean weights.by_name frame.monitors step effects has frame.go split.copies actions split.are }
+      record { next = same_number old plain; are = λ from current. unnamed from actions plain (Narrow step effects actions costs (ltb-false 8 (width_of weights.by_name step) few) is split); tidy = tidy; lean = copies_lean weights.by_name frame.monitors step effects has frame.go split.copies actions split.are }
 
-  pub wide : (old new : List Name) (effects : List Change) (actions : List TargetAction) → is_some step.cost ≡ true → nat_lt 8 (width_of weights.by_name step) ≡ true → IsEffects frame.go frame.monitors step effects → HasChanges step.effects frame.monitors effects
-      → new ≡ old ++ current_name step ∷ [] → IsChain frame.go frame.first (length old) weights step effects actions → list_all is_tidy_action actions ≡ true → HasActions frame weights step old new actions
-  wide old new effects actions costs many is has named chain tidy =
+  pub wide : (old new : ℕ) (effects : List Change) (actions : List TargetAction) → is_some step.cost ≡ true → nat_lt 8 (width_of weights.by_name step) ≡ true → IsEffects frame.go frame.monitors step effects → HasChanges step.effects frame.monitors effects
+      → new ≡ old + 1 → IsChain frame.go frame.first old weights step effects actions → list_all is_tidy_action actions ≡ true → HasActions frame weights step old new actions
+  wide old new effects actions costs many is has next chain tidy =
       let broad = costs_wide costs true many in
       record {
-        named = named ∙ ap (λ list. old ++ map current_name list) (sym (wide_one true broad));
-        are = λ from current. subst (λ n. AreOfStep frame.go frame.first weights frame.monitors from n step actions) (ap (λ list. from + length list) (sym (wide_one true broad)))
+        next = next ∙ ap (λ list. old + length list) (sym (wide_one weights.by_name step true broad));
+        are = λ from current. subst (λ n. AreOfStep frame.go frame.first weights frame.monitors from n step actions) (ap (λ list. from + length list) (sym (wide_one weights.by_name step true broad)))
             (Wide step effects actions costs (ltb-true 8 (width_of weights.by_name step) many) is (subst (λ n. IsChain frame.go frame.first n weights step effects actions) (sym (current broad)) chain));
         tidy = tidy;
-        lean = chain_lean weights.by_name frame.monitors step effects has many frame.go frame.first (length old) weights actions refl chain;
+        lean = chain_lean weights.by_name frame.monitors step effects has many frame.go frame.first old weights actions refl chain;
       }
 
 -- ---- one step more
@@ -154,61 +155,61 @@ steps_more go first weights monitors from mid next steps actions step own (OneSt
     (OneStep from between next other (others ++ step ∷ []) front (rest ++ own) is_other (steps_more go first weights monitors between mid next others rest step own more is))
 
 module _ (frame : Frame) (weights : Weights) (steps : List GroundStep) (index : ℕ) (step : GroundStep) (within : index < length steps) (at : step ≡ get_or steps index step) where
-  next_steps : take (index + 1) steps ≡ take index steps ++ step ∷ []
-  next_steps = take_more steps index step within ∙ ap (λ one. take index steps ++ one ∷ []) (sym at)
-
-  wide_next : wide_steps weights.by_name (take (index + 1) steps) ≡ wide_steps weights.by_name (take index steps) ++ wide_steps weights.by_name (step ∷ [])
-  wide_next = ap (wide_steps weights.by_name) next_steps ∙ filter-append (is_wide weights.by_name) (take index steps) (step ∷ [])
-
-  some_wide : is_wide weights.by_name step ≡ true → 0 < length (wide_steps weights.by_name steps)
-  some_wide broad =
+  -- a wide step is one of those of which some are left
+  wide_left : is_wide weights.by_name step ≡ true → length (wide_steps weights.by_name (take index steps)) < length (wide_steps weights.by_name steps)
+  wide_left broad =
       let whole = ap (λ list. length (wide_steps weights.by_name list)) (sym (take-append-drop (index + 1) steps))
       ∙ ap length (filter-append (is_wide weights.by_name) (take (index + 1) steps) (drop (index + 1) steps))
       ∙ length-append (wide_steps weights.by_name (take (index + 1) steps)) (wide_steps weights.by_name (drop (index + 1) steps)) in
-      let more = ap length wide_next ∙ length-append (wide_steps weights.by_name (take index steps)) (wide_steps weights.by_name (step ∷ [])) in
-      let one = ap length (wide_one frame weights step true broad) in
+      let more = ap length (wide_next steps index step within at weights.by_name) ∙ length-append (wide_steps weights.by_name (take index steps)) (wide_steps weights.by_name (step ∷ [])) in
+      let one = ap length (wide_one weights.by_name step true broad) in
       omega (arith, whole, more, one)
 
-  module _ (old mid : List Name) (actions : List TargetAction) (current : HasCurrentAtoms frame.first weights steps old) (has : HasStepActions frame weights (take index steps) old mid actions) where
-    named_count : is_wide weights.by_name step ≡ true → frame.first + 201 + length (wide_steps weights.by_name (take index steps)) ≡ length mid
-    named_count broad =
-        let first = current (some_wide broad) in
-        let count = ap length has.named ∙ length-append old (current_names weights.by_name (take index steps)) ∙ ap (λ n. length old + n) (length-map (wide_steps weights.by_name (take index steps)) current_name) in
-        omega (arith, first, count)
+  module _ (first current : ℕ) (actions : List TargetAction) (begins : 0 < length (wide_steps weights.by_name steps) → first ≡ frame.first + 201) (made : AreMade frame weights (take index steps) first current actions) where
+    current_is : is_wide weights.by_name step ≡ true → frame.first + 201 + length (wide_steps weights.by_name (take index steps)) ≡ current
+    current_is broad =
+        let left = wide_left broad in
+        let begin = begins (omega (arith, left)) in
+        let next = made.next in
+        omega (arith, begin, next)
 
-    -- the current atom of the next step stands behind the question atoms
-    pub current_room : is_wide weights.by_name step ≡ true → frame.first + width_limit < length mid
-    current_room broad = let count = named_count broad in omega (arith, count)
+    -- the current atom of the next step stands behind the question atoms, and is one of those of all steps
+    pub current_room : (size : ℕ) → first + length (wide_steps weights.by_name steps) ≤ size → is_wide weights.by_name step ≡ true → (frame.first + width_limit < current) × (current < size)
+    current_room size fits broad =
+        let count = current_is broad in let left = wide_left broad in let next = made.next in
+        (omega (arith, count), omega (arith, left, next, fits))
 
-    pub actions_next : (new : List Name) (after : List TargetAction) → HasPushed frame weights step mid new actions after → HasStepActions frame weights (take (index + 1) steps) old new after
-    actions_next new after pushed =
-        let counted : frame.first + 201 + length (wide_steps weights.by_name (take index steps)) + length (wide_steps weights.by_name (step ∷ [])) ≡ frame.first + 201 + length (wide_steps weights.by_name (take (index + 1) steps)) =
-        (let l = ap length wide_next ∙ length-append (wide_steps weights.by_name (take index steps)) (wide_steps weights.by_name (step ∷ [])) in omega (arith, l)) in
+    pub one_more : (new : ℕ) (own : List TargetAction) → HasActions frame weights step current new own → AreMade frame weights (take (index + 1) steps) first new (actions ++ own)
+    one_more new own has =
+        let more = ap length (wide_next steps index step within at weights.by_name) ∙ length-append (wide_steps weights.by_name (take index steps)) (wide_steps weights.by_name (step ∷ [])) in
+        let counted : frame.first + 201 + length (wide_steps weights.by_name (take index steps)) + length (wide_steps weights.by_name (step ∷ [])) ≡ frame.first + 201 + length (wide_steps weights.by_name (take (index + 1) steps)) = omega (arith, more) in
+        let passed = made.next in
+        let next = has.next in
         record {
-          named = pushed.has.named ∙ ap (λ list. list ++ current_names weights.by_name (step ∷ [])) has.named
-              ∙ append_assoc old (current_names weights.by_name (take index steps)) (current_names weights.by_name (step ∷ []))
-              ∙ ap (λ list. old ++ list) (sym (map-append current_name (wide_steps weights.by_name (take index steps)) (wide_steps weights.by_name (step ∷ []))) ∙ ap (map current_name) (sym wide_next));
-          are = subst (AreOfSteps frame.go frame.first weights frame.monitors (frame.first + 201) (frame.first + 201 + length (wide_steps weights.by_name (take (index + 1) steps))) (take (index + 1) steps)) (sym pushed.are)
-              (subst (λ list. AreOfSteps frame.go frame.first weights frame.monitors (frame.first + 201) (frame.first + 201 + length (wide_steps weights.by_name (take (index + 1) steps))) list (actions ++ pushed.actions)) (sym next_steps)
-              (subst (λ n. AreOfSteps frame.go frame.first weights frame.monitors (frame.first + 201) n (take index steps ++ step ∷ []) (actions ++ pushed.actions)) counted
-              (steps_more frame.go frame.first weights frame.monitors (frame.first + 201) (frame.first + 201 + length (wide_steps weights.by_name (take index steps))) _ (take index steps) actions step pushed.actions has.are
-              (pushed.has.are (frame.first + 201 + length (wide_steps weights.by_name (take index steps))) named_count))));
-          tidy = ap (list_all is_tidy_action) pushed.are ∙ list_all-append is_tidy_action actions pushed.actions ∙ and_from (list_all is_tidy_action actions) _ has.tidy pushed.has.tidy;
-          lean = subst (All (IsOfSteps weights.by_name (busy_in frame) (take (index + 1) steps))) (sym pushed.are)
-              (All-append (IsOfSteps weights.by_name (busy_in frame) (take (index + 1) steps)) actions pushed.actions
-              (All-weaker (IsOfSteps weights.by_name (busy_in frame) (take index steps)) (IsOfSteps weights.by_name (busy_in frame) (take (index + 1) steps))
-              (λ action of. record { step = of.step; own = subst (λ list. Contains list of.step) (sym next_steps) (Contains-append_left (take index steps) (step ∷ []) of.step of.own); is = of.is }) actions has.lean)
-              (All-weaker (IsStepAction weights.by_name (busy_in frame step) step) (IsOfSteps weights.by_name (busy_in frame) (take (index + 1) steps))
-              (λ action is. record { step = step; own = subst (λ list. Contains list step) (sym next_steps) (Contains-push (take index steps) step); is = is }) pushed.actions pushed.has.lean));
+          next = omega (arith, more, passed, next);
+          has = record {
+            are = subst (λ list. AreOfSteps frame.go frame.first weights frame.monitors (frame.first + 201) (frame.first + 201 + length (wide_steps weights.by_name (take (index + 1) steps))) list (actions ++ own)) (sym (next_steps steps index step within at))
+                (subst (λ n. AreOfSteps frame.go frame.first weights frame.monitors (frame.first + 201) n (take index steps ++ step ∷ []) (actions ++ own)) counted
+                (steps_more frame.go frame.first weights frame.monitors (frame.first + 201) (frame.first + 201 + length (wide_steps weights.by_name (take index steps))) _ (take index steps) actions step own made.has.are
+                (has.are (frame.first + 201 + length (wide_steps weights.by_name (take index steps))) current_is)));
+            tidy = list_all-append is_tidy_action actions own ∙ and_from (list_all is_tidy_action actions) _ made.has.tidy has.tidy;
+            lean = All-append (IsOfSteps weights.by_name (busy_in frame) (take (index + 1) steps)) actions own
+                (All-weaker (IsOfSteps weights.by_name (busy_in frame) (take index steps)) (IsOfSteps weights.by_name (busy_in frame) (take (index + 1) steps))
+                (λ action of. record { step = of.step; own = subst (λ list. Contains list of.step) (sym (next_steps steps index step within at)) (Contains-append_left (take index steps) (step ∷ []) of.step of.own); is = of.is }) actions made.has.lean)
+                (All-weaker (IsStepAction weights.by_name (busy_in frame step) step) (IsOfSteps weights.by_name (busy_in frame) (take (index + 1) steps))
+                (λ action is. record { step = step; own = subst (λ list. Contains list step) (sym (next_steps steps index step within at)) (Contains-push (take index steps) step); is = is }) own has.lean);
+          };
         }
 
-pub no_steps : (frame : Frame) (weights : Weights) (names : List Name) (actions : List TargetAction) → actions ≡ [] → HasStepActions frame weights [] names names actions
-no_steps frame weights names actions none = subst (HasStepActions frame weights [] names names) (sym none) (record {
-  named = sym (append-nil names);
-  are = subst (λ n. AreOfSteps frame.go frame.first weights frame.monitors (frame.first + 201) n [] []) (nothing (frame.first + 201)) (NoSteps (frame.first + 201));
-  tidy = refl;
-  lean = All-nil (IsOfSteps weights.by_name (busy_in frame) []);
-})
+pub no_steps : (frame : Frame) (weights : Weights) (first : ℕ) → AreMade frame weights [] first first []
+no_steps frame weights first = record {
+  next = nothing first;
+  has = record {
+    are = subst (λ n. AreOfSteps frame.go frame.first weights frame.monitors (frame.first + 201) n [] []) (nothing (frame.first + 201)) (NoSteps (frame.first + 201));
+    tidy = refl;
+    lean = All-nil (IsOfSteps weights.by_name (busy_in frame) []);
+  };
+}
   where
     nothing : (n : ℕ) → n ≡ n + 0
     nothing n = omega arith

@@ -4,8 +4,9 @@ use Rattle.std.specs.List.{list_all}
 use Rattle.std.specs.List.Sorted.{IsPermutation}
 use Rattle.p3_base.specs.Limits.{instance_limit}
 use Rattle.p3_base.specs.Words.{Name}
-use Rattle.p3_formula.specs.Conditions.{HasAtomsBelow, is_tidy_action}
+use Rattle.p3_formula.specs.Conditions.{HasAtomsBelow, HasTidyForms, is_tidy_action}
 use Rattle.p3_formula.specs.Forms.{State, truth, IsBelow}
+use Rattle.p3_formula.specs.Targets.{Compiled}
 use Rattle.p3_formula.specs.declared.form.Form.{Form}
 use Rattle.p3_formula.specs.declared.target.Target.{Target}
 use Rattle.p3_formula.specs.declared.target.TargetAction.{TargetAction}
@@ -14,9 +15,12 @@ use Rattle.p3_formula.specs.declared.task.GroundTask.{GroundTask}
 use Rattle.p3_simulation.specs.Ends.{AreBelow, IsEndPhase}
 use Rattle.p3_simulation.specs.declared.phase.EndPhase.{EndPhase}
 use Rattle.p3_simulation.specs.declared.phase.SoftEnd.{SoftEnd}
-use Rattle.p3_simulation.specs.Naming.{all_numbered}
-use Rattle.p3_simulation.specs.Watching.{AreMonitors, AreSoftEnds, all_accept, all_modals}
+use Rattle.p3_simulation.specs.Naming.{all_numbered, question_names, wide_steps}
+use Rattle.p3_simulation.specs.Watching.{AreMonitors, AreSoftEnds, all_accept, all_modals, initial_bits}
+use Rattle.p3_compile.specs.Lean.{IsLean}
 use Rattle.p3_compile.specs.Readers.{readers_from, IsRising}
+use Rattle.p3_compile.specs.Stepping.{current_names}
+use Rattle.p3_compile.specs.declared.begun.BegunTarget.{BegunTarget}
 use Rattle.p3_compile.specs.declared.stepping.Frame.{Frame}
 
 -- ---- the layout
@@ -59,6 +63,23 @@ pub record IsEnding (G : GroundTask) (weights : Weights) (frame : Frame) (phase 
 
 -- ---- the whole
 
+-- all of the target but the actions of the steps
+pub record IsBegun (G : GroundTask) (weights : Weights) (begun : BegunTarget) : Type 0 where
+  pub frame_is : IsFrameOf G begun.frame
+  pub named : begun.names ≡ first_names G begun.frame.go ++ question_names (wide_steps weights.by_name G.steps) ++ current_names weights.by_name G.steps
+  pub counted : length (first_names G begun.frame.go) ≡ begun.frame.first
+  pub current_is : begun.current ≡ begun.frame.first + length (question_names (wide_steps weights.by_name G.steps))
+  pub initial_is : begun.initial ≡ initial_bits G.initial begun.frame.monitors (length begun.names - begun.frame.go - 1)
+  pub ends : IsEnding G weights begun.frame begun.phase
+  pub room : length begun.names < 2 ^ 64
+  pub steps : G.step_count < 2 ^ 32
+
 -- the actions of the steps, and behind them those of the end phase
 abbrev pub target_of : List Name → State → List TargetAction → EndPhase → Target
 target_of names initial actions phase = record { predicates = names; initial = initial; actions = actions ++ phase.actions; goal = phase.goal }
+
+-- what is promised of the target to which a task is compiled
+pub record IsCompiledTo (G : GroundTask) (weights : Weights) (X : Target) : Type 0 where
+  pub compiled : Compiled G weights X
+  pub tidy : HasTidyForms X
+  pub lean : IsLean G weights X

@@ -1,10 +1,12 @@
 //! The ground compiler: from a ground task and its weights to a plain target.
 #![tactic(auto)]
 
+mod begun;
 mod bits;
 mod changes;
 mod compiling;
 mod ending;
+mod laws;
 mod names;
 mod narrow;
 mod reading;
@@ -13,4 +15,6 @@ mod touching;
 mod watching;
 mod weighing;
 
+pub use begun::BegunTarget;
 pub use compiling::compile;
+pub use laws::begun_targets_are_compiled;

@@ -1,22 +1,21 @@
 //! The actions of the steps.
 
-ghost use Rattle.std.specs.Prelude.{◌≡◌, ◌++◌, ◌<◌, ◌+◌, [], ◌∷◌, length, IfOk, OnOk, IsSome, IsTrue, true};
+ghost use Rattle.std.specs.Prelude.{◌≡◌, ◌++◌, ◌<◌, ◌+◌, ◌^◌, length, IfOk, OnOk, IsSome, IsTrue, true};
 ghost use Rattle.std.specs.List.{All, list_all, list_any};
 ghost use Rattle.p3_formula.specs.Conditions.{is_tidy_action, width_limit};
 ghost use Rattle.p3_formula.specs.Weighted.{AreNamedBelow, width_of};
 ghost use Rattle.p3_formula.specs.Targets.{is_sized_change};
 ghost use Rattle.p3_formula.specs.declared.task.GroundStep.{GroundStep};
 ghost use Rattle.p3_precprefs.specs.Questions.{IsChain};
-ghost use Rattle.p3_simulation.specs.Naming.{current_name, is_wide};
-ghost use Rattle.p3_compile.specs.Stepping.{IsFrame, IsStepReady, HasActions, HasPushed, HasStepActions, HasCurrentAtoms};
+ghost use Rattle.p3_simulation.specs.Naming.{is_wide};
+ghost use Rattle.p3_compile.specs.Stepping.{IsFrame, IsStepReady, HasActions, HasRoom};
 ghost use Rattle.p3_compile.specs.Tidied.{HasTidyConditions};
 
 use crate::changes::step_changes;
-use crate::names::numbered;
 use crate::narrow::narrow_actions;
 use crate::reading::Reader;
-use crate::weighing::has_many_weights;
-use p3_base::{List, Name, NoMemory};
+use crate::weighing::{has_many_weights, is_wide};
+use p3_base::{List, NoMemory};
 use p3_formula::{Effects, GroundStep, TargetAction, Weights};
 use p3_monitors::Monitor;
 use p3_precprefs::ask;
@@ -42,17 +41,18 @@ pub(crate) fn has_wide(by_name: &List<u64>, steps: &[GroundStep]) -> bool
     ensures { result ≡ list_any (is_wide by_name.now) steps.now }
 {
     for step in steps {
-        if step.cost.is_some() && has_many_weights(by_name, step) {
+        if is_wide(by_name, step) {
             return true;
         }
     }
     false
 }
 
-/// The chain of a wide step. Its current atom stands behind the atoms that have a name so far.
+/// The chain of a wide step, whose own current atom is that one. The next one is that of the next
+/// wide step.
 fn chain_actions(
     alloc: Global,
-    names: &mut List<Name>,
+    current: &mut usize,
     frame: &Frame,
     weights: &Weights,
     step: &GroundStep,
@@ -63,30 +63,23 @@ fn chain_actions(
     requires wide { 8 < width_of weights.now.by_name step.now }
     requires effects { list_all (is_sized_change frame.now.go) effects.now ≡ true }
     requires questions { frame.now.go < frame.now.first }
-    requires room { frame.now.first + width_limit < length names.old }
-    ensures named { OnOk result (names.new ≡ names.old ++ current_name step.now ∷ []) }
-    ensures chain { IfOk result (IsChain frame.now.go frame.now.first (length names.old)
+    requires room { frame.now.first + width_limit < current.old }
+    requires small { current.old + 1 < 2 ^ 64 }
+    ensures next { OnOk result (current.new ≡ current.old + 1) }
+    ensures chain { IfOk result (IsChain frame.now.go frame.now.first current.old
         weights.now step.now effects.now) }
     ensures tidy { HasTidyConditions effects.now
         → IfOk result (λ actions. IsTrue (list_all is_tidy_action actions)) }
 {
-    let current = names.len();
-    names.push(numbered(alloc, "c", step.number as usize)?)?;
-    ask(
-        alloc,
-        step,
-        effects,
-        weights,
-        frame.go,
-        frame.first,
-        current,
-    )
+    let own = *current;
+    *current += 1;
+    ask(alloc, step, effects, weights, frame.go, frame.first, own)
 }
 
 /// The actions of a step that has a cost.
 fn costed_actions(
     alloc: Global,
-    names: &mut List<Name>,
+    current: &mut usize,
     frame: &Frame,
     weights: &Weights,
     step: &GroundStep,
@@ -94,13 +87,12 @@ fn costed_actions(
     requires frame { IsFrame frame.now }
     requires ready { IsStepReady frame.now weights.now step.now }
     requires cost { IsSome step.now.cost }
-    requires room { is_wide weights.now.by_name step.now ≡ true
-        → frame.now.first + width_limit < length names.old }
-    ensures { IfOk result (HasActions frame.now weights.now step.now names.old names.new) }
+    requires room { HasRoom frame.now weights.now step.now current.old }
+    ensures { IfOk result (HasActions frame.now weights.now step.now current.old current.new) }
 {
     let effects = step_changes(alloc, frame.monitors.items(), &frame.readers, &step.effects)?;
     if has_many_weights(&weights.by_name, step) {
-        return chain_actions(alloc, names, frame, weights, step, &effects);
+        return chain_actions(alloc, current, frame, weights, step, &effects);
     }
     narrow_actions(alloc, step, effects, weights, frame.go)
 }
@@ -118,45 +110,21 @@ pub(crate) fn push_all(
     Ok(())
 }
 
-/// The actions of a step stand behind those of the others. A step without a cost has none.
-fn push_step(
+/// The actions of a step. Without a cost it has none.
+pub(crate) fn step_actions(
     alloc: Global,
-    names: &mut List<Name>,
-    actions: &mut List<TargetAction>,
+    current: &mut usize,
     frame: &Frame,
     weights: &Weights,
     step: &GroundStep,
-) -> Result<(), NoMemory>
-    requires frame { IsFrame frame.now }
-    requires ready { IsStepReady frame.now weights.now step.now }
-    requires room { is_wide weights.now.by_name step.now ≡ true
-        → frame.now.first + width_limit < length names.old }
-    ensures { OnOk result (HasPushed frame.now weights.now step.now names.old names.new
-        actions.old actions.new) }
-{
-    if step.cost.is_some() {
-        let own = costed_actions(alloc, names, frame, weights, step)?;
-        push_all(actions, own)?;
-    }
-    Ok(())
-}
-
-/// The actions of all steps, and the names of the current atoms of those that are wide.
-pub(crate) fn steps_actions(
-    alloc: Global,
-    names: &mut List<Name>,
-    frame: &Frame,
-    weights: &Weights,
-    steps: &[GroundStep],
 ) -> Result<List<TargetAction>, NoMemory>
     requires frame { IsFrame frame.now }
-    requires ready { All (IsStepReady frame.now weights.now) steps.now }
-    requires current { HasCurrentAtoms frame.now.first weights.now steps.now names.old }
-    ensures { IfOk result (HasStepActions frame.now weights.now steps.now names.old names.new) }
+    requires ready { IsStepReady frame.now weights.now step.now }
+    requires room { HasRoom frame.now weights.now step.now current.old }
+    ensures { IfOk result (HasActions frame.now weights.now step.now current.old current.new) }
 {
-    let mut actions = List::new(alloc);
-    for step in steps {
-        push_step(alloc, names, &mut actions, frame, weights, step)?;
+    if step.cost.is_some() {
+        return costed_actions(alloc, current, frame, weights, step);
     }
-    Ok(actions)
+    Ok(List::new(alloc))
 }

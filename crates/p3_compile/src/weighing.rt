@@ -2,6 +2,7 @@
 
 ghost use Rattle.std.specs.Prelude.{◌≡◌, length, nat_lt};
 ghost use Rattle.p3_formula.specs.Weighted as weigh;
+ghost use Rattle.p3_simulation.specs.Naming.{is_wide};
 
 use p3_base::List;
 use p3_formula::GroundStep;
@@ -37,4 +38,12 @@ pub(crate) fn has_many_weights(by_name: &List<u64>, step: &GroundStep) -> bool
     ensures { result ≡ nat_lt 8 (weigh.width_of by_name.now step.now) }
 {
     width(by_name, step) > 8
+}
+
+/// Whether the step may be taken and has more than 8 preferences with a weight.
+pub(crate) fn is_wide(by_name: &List<u64>, step: &GroundStep) -> bool
+    requires { weigh.AreNamedBelow (length by_name.now) step.now.prefs }
+    ensures { result ≡ is_wide by_name.now step.now }
+{
+    step.cost.is_some() && has_many_weights(by_name, step)
 }

@@ -2,14 +2,17 @@
 use Rattle.std.proofs.Common.{◌≡◌, ◌∙◌, ℕ, ◌+◌, ◌<◌, Bool, false, List, [], ◌∷◌, ◌++◌, length, drop, get_or, refl, sym, ap, add-one, append_assoc}
 use Rattle.std.specs.Prelude.{codes, slice_index_or}
 use Rattle.std.proofs.Math.Seq.{drop-cons}
+use Rattle.std.proofs.lemmas.List.Concat.{flat_map-append}
 use denote.Hole.Carrier.{hidden}
 use Rattle.p3_base.specs.Words.{Name}
 use Rattle.p3_formula.specs.declared.form.Form.{Form}
 use Rattle.p3_formula.specs.declared.form.Form.TheBlock.{hidden-the_row-Form-0}
 use Rattle.p3_formula.specs.declared.form.Form.TheVariants.{True, False, Atom, Not, And, Or}
 use Rattle.p3_formula.proofs.FormLemmas.{fold_parts}
+use Rattle.p3_formula.specs.declared.target.TargetAction.{TargetAction}
 use Rattle.p3_writer.specs.AtomTexts.{action_start}
-use Rattle.p3_writer.specs.Layout.{atom_text, negated_text, spaced, form_layer, form_text, joined_text, action_head, set_atom, set_atoms}
+use Rattle.p3_writer.specs.DomainText.{BegunDomain, with_actions}
+use Rattle.p3_writer.specs.Layout.{atom_text, negated_text, spaced, form_layer, form_text, joined_text, action_head, action_text, actions_text, set_atom, set_atoms}
 
 module _ (names : List Name) where
   pub form_text-True : form_text names True ≡ codes "(and)"
@@ -56,6 +59,12 @@ pub action_begun : (old name text : List ℕ) → (old ++ action_start name) ++ 
 action_begun old name text =
     append_assoc old (action_start name) (32 ∷ text)
     ∙ ap (λ rest. old ++ rest) (append_assoc (codes "(:action " ++ name) (codes " :parameters ()\n :precondition") (32 ∷ text) ∙ sym (append_assoc (codes "(:action " ++ name) (codes " :parameters ()\n :precondition ") text))
+
+-- some actions, and others behind them
+pub with_more : (begun : BegunDomain) (first more : List TargetAction) → with_actions (with_actions begun first) more ≡ with_actions begun (first ++ more)
+with_more begun first more =
+    let text = append_assoc begun.text (actions_text begun.names first) (actions_text begun.names more) ∙ ap (λ behind. begun.text ++ behind) (sym (flat_map-append (action_text begun.names) first more)) in
+    λ i. record { names = begun.names; text = text i }
 
 pub set_atoms_from : (bits : List Bool) (names : List Name) (atom : ℕ) (bit : Bool) (name : Name) → atom < length bits → atom < length names
     → bit ≡ get_or bits atom false → name ≡ get_or names atom name

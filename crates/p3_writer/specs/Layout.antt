@@ -82,10 +82,14 @@ is_small action = nat_lt action.cost (2 ^ 64)
 
 -- ---- halves
 
+-- what stands before the first action of a domain
+abbrev pub domain_head : List Name → List ℕ
+domain_head names =
+    codes "(define (domain compiled)\n(:requirements :adl :action-costs)\n(:predicates" ++ headers_text names
+    ++ codes ")\n(:functions (total-cost) - number)\n"
+
 abbrev pub domain_layout : Target → List ℕ
-domain_layout X =
-    codes "(define (domain compiled)\n(:requirements :adl :action-costs)\n(:predicates" ++ headers_text X.predicates
-    ++ codes ")\n(:functions (total-cost) - number)\n" ++ actions_text X.predicates X.actions ++ codes ")\n"
+domain_layout X = domain_head X.predicates ++ actions_text X.predicates X.actions ++ codes ")\n"
 
 -- an atom of the initial state, where it is set
 abbrev pub set_atom : Bool → Name → List ℕ
@@ -96,7 +100,11 @@ set_atom false name = []
 abbrev pub set_atoms : List Bool → List Name → List ℕ
 set_atoms bits names = flat_map (λ (entry : Bool × Name). set_atom entry.0 entry.1) (zip bits names)
 
+-- the problem with this initial state and goal over these predicates
+abbrev pub problem_text : List Name → List Bool → Form → List ℕ
+problem_text names bits goal =
+    codes "(define (problem compiled)\n(:domain compiled)\n(:init (= (total-cost) 0)" ++ set_atoms bits names
+    ++ codes ")\n(:goal " ++ form_text names goal ++ codes ")\n(:metric minimize (total-cost)))\n"
+
 abbrev pub problem_layout : Target → List ℕ
-problem_layout X =
-    codes "(define (problem compiled)\n(:domain compiled)\n(:init (= (total-cost) 0)" ++ set_atoms X.initial X.predicates
-    ++ codes ")\n(:goal " ++ form_text X.predicates X.goal ++ codes ")\n(:metric minimize (total-cost)))\n"
+problem_layout X = problem_text X.predicates X.initial X.goal

@@ -1,4 +1,5 @@
 pub mod AtomTexts
+pub mod DomainText
 pub mod Layout
 pub mod Pieces
 pub mod TaskOf

@@ -1,43 +1,22 @@
-//! The two texts of a target, each in one buffer.
+//! The parts of a target's texts, and the text of its problem half.
 
 ghost use Rattle.std.specs.Prelude.{◌≡◌, ◌∷◌, ◌++◌, ◌<◌, ◌^◌, [], length, slice_index_or, IsTrue, IfOk, OnOk};
 ghost use Rattle.std.specs.List.{list_all};
 ghost use Rattle.std.specs.Fmt.{decimal};
 ghost use Rattle.p3_base.specs.Words.{is_name, is_predicate_name};
 ghost use Rattle.p3_formula.specs.Forms.{IsBelow, AreBelow};
+ghost use Rattle.p3_formula.specs.declared.target.Target.{Target};
 ghost use Rattle.p3_formula.specs.Targets.{IsSized, action_names, is_sized_change, is_sized_action};
-ghost use Rattle.p3_writer.specs.Layout.{atom_text, negated_text, form_text, joined_text, literal_text, change_text, changes_text, cost_text, effect_text, action_text, actions_text, is_small, set_atom, set_atoms, domain_layout, problem_layout};
+ghost use Rattle.p3_writer.specs.Layout.{atom_text, negated_text, form_text, joined_text, literal_text, change_text, changes_text, cost_text, effect_text, action_text, actions_text, is_small, set_atom, set_atoms, problem_layout, problem_text};
 ghost use Rattle.p3_writer.specs.AtomTexts.{action_start};
 ghost use Rattle.p3_writer.specs.TaskOf.{task_of};
-ghost use Rattle.p3_writer.specs.Texts.{AreSpelled, IsDomainTextOf, IsProblemTextOf};
+ghost use Rattle.p3_writer.specs.Texts.{AreSpelled, CanBeWritten, HasProblem, IsProblemTextOf};
 
 use crate::atom_texts::{AtomTexts, push_atom};
 use itoa::Buffer;
 use p3_base::{Name, NoMemory};
 use p3_formula::{Bits, Change, Form, Target, TargetAction};
 use std::alloc::Global;
-
-/// The text of the domain half of the target's task.
-pub fn write_domain(alloc: Global, target: &Target) -> Result<Vec<u8>, NoMemory>
-    requires sized { IsSized target.now }
-    requires predicates { IsTrue (list_all is_predicate_name target.now.predicates) }
-    requires actions { IsTrue (list_all is_name (action_names target.now)) }
-    requires spelled { AreSpelled (target.now.predicates ++ action_names target.now) }
-    ensures layout { IfOk result (λ text. text.items ≡ domain_layout target.now) }
-    ensures text { IfOk result (λ text. IsDomainTextOf text.items (task_of target.now).domain) }
-{
-    let mut out = Vec::new(alloc);
-    push(
-        &mut out,
-        "(define (domain compiled)\n(:requirements :adl :action-costs)\n(:predicates",
-    )?;
-    let atoms = AtomTexts::of(alloc, target.predicates.items())?;
-    push_bytes(&mut out, atoms.all())?;
-    push(&mut out, ")\n(:functions (total-cost) - number)\n")?;
-    push_actions(&mut out, &atoms, target.actions.items())?;
-    push(&mut out, ")\n")?;
-    Ok(out)
-}
 
 /// The text of the problem half of the target's task.
 pub fn write_problem(alloc: Global, target: &Target) -> Result<Vec<u8>, NoMemory>
@@ -48,27 +27,50 @@ pub fn write_problem(alloc: Global, target: &Target) -> Result<Vec<u8>, NoMemory
     ensures layout { IfOk result (λ text. text.items ≡ problem_layout target.now) }
     ensures text { IfOk result (λ text. IsProblemTextOf text.items (task_of target.now).problem) }
 {
+    write_problem_of(
+        alloc,
+        target.predicates.items(),
+        &target.initial,
+        &target.goal,
+    )
+}
+
+/// The text of the problem half of the task of each target that has these predicates, this initial
+/// state and this goal.
+pub fn write_problem_of(
+    alloc: Global,
+    names: &[Name],
+    initial: &Bits,
+    goal: &Form,
+) -> Result<Vec<u8>, NoMemory>
+    requires bits { length initial.now ≡ length names.now }
+    requires goal { IsBelow (length names.now) goal.now }
+    ensures layout { IfOk result (λ text.
+        text.items ≡ problem_text names.now initial.now goal.now) }
+    ensures text { (X : Target) → HasProblem X names.now initial.now goal.now → CanBeWritten X
+        → IfOk result (λ text. IsProblemTextOf text.items (task_of X).problem) }
+{
     let mut out = Vec::new(alloc);
     push(
         &mut out,
         "(define (problem compiled)\n(:domain compiled)\n(:init (= (total-cost) 0)",
     )?;
-    push_set_atoms(&mut out, &target.initial, target.predicates.items())?;
+    push_set_atoms(&mut out, initial, names)?;
     push(&mut out, ")\n(:goal")?;
-    let atoms = AtomTexts::of(alloc, target.predicates.items())?;
-    push_form(&mut out, &atoms, &target.goal)?;
+    let atoms = AtomTexts::of(alloc, names)?;
+    push_form(&mut out, &atoms, goal)?;
     push(&mut out, ")\n(:metric minimize (total-cost)))\n")?;
     Ok(out)
 }
 
-fn push(out: &mut Vec<u8>, text: &str) -> Result<(), NoMemory>
+pub(crate) fn push(out: &mut Vec<u8>, text: &str) -> Result<(), NoMemory>
     ensures { OnOk result (out.new.items ≡ out.old.items ++ text.now) }
 {
     out.extend_from_slice(text.as_bytes())?;
     Ok(())
 }
 
-fn push_bytes(out: &mut Vec<u8>, bytes: &[u8]) -> Result<(), NoMemory>
+pub(crate) fn push_bytes(out: &mut Vec<u8>, bytes: &[u8]) -> Result<(), NoMemory>
     ensures { OnOk result (out.new.items ≡ out.old.items ++ bytes.now) }
 {
     out.extend_from_slice(bytes)?;
@@ -237,7 +239,7 @@ fn push_effect(
     push(out, ")")
 }
 
-fn push_actions(
+pub(crate) fn push_actions(
     out: &mut Vec<u8>,
     atoms: &AtomTexts<'_>,
     actions: &[TargetAction],

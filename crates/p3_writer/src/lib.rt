@@ -2,14 +2,16 @@
 #![tactic(auto)]
 
 mod atom_texts;
-mod domain;
+mod domain_text;
 mod laws;
 mod layout;
 mod piece;
-mod plan;
-mod problem;
 mod sample;
+mod sample_domain;
+mod sample_plan;
+mod sample_problem;
 
+pub use domain_text::{DomainText, write_domain};
 pub use laws::{targets_are_their_tasks, unconditional_targets_are_unconditional_tasks};
-pub use layout::{write_domain, write_problem};
+pub use layout::{write_problem, write_problem_of};
 pub use sample::{Sample, generate};

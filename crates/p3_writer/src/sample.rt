@@ -6,9 +6,9 @@ ghost use Rattle.p3_tree.specs.Commands.{sample_limit};
 ghost use Rattle.p3_tree.specs.Samples.{sample_domain, sample_problem, sample_plan};
 ghost use Rattle.p3_tree.specs.Sides.{byte_limit, plan_byte_limit};
 
-use crate::domain::domain_text;
-use crate::plan::plan_text;
-use crate::problem::problem_text;
+use crate::sample_domain::domain_text;
+use crate::sample_plan::plan_text;
+use crate::sample_problem::problem_text;
 use p3_base::{List, NoMemory};
 use std::alloc::Global;
 

@@ -12,12 +12,12 @@ pub returns-then-has_many_weights : goal.returns-then-has_many_weights
 returns-then-has_many_weights c =
     let has = subst (λ monitors. HasChanges c.args.step.now.effects monitors c.in_ok-effects.effects) c.items.ensures c.in_ok-effects.ensures in
     let is = is_effects c.args.frame.now.go c.args.frame.now.monitors c.args.step.now c.requires.frame.before (changed_below c.args.frame.now.go c.args.step.now c.requires.ready.below) c.in_ok-effects.effects has in
-    both_known c.chain_actions.result c.chain_actions.ensures.chain (c.chain_actions.ensures.tidy (tidied_tidy _ c.in_ok-effects.effects has.same)) c.chain_actions.ensures.named
-    (λ actions chain tidy named. wide c.args.frame.now c.args.weights.now c.args.step.now c.args.names.now c.chain_actions.new.names c.in_ok-effects.effects actions c.requires.cost (sym c.has_many_weights.ensures ∙ c.if-has_many_weights.true) is has named chain tidy)
+    both_known c.chain_actions.result c.chain_actions.ensures.chain (c.chain_actions.ensures.tidy (tidied_tidy _ c.in_ok-effects.effects has.same)) c.chain_actions.ensures.next
+    (λ actions chain tidy next. wide c.args.frame.now c.args.weights.now c.args.step.now c.args.current.now c.chain_actions.new.current c.in_ok-effects.effects actions c.requires.cost (sym c.has_many_weights.ensures ∙ c.if-has_many_weights.true) is has next chain tidy)
 
 pub returns : goal.returns
 returns c =
     let has = subst (λ monitors. HasChanges c.args.step.now.effects monitors c.in_ok-effects.effects) c.items.ensures c.in_ok-effects.ensures in
     let is = is_effects c.args.frame.now.go c.args.frame.now.monitors c.args.step.now c.requires.frame.before (changed_below c.args.frame.now.go c.args.step.now c.requires.ready.below) c.in_ok-effects.effects has in
     both_of c.narrow_actions.result c.narrow_actions.ensures.split (c.narrow_actions.ensures.tidy (tidied_tidy _ c.in_ok-effects.effects has.same))
-    (λ actions split tidy. narrow c.args.frame.now c.args.weights.now c.args.step.now c.args.names.now c.in_ok-effects.effects actions c.requires.cost (sym c.has_many_weights.ensures ∙ c.if-has_many_weights.false) is has split tidy)
+    (λ actions split tidy. narrow c.args.frame.now c.args.weights.now c.args.step.now c.args.current.now c.in_ok-effects.effects actions c.requires.cost (sym c.has_many_weights.ensures ∙ c.if-has_many_weights.false) is has split tidy)

@@ -1,0 +1,272 @@
+//! A target whose steps have no actions yet.
+
+ghost use Rattle.std.specs.Prelude.{◌≡◌, ◌<◌, ◌+◌, ◌^◌, ◌∷◌, ◌++◌, [], length, codes, IfOk, OnOk};
+ghost use Rattle.p3_formula.specs.Conditions.{IsReady};
+ghost use Rattle.std.specs.List.{All};
+ghost use Rattle.p3_formula.specs.Weighted.{AreNamedBelow};
+ghost use Rattle.p3_formula.specs.declared.task.GroundStep.{GroundStep};
+ghost use Rattle.p3_simulation.specs.Naming.{question_names, wide_steps};
+ghost use Rattle.p3_compile.specs.Compiling.{IsReadyTask, IsFrameOf, IsFramed, IsEnding, IsBegun, target_of};
+ghost use Rattle.p3_compile.specs.Stepping.{current_names, IsNextStep, HasNextActions};
+
+use crate::bits::initial_bits;
+use crate::ending::{finish_form, soft_ends};
+use crate::names::{numbered, push_numbered};
+use crate::reading::readers;
+use crate::stepping::{Frame, has_wide, push_all, step_actions};
+use crate::watching::monitors;
+use crate::weighing::is_wide;
+use p3_base::{List, Name, NoMemory};
+use p3_formula::{Bits, Form, GroundStep, GroundTask, Target, TargetAction, Weights};
+use p3_simulation::{EndPhase, end_phase};
+use std::alloc::Global;
+
+/// A target whose steps have no actions yet: its atoms, its initial state, and its end phase.
+#[derive(Drop)]
+pub struct BegunTarget {
+    names: List<Name>,
+    initial: Bits,
+    frame: Frame,
+    /// The first current atom.
+    current: usize,
+    phase: EndPhase,
+}
+
+/// The name of the running atom.
+fn running_name(alloc: Global) -> Result<Name, NoMemory>
+    ensures { IfOk result (λ name. name ≡ codes "go") }
+{
+    Name::of(alloc, b"go".as_slice())
+}
+
+/// Names the atoms of the task, those of its monitors, the running atom and those of the end phase,
+/// in this order, and finds which monitors read an atom.
+fn framed(alloc: Global, names: &mut List<Name>, task: &GroundTask) -> Result<Frame, NoMemory>
+    requires ready { IsReadyTask task.now }
+    requires new { names.old ≡ [] }
+    ensures { IfOk result (IsFramed task.now names.new) }
+{
+    push_numbered(alloc, names, "f", 0, task.atoms)?;
+    let monitors = monitors(alloc, names, task)?;
+    let readers = readers(alloc, monitors.items())?;
+    let go = names.len();
+    names.push(running_name(alloc)?)?;
+    let chain = names.len();
+    push_numbered(alloc, names, "e", chain, task.soft.len() + 1)?;
+    let first = names.len();
+    Ok(Frame {
+        monitors,
+        readers,
+        go,
+        first,
+    })
+}
+
+/// The end phase.
+fn ending(
+    alloc: Global,
+    frame: &Frame,
+    task: &GroundTask,
+    weights: &Weights,
+) -> Result<EndPhase, NoMemory>
+    requires ready { IsReady task.now weights.now }
+    requires framed { IsFrameOf task.now frame.now }
+    ensures { IfOk result (IsEnding task.now weights.now frame.now) }
+{
+    let (hard, soft) = frame.monitors.items().split_at(task.hard.len());
+    let finish = finish_form(alloc, &task.goal, hard)?;
+    let instances = soft_ends(alloc, &weights.by_name, &task.soft, soft)?;
+    end_phase(alloc, &finish, &instances, frame.go)
+}
+
+/// Names the question atoms, where some step is wide.
+fn push_questions(
+    alloc: Global,
+    names: &mut List<Name>,
+    task: &GroundTask,
+    weights: &Weights,
+) -> Result<(), NoMemory>
+    requires { All (λ (step : GroundStep). AreNamedBelow (length weights.now.by_name) step.prefs)
+        task.now.steps }
+    ensures { OnOk result (names.new
+        ≡ names.old ++ question_names (wide_steps weights.now.by_name task.now.steps)) }
+{
+    let first = names.len();
+    if has_wide(&weights.by_name, task.steps.items()) {
+        push_numbered(alloc, names, "h", first, 201)?;
+    }
+    Ok(())
+}
+
+/// Names the current atoms of the wide steps.
+fn push_currents(
+    alloc: Global,
+    names: &mut List<Name>,
+    by_name: &List<u64>,
+    steps: &[GroundStep],
+) -> Result<(), NoMemory>
+    requires { All (λ (step : GroundStep). AreNamedBelow (length by_name.now) step.prefs)
+        steps.now }
+    ensures { OnOk result (names.new ≡ names.old ++ current_names by_name.now steps.now) }
+{
+    for step in steps {
+        push_current(alloc, names, by_name, step)?;
+    }
+    Ok(())
+}
+
+/// Names the current atom of a step, where it is wide.
+fn push_current(
+    alloc: Global,
+    names: &mut List<Name>,
+    by_name: &List<u64>,
+    step: &GroundStep,
+) -> Result<(), NoMemory>
+    requires { AreNamedBelow (length by_name.now) step.now.prefs }
+    ensures { OnOk result (names.new ≡ names.old ++ current_names by_name.now (step.now ∷ [])) }
+{
+    if is_wide(by_name, step) {
+        names.push(numbered(alloc, "c", step.number as usize)?)?;
+    }
+    Ok(())
+}
+
+/// Names the atoms of wide steps: those of questions, and behind them the current atoms, of which
+/// it finds the first.
+fn push_asked(
+    alloc: Global,
+    names: &mut List<Name>,
+    task: &GroundTask,
+    weights: &Weights,
+) -> Result<usize, NoMemory>
+    requires { All (λ (step : GroundStep). AreNamedBelow (length weights.now.by_name) step.prefs)
+        task.now.steps }
+    ensures named { OnOk result (names.new ≡ names.old
+        ++ question_names (wide_steps weights.now.by_name task.now.steps)
+        ++ current_names weights.now.by_name task.now.steps) }
+    ensures first { IfOk result (λ current. current ≡ length names.old
+        + length (question_names (wide_steps weights.now.by_name task.now.steps))) }
+{
+    push_questions(alloc, names, task, weights)?;
+    let current = names.len();
+    push_currents(alloc, names, &weights.by_name, task.steps.items())?;
+    Ok(current)
+}
+
+/// The count of a task's steps is a number of 32 bits.
+fn counts_in_32_bits(task: &GroundTask)
+    ensures { task.now.step_count < 2 ^ 32 }
+{
+    let _count: u32 = task.step_count;
+}
+
+/// The target of these parts: the actions of the steps, and behind them those of the end phase.
+fn assembled(
+    names: List<Name>,
+    initial: Bits,
+    actions: List<TargetAction>,
+    phase: EndPhase,
+) -> Result<Target, NoMemory>
+    ensures { IfOk result (λ target. target ≡ target_of names initial actions phase) }
+{
+    let mut all = actions;
+    let EndPhase { actions, goal, .. } = phase;
+    push_all(&mut all, actions)?;
+    Ok(Target {
+        predicates: names,
+        initial,
+        actions: all,
+        goal,
+    })
+}
+
+impl BegunTarget {
+    /// Names all atoms of the target of a task, and makes its initial state and its end phase.
+    ///
+    /// The monitors of all constraints are made once.
+    pub fn of(alloc: Global, task: &GroundTask, weights: &Weights) -> Result<BegunTarget, NoMemory>
+        requires { IsReady task.now weights.now }
+        ensures { IfOk result (IsBegun task.now weights.now) }
+    {
+        counts_in_32_bits(task);
+        let mut names = List::new(alloc);
+        let frame = framed(alloc, &mut names, task)?;
+        let phase = ending(alloc, &frame, task, weights)?;
+        let current = push_asked(alloc, &mut names, task, weights)?;
+        let idle = names.len() - frame.go - 1;
+        let initial = initial_bits(alloc, &task.initial, frame.monitors.items(), idle)?;
+        Ok(BegunTarget {
+            names,
+            initial,
+            frame,
+            current,
+            phase,
+        })
+    }
+
+    /// The names of all atoms.
+    pub fn names(&self) -> &[Name]
+        ensures { result.now ≡ self.now.names }
+    {
+        self.names.items()
+    }
+
+    /// The initial state.
+    pub fn initial(&self) -> &Bits
+        ensures { result.now ≡ self.now.initial }
+    {
+        &self.initial
+    }
+
+    /// The first current atom: that of the first wide step.
+    pub fn first_current(&self) -> usize
+        ensures { result ≡ self.now.current }
+    {
+        self.current
+    }
+
+    /// The actions of a step, whose changes are regressed once, for the monitors that read an atom
+    /// which the step may change. Where the step is wide, the current atom is its own, and the next
+    /// one is that of the next such step.
+    pub fn step_actions(
+        &self,
+        alloc: Global,
+        weights: &Weights,
+        step: &GroundStep,
+        current: &mut usize,
+    ) -> Result<List<TargetAction>, NoMemory>
+        requires { IsNextStep self.now weights.now step.now current.old }
+        ensures { IfOk result (HasNextActions self.now weights.now step.now
+            current.old current.new) }
+    {
+        step_actions(alloc, current, &self.frame, weights, step)
+    }
+
+    /// The actions of the end phase, which stand behind those of the steps.
+    pub fn end_actions(&self) -> &[TargetAction]
+        ensures { result.now ≡ self.now.phase.actions }
+    {
+        self.phase.actions.items()
+    }
+
+    /// The goal.
+    pub fn goal(&self) -> &Form
+        ensures { result.now ≡ self.now.phase.goal }
+    {
+        &self.phase.goal
+    }
+
+    /// The target of which these are the actions of the steps.
+    pub(crate) fn target(self, actions: List<TargetAction>) -> Result<Target, NoMemory>
+        ensures { IfOk result (λ target. target
+            ≡ target_of self.names self.initial actions self.phase) }
+    {
+        let BegunTarget {
+            names,
+            initial,
+            phase,
+            ..
+        } = self;
+        assembled(names, initial, actions, phase)
+    }
+}
