@@ -8,6 +8,7 @@ ghost use Rattle.p3_tree.specs.Refusals.Places.{refusal_at};
 ghost use Rattle.p3_tree.specs.Sides.{InProblem, role_of};
 ghost use Rattle.p3_tree.specs.declared.metric.Num.TheVariants as num;
 ghost use Rattle.p3_metric.specs.Evaluation.{IsEvaluated, IsFailure, IsFit};
+ghost use Rattle.p3_metric.specs.Forms.{IsBounded};
 ghost use Rattle.p3_metric.specs.declared.error.MetricFail.TheVariants as fail;
 
 use crate::MetricFail;
@@ -79,7 +80,10 @@ impl<'t> Evaluator<'t> {
             Num::TotalCost(at) => Ok(self.cost(*at)),
             Num::Violated(name) => self.violated(name),
             Num::Neg(at, part) => self.negation(*at, part.get()),
-            Num::Sub(at, first, second) => self.difference(*at, first.get(), second.get()),
+            Num::Sub(at, first, second) => {
+                let minuend = self.evaluate(first.get())?;
+                self.difference(*at, minuend, second.get())
+            }
             Num::Sum(at, parts) => self.sum(*at, parts.items()),
             Num::Product(at, parts) => self.product(*at, parts.items()),
         }
@@ -126,18 +130,25 @@ impl<'t> Evaluator<'t> {
         accepted(measured, self.too_large(at))
     }
 
-    /// The form of a difference.
+    /// The form of a difference, of which the first part has been evaluated to the minuend.
     #[inline(never)]
     #[cycle(evaluate)]
-    fn difference(&self, at: u32, first: &'t Num, second: &'t Num) -> Result<Linear<'t>, MetricFail>
-        requires { IsFit self.now.task.now (num.Sub at first.now second.now) }
-        ensures form { IfOk result
-            (IsEvaluated self.now.task.now (num.Sub at first.now second.now)) }
-        ensures fails { IfErr result
-            (IsFailure self.now.task.now self.now.role
-            (operations (num.Sub at first.now second.now))) }
+    fn difference(
+        &self,
+        at: u32,
+        minuend: Linear<'t>,
+        second: &'t Num,
+    ) -> Result<Linear<'t>, MetricFail>
+        requires bounded { IsBounded minuend }
+        requires fit { IsFit self.now.task.now second.now }
+        ensures form { IfOk result (λ form. (first : Num)
+            → IsEvaluated self.now.task.now first minuend.entry
+            → IsEvaluated self.now.task.now (num.Sub at first second.now) form) }
+        ensures fails { IfErr result (λ fail. (first : Num)
+            → IsEvaluated self.now.task.now first minuend.entry
+            → IsFailure self.now.task.now self.now.role
+            (operations (num.Sub at first second.now)) fail) }
     {
-        let minuend = self.evaluate(first)?;
         let subtrahend = self.evaluate(second)?;
         let measured = minus(self.alloc, minuend, subtrahend)?;
         accepted(measured, self.too_large(at))

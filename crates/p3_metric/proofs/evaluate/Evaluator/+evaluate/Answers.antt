@@ -1,11 +1,11 @@
-use Rattle.std.proofs.Common.{rules, ◌≡◌, ◌∙◌, ◌+◌, ◌++◌, ◌∷◌, [], List, ap, sym, subst, take, drop, suc}
+use Rattle.std.proofs.Common.{rules, ◌≡◌, ◌∙◌, ◌+◌, ◌++◌, ◌∷◌, [], List, refl, ap, sym, subst, take, drop, suc}
 use Rattle.std.proofs.lemmas.List.{take_all, take_more}
 use Rattle.std.proofs.lemmas.Result.{err_from_is_err_and}
 use Rattle.p3_tree.specs.Refusals.Metric.{operations}
 use Rattle.p3_tree.specs.declared.metric.Num.{Num}
 use Rattle.p3_tree.specs.declared.metric.Num.TheVariants as num
 use Rattle.p3_tree.specs.declared.metric.Num.TheViews.{the_lemmas}
-use Rattle.p3_metric.specs.Evaluation.{IsEvaluated, IsFailure, IsFit, IsPartial, refused_at}
+use Rattle.p3_metric.specs.Evaluation.{IsEvaluated, IsFailure, IsFit, IsPartial}
 use Rattle.p3_metric.specs.declared.error.MetricFail.{MetricFail}
 use Rattle.p3_metric.specs.declared.error.MetricFail.TheVariants.{Refused}
 use Rattle.p3_metric.specs.declared.linear.Linear.{Linear}
@@ -40,37 +40,50 @@ negation-returns-clause-fails t c =
 -- ---- differences
 
 pub difference-evaluate-requires : goal.difference-evaluate-requires
-difference-evaluate-requires t c = (search (rules, the_lemmas), fit_first c.args.self.now.task.now c.args.at c.args.first.now c.args.second.now c.requires)
-
-pub difference-evaluate-requires-2 : goal.difference-evaluate-requires-2
-difference-evaluate-requires-2 t c = (search (rules, the_lemmas), fit_second c.args.self.now.task.now c.args.at c.args.first.now c.args.second.now c.requires)
-
-pub difference-returns-in_err-minuend-clause-fails : goal.difference-returns-in_err-minuend-clause-fails
-difference-returns-in_err-minuend-clause-fails t c =
-    let p = err_from_is_err_and c.from_residual.result c.from_residual.ensures.1 in
-    rw (p.1, p.2) (first_fails c.args.self.now.task.now c.args.at c.args.first.now c.args.second.now c.args.self.now.role c.in_err-minuend.field-0.0 c.in_err-minuend.ensures.fails)
+difference-evaluate-requires t c = (search (rules, the_lemmas), c.requires.fit)
 
 pub difference-returns-in_err-subtrahend-clause-fails : goal.difference-returns-in_err-subtrahend-clause-fails
 difference-returns-in_err-subtrahend-clause-fails t c =
-    let p = err_from_is_err_and c.from_residual-in_err-subtrahend.result c.from_residual-in_err-subtrahend.ensures.1 in
-    rw (p.1, p.2) (second_fails c.args.self.now.task.now c.args.at c.args.first.now c.args.second.now c.args.self.now.role c.in_err-subtrahend.field-0.0 c.in_ok-minuend.ensures.form.fine c.in_err-subtrahend.ensures.fails)
+    let p = err_from_is_err_and c.from_residual.result c.from_residual.ensures.1 in
+    rw (p.1, p.2) (λ first is. second_fails c.args.self.now.task.now c.args.at first c.args.second.now c.args.self.now.role c.in_err-subtrahend.field-0.0 is.fine c.in_err-subtrahend.ensures.fails)
 
 pub difference-returns-clause-form : goal.difference-returns-clause-form
 difference-returns-clause-form t c =
     let m = c.in_ok-measured.measured in
     let T = c.args.self.now.task.now in
-    accepted_form c.accepted.result (IsEvaluated T (num.Sub c.args.at c.args.first.now c.args.second.now)) m.form m.small c.accepted.ensures.form c.accepted.ensures.small
-    (λ e. difference_evaluated T c.args.at c.args.first.now c.args.second.now c.in_ok-minuend.minuend c.in_ok-subtrahend.subtrahend m.form c.in_ok-minuend.ensures.form c.in_ok-subtrahend.ensures.form c.in_ok-measured.ensures.difference (c.in_ok-measured.ensures.small e))
+    accepted_form c.accepted.result (λ form. (first : Num) → IsEvaluated T first c.args.minuend → IsEvaluated T (num.Sub c.args.at first c.args.second.now) form) m.form m.small c.accepted.ensures.form c.accepted.ensures.small
+    (λ e first is. difference_evaluated T c.args.at first c.args.second.now c.args.minuend c.in_ok-subtrahend.subtrahend m.form is c.in_ok-subtrahend.ensures.form c.in_ok-measured.ensures.difference (c.in_ok-measured.ensures.small e))
 
 pub difference-returns-clause-fails : goal.difference-returns-clause-fails
 difference-returns-clause-fails t c =
     let m = c.in_ok-measured.measured in
     let T = c.args.self.now.task.now in
     let role = c.args.self.now.role in
-    let tree = num.Sub c.args.at c.args.first.now c.args.second.now in
-    accepted_fails c.accepted.result (IsFailure T role (operations tree)) c.too_large.result _ m.small c.accepted.ensures.refusal c.accepted.ensures.large
-    (c.too_large.ensures ∙ sym (refused-Sub role c.args.at c.args.first.now c.args.second.now))
-    (λ e. difference_fails T c.args.at c.args.first.now c.args.second.now c.in_ok-minuend.minuend c.in_ok-subtrahend.subtrahend m.form c.in_ok-minuend.ensures.form c.in_ok-subtrahend.ensures.form c.in_ok-measured.ensures.difference role (c.in_ok-measured.ensures.large e))
+    let second = c.args.second.now in
+    let fails : MetricFail → Num → Type 0 = λ fail first. IsFailure T role (operations (num.Sub c.args.at first second)) fail in
+    accepted_fails c.accepted.result (λ fail. (first : Num) → IsEvaluated T first c.args.minuend → fails fail first) c.too_large.result c.too_large.result m.small c.accepted.ensures.refusal c.accepted.ensures.large refl
+    (λ e first is. subst (λ refusal. fails (Refused refusal) first) (sym (c.too_large.ensures ∙ sym (refused-Sub role c.args.at first second)))
+    (difference_fails T c.args.at first second c.args.minuend c.in_ok-subtrahend.subtrahend m.form is c.in_ok-subtrahend.ensures.form c.in_ok-measured.ensures.difference role (c.in_ok-measured.ensures.large e)))
+
+pub evaluate-evaluate-requires : goal.evaluate-evaluate-requires
+evaluate-evaluate-requires t c =
+    let P : Num → Type 0 = IsFit c.args.self.now.task.now in
+    (search (rules, the_lemmas), subst P (sym c.get-in-Sub.ensures) (fit_first c.args.self.now.task.now c.in-Sub.at c.in-Sub.first c.in-Sub.second (subst P c.in-Sub.is c.requires)))
+
+pub evaluate-difference-requires : goal.evaluate-difference-requires
+evaluate-difference-requires t c =
+    let P : Num → Type 0 = IsFit c.args.self.now.task.now in
+    let fit : P c.get-in-Sub-2.result.now = subst P (sym c.get-in-Sub-2.ensures) (fit_second c.args.self.now.task.now c.in-Sub.at c.in-Sub.first c.in-Sub.second (subst P c.in-Sub.is c.requires)) in
+    (search (rules, the_lemmas), (c.in_ok-minuend-in-Sub.ensures.form.bounded, fit))
+
+pub evaluate-returns-in_err-minuend-in-Sub-clause-fails : goal.evaluate-returns-in_err-minuend-in-Sub-clause-fails
+evaluate-returns-in_err-minuend-in-Sub-clause-fails t c =
+    let p = err_from_is_err_and c.from_residual.result c.from_residual.ensures.1 in
+    let first = c.get-in-Sub.result.now in
+    let whole : c.args.tree.now ≡ num.Sub c.in-Sub.at first c.in-Sub.second = c.in-Sub.is ∙ ap (λ tree. num.Sub c.in-Sub.at tree c.in-Sub.second) (sym c.get-in-Sub.ensures) in
+    let fail = c.in_err-minuend-in-Sub.field-0.0 in
+    let P : Num → Type 0 = λ tree. IsFailure c.args.self.now.task.now c.args.self.now.role (operations tree) fail in
+    rw (p.1, p.2) (subst P (sym whole) (first_fails c.args.self.now.task.now c.in-Sub.at first c.in-Sub.second c.args.self.now.role fail c.in_err-minuend-in-Sub.ensures.fails))
 
 -- ---- sums
 
