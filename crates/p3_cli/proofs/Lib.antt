@@ -13,6 +13,7 @@ pub mod RunLemmas
 pub mod SpelledLemmas
 pub mod StatusLemmas
 pub mod StoreLemmas
+pub mod StreamingLemmas
 pub mod SureLemmas
 pub mod TranslationLemmas
 pub mod UnconditionalLemmas

@@ -5,6 +5,10 @@ pub on_ok : {A E : Type 0} {P Q : Type 0} (result : Result A E) → (P → Q) �
 on_ok (Ok answer) more is = more is
 on_ok (Err error) more is = tt
 
+pub on_both : {A E : Type 0} {P Q R : Type 0} (result : Result A E) → (P → Q → R) → OnOk result P → OnOk result Q → OnOk result R
+on_both (Ok answer) more first second = more first second
+on_both (Err error) more first second = tt
+
 pub if_ok : {A E : Type 0} {P Q : A → Type 0} (result : Result A E) → ((answer : A) → P answer → Q answer) → IfOk result P → IfOk result Q
 if_ok (Ok answer) more is = more answer is
 if_ok (Err error) more is = tt

@@ -14,6 +14,7 @@ pub mod Run
 pub mod Sampling
 pub mod Status
 pub mod Store
+pub mod Streaming
 pub mod Sure
 pub mod Translation
 pub mod WrittenText

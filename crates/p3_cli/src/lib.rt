@@ -20,6 +20,7 @@ mod sample_number;
 mod sampling;
 mod status;
 mod store;
+mod streaming;
 mod sure;
 mod table;
 mod texts;

@@ -18,9 +18,9 @@ use crate::Ending;
 use crate::acceptance::{accepted, spelled_task};
 use crate::found::compiled_report;
 use crate::product::Product;
+use crate::streaming::compiled_texts;
 use crate::texts::Texts;
 use p3_base::{NoMemory, Side};
-use p3_compile::compile;
 use p3_eval::Whole;
 use p3_formula::Target;
 use p3_reports::Report;
@@ -78,10 +78,12 @@ fn translation_of(alloc: Global, whole: &Whole) -> Result<Translation, NoMemory>
     ensures report { IfOk result (λ made.
         report_text made.report ≡ compiled_lines whole.now.checked.task) }
 {
-    let target = compile(alloc, whole.ground_task(), whole.weights())?;
-    let made = written(alloc, whole, &target);
-    forget(target);
-    made
+    let texts = compiled_texts(alloc, whole.ground_task(), whole.weights())?;
+    Ok(Translation {
+        domain: texts.domain,
+        problem: texts.problem,
+        report: Report::Compile(compiled_report(whole)),
+    })
 }
 
 /// Writes a target of a task of which nothing is refused, and makes the report.

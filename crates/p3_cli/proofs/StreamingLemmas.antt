@@ -1,0 +1,93 @@
+-- The actions of a begun target, written one step after another.
+use Rattle.std.proofs.Common.{◌≡◌, ◌∙◌, ℕ, ◌+◌, ◌<◌, true, List, [], ◌++◌, length, take, get_or, refl, sym, ap}
+use Rattle.std.specs.List.{list_all}
+use Rattle.std.proofs.lemmas.Bool.{and_parts, and_from}
+use Rattle.std.proofs.lemmas.List.{append-nil}
+use Rattle.std.proofs.lemmas.List.Folds.{list_all-append}
+use Rattle.p3_formula.specs.Conditions.{IsReady}
+use Rattle.p3_formula.specs.Targets.{is_sized_action}
+use Rattle.p3_formula.specs.declared.target.Target.{Target}
+use Rattle.p3_formula.specs.declared.target.TargetAction.{TargetAction}
+use Rattle.p3_formula.specs.declared.target.Weights.{Weights}
+use Rattle.p3_formula.specs.declared.task.GroundStep.{GroundStep}
+use Rattle.p3_formula.specs.declared.task.GroundTask.{GroundTask}
+use Rattle.p3_formula.proofs.NamedLaws.{well_named}
+use Rattle.p3_compile.specs.Compiling.{IsBegun, IsCompiledTo, target_of}
+use Rattle.p3_compile.specs.declared.begun.BegunTarget.{BegunTarget}
+use Rattle.p3_compile.proofs.BegunLaws.{one_step_more}
+use Rattle.p3_compile.proofs.StepLists.{no_steps}
+use Rattle.p3_writer.specs.DomainText.{BegunDomain, HasAllActions, first_text, with_actions}
+use Rattle.p3_writer.specs.Layout.{domain_layout, is_small, problem_layout}
+use Rattle.p3_writer.specs.TaskOf.{task_of}
+use Rattle.p3_writer.specs.Texts.{CanBeWritten, IsDomainTextOf, IsProblemTextOf}
+use Rattle.p3_writer.proofs.LayoutLemmas.{with_more}
+use Rattle.p3_cli.specs.Streaming.{AreCompiledTexts, HasDomainText, HasWritten, HasWrittenAll, HasWrittenStep, HasWrittenSteps}
+
+-- ---- what is written
+
+nothing_written : (begun : BegunDomain) → begun ≡ with_actions begun []
+nothing_written begun = λ i. record { names = begun.names; text = sym (append-nil begun.text) i }
+
+pub more_written : (first more : List TargetAction) (old mid new : BegunDomain) → HasWritten first old mid → HasWritten more mid new → HasWritten (first ++ more) old new
+more_written first more old mid new before behind = record {
+  written = behind.written ∙ ap (λ begun. with_actions begun more) before.written ∙ with_more old first more;
+  small = list_all-append is_small first more ∙ and_from (list_all is_small first) _ before.small behind.small;
+}
+
+-- ---- the steps
+
+pub no_steps_written : (begun : BegunTarget) (weights : Weights) (text : BegunDomain) → HasWrittenSteps begun weights [] begun.current text text
+no_steps_written begun weights text = record {
+  actions = [];
+  made = no_steps begun.frame weights begun.current;
+  are = record { written = nothing_written text; small = refl };
+}
+
+module _ (G : GroundTask) (weights : Weights) (begun : BegunTarget) (ready : IsReady G weights) (is : IsBegun G weights begun)
+    (index : ℕ) (step : GroundStep) (within : index < length G.steps) (at : step ≡ get_or G.steps index step) (current next : ℕ) (old mid new : BegunDomain) where
+  pub one_step_written : HasWrittenSteps begun weights (take index G.steps) current old mid → HasWrittenStep begun weights step current next mid new → HasWrittenSteps begun weights (take (index + 1) G.steps) next old new
+  one_step_written passed own = record {
+    actions = passed.actions ++ own.actions;
+    made = one_step_more G weights begun ready is index step within at current passed.actions passed.made next own.actions own.made;
+    are = more_written passed.actions own.actions old mid new passed.are own.are;
+  }
+
+-- ---- the whole target
+
+module _ (G : GroundTask) (weights : Weights) (begun : BegunTarget) (mid : BegunDomain) (steps : HasWrittenAll G weights begun (first_text begun.names) mid) where
+  abbrev pub whole : Target
+  whole = target_of begun.names begun.initial steps.actions begun.phase
+
+  pub all_actions : (new : BegunDomain) → HasWritten begun.phase.actions mid new → HasAllActions whole new
+  all_actions new ends =
+      let all = more_written steps.actions begun.phase.actions (first_text begun.names) mid new steps.are ends in
+      record { is = all.written; small = all.small }
+
+  module _ (is : IsCompiledTo G weights whole) where
+    -- the atoms of the end phase have names
+    pub ends_sized : list_all (is_sized_action (length mid.names)) begun.phase.actions ≡ true
+    ends_sized =
+        ap (λ (text : BegunDomain). list_all (is_sized_action (length text.names)) begun.phase.actions) steps.are.written
+        ∙ (and_parts (list_all (is_sized_action (length begun.names)) steps.actions) _ (sym (list_all-append (is_sized_action (length begun.names)) steps.actions begun.phase.actions) ∙ is.compiled.sized.actions)).1
+
+    pub can_be_written : CanBeWritten whole
+    can_be_written =
+        let named = well_named whole is.compiled.named in
+        record { sized = is.compiled.sized; predicates = named.predicates; actions = named.actions; spelled = named.spelled }
+
+    pub has_domain : (text : List ℕ) → text ≡ domain_layout whole → IsDomainTextOf text (task_of whole).domain → HasDomainText G weights begun text
+    has_domain text layout is_text = record {
+      target = whole;
+      is = is;
+      can = can_be_written;
+      problem = record { predicates = refl; initial = refl; goal_is = refl };
+      layout = layout;
+      text = is_text;
+    }
+
+pub are_texts : (G : GroundTask) (weights : Weights) (begun : BegunTarget) (od op : List ℕ) → (domain : HasDomainText G weights begun od) → op ≡ problem_layout domain.target → IsProblemTextOf op (task_of domain.target).problem → AreCompiledTexts G weights od op
+are_texts G weights begun od op domain layout text = record {
+  target = domain.target;
+  is = domain.is;
+  texts = record { domain = domain.layout; problem = layout; domain_text = domain.text; problem_text = text };
+}
