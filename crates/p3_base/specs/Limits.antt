@@ -1,4 +1,4 @@
--- The limits that the task read and what is made of it have in common. The greatest value is accepted and the next one is refused.
+-- The limits that the task read and what is made of it have in common. Of instances and of widths the greatest value is accepted and the next one is refused; the bound of weights is the first that is refused.
 use Rattle.std.specs.Prelude.{ℕ, ◌^◌}
 
 -- the preference instances of constraints and goal
