@@ -23,7 +23,7 @@ use Rattle.p3_tree.specs.declared.term.Ref.{Ref}
 use Rattle.p3_outline.specs.declared.constructs.Around.{Around}
 use Rattle.p3_outline.specs.declared.constructs.Found.{Found}
 use Rattle.p3_outline.specs.Nodes.{elements}
-use Rattle.p3_outline.specs.Constructs.{the_found, sooner, least_with, is_some_of, begins_as_left_out, may_tell, is_plain, declaring, conditions, the_around, with_head, with_no_head, Finds, either_shown, increase_shown, other_shown, number_shown, timed_shown, compared_shown, metric_shown, head_shown, behind_shown, place_shown, constructs_in, total_time, behind_head, constructs_below}
+use Rattle.p3_outline.specs.Constructs.{the_found, sooner, least_with, is_some_of, begins_as_left_out, may_tell, is_plain, declaring, conditions, the_around, with_head, with_no_head, Finds, IsQuiet, either_shown, increase_shown, other_shown, number_shown, timed_shown, compared_shown, metric_shown, head_shown, behind_shown, place_shown, constructs_in, total_time, behind_head, constructs_below}
 
 -- ---- words
 
@@ -275,3 +275,8 @@ module _ (around inner : Around) (least last : Option Found) (first : Expression
       by_all names None (within ∙ ap with_no_head place ∙ no_head_around names innermost)
       ∙ ap (λ parts. least_with least (constructs_in names None parts)) is
       ∙ ap (λ o. least_with least (behind_head names innermost first rest o)) at ∙ ap (λ parts. least_with least (constructs_below names innermost parts)) (sym is)
+
+-- A LIST of one word that shows nothing
+pub alone_quiet : (around : Around) (first : Expression) (rest parts : List Expression) (head : Ref) → parts ≡ first ∷ rest → rest ≡ [] → Some head ≡ word_place first → is_plain around head ≡ true → IsQuiet around parts
+alone_quiet around first rest parts head is none at plain least =
+    below_plain around (with_no_head around) least least first [] parts (is ∙ ap (λ others. first ∷ others) none) head at (sym plain) refl (λ names innermost place. refl)

@@ -155,5 +155,9 @@ FindsShown around least head behind found = Finds around least (λ names innermo
 abbrev pub FindsBelow : Around → Option Found → List Expression → Option Found → Type 0
 FindsBelow around least parts found = Finds around least (λ names innermost. constructs_below names innermost parts) found
 
+-- nothing is shown in a list of these elements
+abbrev pub IsQuiet : Around → List Expression → Type 0
+IsQuiet around parts = (least : Option Found) → FindsBelow around least parts least
+
 abbrev pub FindsIn : Around → Option Found → List Expression → Option Found → Type 0
 FindsIn around least parts found = Finds around least (λ names innermost. constructs_in names innermost parts) found

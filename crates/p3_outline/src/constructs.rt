@@ -1,6 +1,6 @@
 //! Constructs that are left out by name, wherever they stand.
 
-ghost use Rattle.std.specs.Prelude.{◌≡◌, ◌<◌, ◌^◌, ◌&&◌, length, false, if◌then◌else◌, [], Some, None, IfSome};
+ghost use Rattle.std.specs.Prelude.{◌≡◌, ◌<◌, ◌^◌, ◌&&◌, length, true, false, if◌then◌else◌, [], Some, None, IfSome};
 ghost use Rattle.std.specs.List.{list_any};
 ghost use Rattle.std.specs.Option.{option_map};
 ghost use Rattle.std.specs.Str.{str_to_ascii_lowercase};
@@ -9,8 +9,8 @@ ghost use Rattle.p3_tree.specs.Names.{same_name};
 ghost use Rattle.p3_tree.specs.Grammar.Words.{word_place};
 ghost use Rattle.p3_tree.specs.Refusals.Constructs.{left_out, word_when, head_of, is_number_or_list, second_is_number, other_increase, not_a_number, constructs};
 ghost use Rattle.p3_tree.specs.Refusals.Texts.{construct_in};
-ghost use Rattle.p3_outline.specs.Nodes.{expression_of, expressions_of};
-ghost use Rattle.p3_outline.specs.Constructs.{the_word, least_with, declaring, conditions, is_some_of, begins_as_left_out, is_telling_byte, is_telling_length, may_tell, is_plain, the_around, with_head, with_no_head, FindsShown, FindsBelow, FindsIn, head_shown, behind_shown, place_shown};
+ghost use Rattle.p3_outline.specs.Nodes.{expression_of, expressions_of, elements};
+ghost use Rattle.p3_outline.specs.Constructs.{the_word, least_with, declaring, conditions, is_some_of, begins_as_left_out, is_telling_byte, is_telling_length, may_tell, is_plain, the_around, with_head, with_no_head, IsQuiet, FindsShown, FindsBelow, FindsIn, head_shown, behind_shown, place_shown};
 
 use crate::numbers::is_decimal;
 use crate::view::{Parts, View};
@@ -364,6 +364,23 @@ fn is_plain(around: Around, head: TextWord<'_>) -> bool
     !around.metric && !may_tell(head.text)
 }
 
+/// Whether a list is one word that shows nothing.
+fn is_quiet(around: Around, list: View<'_, '_>) -> bool
+    ensures { result ≡ true → IsQuiet around (elements (expression_of list.entry)) }
+{
+    let mut behind = list.parts();
+    let Some(first) = behind.next() else {
+        return false;
+    };
+    if behind.node_count() != 0 {
+        return false;
+    }
+    match word_of(first) {
+        Some(head) => is_plain(around, head),
+        None => false,
+    }
+}
+
 // ---- the whole
 
 /// Whatever a list and the lists in it show.
@@ -398,7 +415,11 @@ fn all_in(around: Around, parts: Parts<'_, '_>, least: Option<Found>) -> Option<
     while let Some(part) = left.next() {
         match word_of(part) {
             Some(word) => least = least_if(is(word.text, b"total-time"), least, word),
-            None => least = below(around, part.parts(), least),
+            None => {
+                if !is_quiet(around, part) {
+                    least = below(around, part.parts(), least);
+                }
+            }
         }
     }
     least

@@ -1,5 +1,5 @@
-use Rattle.std.proofs.Common.{◌∙◌, sym, arith}
-use Rattle.p3_outline.specs.Nodes.{expression_of, expressions_of}
+use Rattle.std.proofs.Common.{◌∙◌, refl, sym, arith}
+use Rattle.p3_outline.specs.Nodes.{expression_of, expressions_of, elements}
 use Rattle.p3_outline.specs.Constructs.{the_word}
 use Rattle.p3_outline.proofs.ConstructLemmas.{word_next, list_next, below_head, below_plain, below_list}
 use Rattle.p3_outline.proofs.constructs.+below.Goals as goal
@@ -14,13 +14,23 @@ all_in-loop-part-preserved-in-Some-word_of t c =
           ∙ c.loop-part.invariant.finds names innermost place;
     }
 
-pub all_in-loop-part-preserved : goal.all_in-loop-part-preserved
-all_in-loop-part-preserved t c =
+pub all_in-loop-part-preserved-then-not-is_quiet : goal.all_in-loop-part-preserved-then-not-is_quiet
+all_in-loop-part-preserved-then-not-is_quiet t c =
     record {
       less = omega (arith, c.in-Some.ensures.less, c.loop-part.invariant.less);
       finds = λ names innermost place.
           list_next names innermost c.loop-part.least c.below-least.result (expression_of c.in-Some.part) (expressions_of c.next.new.self) (expressions_of c.loop-part.left) c.in-Some.ensures.parts
           (expressions_of c.parts.result) c.in-None.ensures.word c.parts.ensures.parts (c.below-least.ensures names innermost place)
+          ∙ c.loop-part.invariant.finds names innermost place;
+    }
+
+pub all_in-loop-part-preserved : goal.all_in-loop-part-preserved
+all_in-loop-part-preserved t c =
+    record {
+      less = omega (arith, c.in-Some.ensures.less, c.loop-part.invariant.less);
+      finds = λ names innermost place.
+          list_next names innermost c.loop-part.least c.loop-part.least (expression_of c.in-Some.part) (expressions_of c.next.new.self) (expressions_of c.loop-part.left) c.in-Some.ensures.parts
+          (elements (expression_of c.in-Some.part)) c.in-None.ensures.word refl (c.is_quiet.ensures c.if-not-is_quiet.false c.loop-part.least names innermost place)
           ∙ c.loop-part.invariant.finds names innermost place;
     }
 
