@@ -9,10 +9,9 @@ use Rattle.std.proofs.lemmas.List.Folds.{flat_map-map, list_all-append}
 use mathlib.Core.Former.{Count}
 use denote.Hole.Carrier.{hidden}
 use Rattle.p3_formula.specs.Forms.{truth}
-use Rattle.p3_formula.specs.Nodes.{form_of}
 use Rattle.p3_formula.specs.Simplified.{constant}
 use Rattle.p3_formula.specs.declared.form.Change.{Change}
-use Rattle.p3_formula.proofs.NodeLemmas.{form-grows}
+use Rattle.p3_formula.specs.declared.form.Form.{Form}
 use Rattle.p3_numbers.specs.Conditions.{met}
 use Rattle.p3_numbers.specs.Effects.{NumberedLiteral, under, numbered_literals}
 use Rattle.p3_numbers.specs.Folds.{fold_effect, fold_effects}
@@ -28,14 +27,15 @@ use Rattle.p3_numbers.proofs.EffectLemmas.{numbered_literals-All, numbered_liter
 use Rattle.p3_numbers.proofs.JoinLemmas.{joined}
 use Rattle.p3_expansion.specs.Atoms.{GroundAtom, atom_at, Keeps}
 use Rattle.p3_expansion.specs.Changes.{effect_atoms_layer, effect_atoms, both, conditions_meaning, GuardedLiteral, guarded, guarded_literals, ChangeStands, IsIdle, ChangesStand, Guards, ChangesUnder, AddsChange}
-use Rattle.p3_expansion.specs.Expansions.{Stands, Grows, Means, Expands, IsJoined}
+use Rattle.p3_expansion.specs.Expansions.{Stands, Grows, IsJoined}
+use Rattle.p3_expansion.specs.Forms.{Makes}
 use Rattle.p3_expansion.specs.Meanings.{Meaning, condition_atoms, condition_meaning}
 use Rattle.p3_expansion.specs.declared.effect.Guard.{Guard}
 use Rattle.p3_expansion.specs.declared.statics.Statics.{Statics}
 use Rattle.p3_expansion.specs.declared.work.Work.{Work}
-use Rattle.p3_expansion.proofs.ExpansionLemmas.{stands-grows, stands-same, means-grows}
+use Rattle.p3_expansion.proofs.ExpansionLemmas.{stands-grows}
 use Rattle.p3_expansion.proofs.FormParts.{constant_truth}
-use Rattle.p3_expansion.proofs.GrowthLemmas.{Covers, grows-refl, grows-trans, grows-wider, grows-none}
+use Rattle.p3_expansion.proofs.GrowthLemmas.{Covers, grows-refl, grows-trans, grows-wider}
 use Rattle.p3_expansion.proofs.WalkLemmas.{covers-flat, pushes-part, pushes-all}
 
 -- ---- the literals and atoms of an effect that is built of given parts
@@ -115,26 +115,20 @@ module _ (N : Numbers) (slots : Slots) where
     guarded-If condition body = ap (map (guarded N above is_free)) (numbered_literals-If N slots condition body) ∙ narrowed-all condition (numbered_literals N slots body)
 
 module _ (N : Numbers) (S : Statics) where
-  pub guards-grow : (reads : List GroundAtom) (old new : Work) (guard : Guard) (above : Meaning) → Grows reads old new → Guards N S old guard above → Guards N S new guard above
-  guards-grow reads old new guard above grows guards = record {
-    means = means-grows N S reads old new above guard.number grows guards.means;
-    free = λ is. form-grows old.table new.table guard.number grows.table guards.means.within ∙ guards.free is;
-  }
+  pub guards-grow : (old new : List GroundAtom) (guard : Guard) (above : Meaning) → Keeps old new → Guards N S old guard above → Guards N S new guard above
+  guards-grow old new guard above keeps guards = record { stands = stands-grows N S old new above guard.form keeps guards.stands; free = guards.free }
 
   -- a guard with one condition more
-  pub guards-narrowed : (old new : Work) (first second number : ℕ) (above below : Meaning) → Grows [] old new → number < length new.table → IsJoined true (form_of old.table first) (form_of old.table second) (form_of new.table number)
-      → Means N S old above first → Means N S old below second → Guards N S new (record { number = number; is_free = false }) (both above below)
-  guards-narrowed old new first second number above below grows within join a b = record {
-    means = record {
-      within = within;
-      stands = stands-grows N S old.atoms new.atoms (both above below) (form_of new.table number) grows.atoms (record {
-        truth = λ s bits settled tells. join.truth bits ∙ (λ i. a.stands.truth s bits settled tells i && b.stands.truth s bits settled tells i);
-        reads = λ passes allowed allows those.
-            let parts = and_parts (list_all passes above.reads) (list_all passes below.reads) (sym (list_all-append passes above.reads below.reads) ∙ those) in
-            join.atoms allowed (a.stands.reads passes allowed allows parts.0) (b.stands.reads passes allowed allows parts.1);
-      });
+  guards-narrowed : (atoms : List GroundAtom) (guard narrow : Guard) (condition : Form) (above below : Meaning) → IsJoined true guard.form condition narrow.form → narrow.is_free ≡ false
+      → Guards N S atoms guard above → Stands N S atoms below condition → Guards N S atoms narrow (both above below)
+  guards-narrowed atoms guard narrow condition above below join free a b = record {
+    stands = record {
+      truth = λ s bits settled tells. join.truth bits ∙ (λ i. a.stands.truth s bits settled tells i && b.truth s bits settled tells i);
+      reads = λ passes allowed allows those.
+          let parts = and_parts (list_all passes above.reads) (list_all passes below.reads) (sym (list_all-append passes above.reads below.reads) ∙ those) in
+          join.atoms allowed (a.stands.reads passes allowed allows parts.0) (b.reads passes allowed allows parts.1);
     };
-    free = λ is. absurd (true≢false (sym is));
+    free = λ is. absurd (true≢false (sym is ∙ free));
   }
 
   -- ---- lists of changes
@@ -196,14 +190,14 @@ module _ (N : Numbers) (S : Statics) where
         (stand-push new.atoms those before literal adds.change (stand-keeps old.atoms new.atoms adds.grows.atoms those before stand) (record {
           add = adds.adds;
           atom = adds.stored;
-          cond = subst (λ meaning. Stands N S new.atoms meaning adds.change.cond) (sym alone) (stands-same N S new.atoms above (form_of old.table guard.number) adds.change.cond adds.cond (stands-grows N S old.atoms new.atoms above (form_of old.table guard.number) adds.grows.atoms guards.means.stands));
+          cond = subst (λ meaning. Stands N S new.atoms meaning adds.change.cond) (sym alone) (subst (Stands N S new.atoms above) (sym adds.cond) (stands-grows N S old.atoms new.atoms above guard.form adds.grows.atoms guards.stands));
           tidy = adds.tidy;
-          free = λ is. adds.free (guards.free (sym (and-true guard.is_free) ∙ is));
+          free = λ is. adds.cond ∙ guards.free (sym (and-true guard.is_free) ∙ is);
         }));
   }
 
-  module _ (slots : Slots) (guard narrow : Guard) (condition : Condition) (body : NumberedEffect) (number : ℕ) (old mid late : Work)
-      (expands : Expands N S old mid (condition_meaning N slots condition) number) (grows : Grows [] mid late) (narrows : (above : Meaning) → Means N S mid above guard.number → Guards N S late narrow (both above (condition_meaning N slots condition)))
+  module _ (slots : Slots) (guard narrow : Guard) (condition : Condition) (body : NumberedEffect) (made : Form) (old mid : Work)
+      (makes : Makes N S old mid (condition_meaning N slots condition) made) (join : IsJoined true guard.form made narrow.form) (free : narrow.is_free ≡ false)
     where
       abbrev reads : List GroundAtom
       reads = condition_atoms N slots condition ++ effect_atoms N slots body
@@ -214,32 +208,32 @@ module _ (N : Numbers) (S : Statics) where
       back : Covers reads (effect_atoms N slots body)
       back passes all = (and_parts (list_all passes (condition_atoms N slots condition)) _ (sym (list_all-append passes (condition_atoms N slots condition) (effect_atoms N slots body)) ∙ all)).1
 
-      up-to : Grows reads old late
-      up-to = grows-trans reads old mid late (grows-wider reads (condition_atoms N slots condition) old mid front expands.grows) (grows-none reads mid late grows)
+      up-to : Grows reads old mid
+      up-to = grows-wider reads (condition_atoms N slots condition) old mid front makes.grows
 
-      below : (above : Meaning) → Guards N S old guard above → Guards N S late narrow (both above (condition_meaning N slots condition))
-      below above guards = narrows above (means-grows N S (condition_atoms N slots condition) old mid above guard.number expands.grows guards.means)
+      below : (above : Meaning) → Guards N S old.atoms guard above → Guards N S mid.atoms narrow (both above (condition_meaning N slots condition))
+      below above guards = guards-narrowed mid.atoms guard narrow made above (condition_meaning N slots condition) join free (guards-grow old.atoms mid.atoms guard above makes.grows.atoms guards) makes.stands
 
       -- the condition never holds
-      pub under-never : (items : List Change) → form_of late.table narrow.number ≡ constant false → ChangesUnder N S guard reads old late (λ above. guarded_literals N (both above (condition_meaning N slots condition)) false slots body) items items
+      pub under-never : (items : List Change) → narrow.form ≡ constant false → ChangesUnder N S guard reads old mid (λ above. guarded_literals N (both above (condition_meaning N slots condition)) false slots body) items items
       under-never items is = record {
         grows = up-to;
         made = λ above guards those stand.
-            stand-idle late.atoms (guarded N (both above (condition_meaning N slots condition)) false)
+            stand-idle mid.atoms (guarded N (both above (condition_meaning N slots condition)) false)
             (λ literal. record {
               never = λ s b settled tells.
                   ap (λ holds. holds && (conditions_meaning N literal.conditions).test s)
-                  (sym ((below above guards).means.stands.truth s b settled tells) ∙ ap (truth b) is ∙ constant_truth b false);
-            }) those items (numbered_literals N slots body) (stand-keeps old.atoms late.atoms up-to.atoms those items stand);
+                  (sym ((below above guards).stands.truth s b settled tells) ∙ ap (truth b) is ∙ constant_truth b false);
+            }) those items (numbered_literals N slots body) (stand-keeps old.atoms mid.atoms up-to.atoms those items stand);
       }
 
-      pub under-narrow : (new : Work) (before after : List Change) → narrow.is_free ≡ false → ChangesUnder N S narrow (effect_atoms N slots body) late new (λ above. guarded_literals N above narrow.is_free slots body) before after
+      pub under-narrow : (new : Work) (before after : List Change) → ChangesUnder N S narrow (effect_atoms N slots body) mid new (λ above. guarded_literals N above narrow.is_free slots body) before after
           → ChangesUnder N S guard reads old new (λ above. guarded_literals N (both above (condition_meaning N slots condition)) false slots body) before after
-      under-narrow new before after free inner = record {
-        grows = grows-trans reads old late new up-to (grows-wider reads (effect_atoms N slots body) late new back inner.grows);
+      under-narrow new before after inner = record {
+        grows = grows-trans reads old mid new up-to (grows-wider reads (effect_atoms N slots body) mid new back inner.grows);
         made = λ above guards those stand.
             subst (λ free. ChangesStand N S new.atoms (those ++ guarded_literals N (both above (condition_meaning N slots condition)) free slots body) after) free
-            (inner.made (both above (condition_meaning N slots condition)) (below above guards) those (stand-keeps old.atoms late.atoms up-to.atoms those before stand));
+            (inner.made (both above (condition_meaning N slots condition)) (below above guards) those (stand-keeps old.atoms mid.atoms up-to.atoms those before stand));
       }
 
   -- ---- the parts of a list in turn
@@ -251,7 +245,7 @@ module _ (N : Numbers) (S : Statics) where
       grows = grows-trans (flat_map reads parts) a b c first.grows (grows-wider (flat_map reads parts) (reads part) b c (covers-flat reads parts i part within is) second.grows);
       made = λ above guards.
           (pushes-part (ChangesStand N S) (meant above) reads parts a b c p q r i part within is (record { grows = first.grows; made = first.made above guards })
-          (record { grows = second.grows; made = second.made above (guards-grow (flat_map reads parts) a b guard above first.grows guards) })).made;
+          (record { grows = second.grows; made = second.made above (guards-grow a.atoms b.atoms guard above first.grows.atoms guards) })).made;
     }
 
     pub under-all : (a b : Work) (p q : List Change) (i : ℕ) → length parts ≤ i → ChangesUnder N S guard (flat_map reads parts) a b (λ above. flat_map (meant above) (take i parts)) p q

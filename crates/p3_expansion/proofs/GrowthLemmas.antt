@@ -1,11 +1,9 @@
--- Atoms and nodes keep their numbers.
+-- Atoms keep their numbers.
 use Rattle.std.proofs.Common.{◌≡◌, ◌∙◌, ℕ, Bool, true, false, if◌then◌else◌, List, [], ◌∷◌, ◌++◌, slice_get, Some, refl, sym, subst, arith, zero, suc, length-append}
 use Rattle.std.specs.Prelude.{bytes_eq}
 use Rattle.std.specs.List.{list_any, list_all}
 use Rattle.std.proofs.lemmas.Bool.{and_from}
 use Rattle.std.proofs.lemmas.List.Folds.{list_all-append}
-use Rattle.p3_formula.specs.Nodes as node
-use Rattle.p3_formula.proofs.NodeLemmas as node_lemma
 use Rattle.p3_expansion.specs.Atoms.{GroundAtom, with_atom, Keeps, Brings}
 use Rattle.p3_expansion.specs.Expansions.{Grows}
 use Rattle.p3_expansion.specs.declared.work.Work.{Work}
@@ -40,17 +38,16 @@ brings-with atoms atom = by (list_any (bytes_eq atom) atoms)
     by false = record { passed = λ passes old those. list_all-append passes atoms (atom ∷ []) ∙ and_from (list_all passes atoms) (list_all passes (atom ∷ [])) old those }
 
 pub grows-refl : (reads : List GroundAtom) (work : Work) → Grows reads work work
-grows-refl reads work = record { atoms = keeps-refl work.atoms; brings = record { passed = λ passes old those. old }; table = node_lemma.grows-refl work.table }
+grows-refl reads work = record { atoms = keeps-refl work.atoms; brings = record { passed = λ passes old those. old } }
 
 pub grows-trans : (reads : List GroundAtom) (first second third : Work) → Grows reads first second → Grows reads second third → Grows reads first third
 grows-trans reads first second third a b = record {
   atoms = keeps-trans first.atoms second.atoms third.atoms a.atoms b.atoms;
   brings = record { passed = λ passes old those. b.brings.passed passes (a.brings.passed passes old those) those };
-  table = node_lemma.grows-trans first.table second.table third.table a.table b.table;
 }
 
 pub grows-wider : (whole part : List GroundAtom) (old new : Work) → Covers whole part → Grows part old new → Grows whole old new
-grows-wider whole part old new covers grows = record { atoms = grows.atoms; brings = record { passed = λ passes before those. grows.brings.passed passes before (covers passes those) }; table = grows.table }
+grows-wider whole part old new covers grows = record { atoms = grows.atoms; brings = record { passed = λ passes before those. grows.brings.passed passes before (covers passes those) } }
 
 pub covers-none : (whole : List GroundAtom) → Covers whole []
 covers-none whole passes those = refl
@@ -58,24 +55,18 @@ covers-none whole passes those = refl
 pub grows-none : (whole : List GroundAtom) (old new : Work) → Grows [] old new → Grows whole old new
 grows-none whole old new grows = grows-wider whole [] old new (covers-none whole) grows
 
--- a node more
-pub grows-node : (old new : Work) → new.atoms ≡ old.atoms → node.Grows old.table new.table → Grows [] old new
-grows-node old new same grows = record {
-  atoms = subst (Keeps old.atoms) (sym same) (keeps-refl old.atoms);
-  brings = subst (Brings [] old.atoms) (sym same) (record { passed = λ passes before those. before });
-  table = grows;
-}
-
 -- an atom more
-pub grows-atom : (old new : Work) (atom : GroundAtom) → new.table ≡ old.table → new.atoms ≡ with_atom old.atoms atom → Grows (atom ∷ []) old new
-grows-atom old new atom same is = record {
+pub grows-atom : (old new : Work) (atom : GroundAtom) → new.atoms ≡ with_atom old.atoms atom → Grows (atom ∷ []) old new
+grows-atom old new atom is = record {
   atoms = subst (Keeps old.atoms) (sym is) (keeps-with old.atoms atom);
   brings = subst (Brings (atom ∷ []) old.atoms) (sym is) (brings-with old.atoms atom);
-  table = subst (node.Grows old.table) (sym same) (node_lemma.grows-refl old.table);
 }
 
--- neither
-pub grows-same : (old new : Work) → new.table ≡ old.table → new.atoms ≡ old.atoms → Grows [] old new
-grows-same old new table atoms = grows-node old new atoms (subst (node.Grows old.table) (sym table) (node_lemma.grows-refl old.table))
+-- none
+pub grows-same : (old new : Work) → new.atoms ≡ old.atoms → Grows [] old new
+grows-same old new same = record {
+  atoms = subst (Keeps old.atoms) (sym same) (keeps-refl old.atoms);
+  brings = subst (Brings [] old.atoms) (sym same) (record { passed = λ passes before those. before });
+}
 
-pub ruleset growth_laws = (grows-node, grows-atom, grows-same)
+pub ruleset growth_laws = (grows-atom, grows-same)

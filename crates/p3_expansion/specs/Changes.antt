@@ -2,7 +2,6 @@
 use Rattle.std.specs.Prelude.{◌≡◌, ◌⊎◌, Bool, true, false, ◌&&◌, List, [], ◌∷◌, ◌++◌, map, flat_map, slice_get, Some, IsTrue}
 use Rattle.std.specs.List.{list_all}
 use Rattle.p3_tree.specs.States.{State}
-use Rattle.p3_formula.specs.Nodes.{form_of}
 use Rattle.p3_formula.specs.Tidy.{is_tidy}
 use Rattle.p3_formula.specs.declared.form.Change.{Change}
 use Rattle.p3_formula.specs.declared.form.Form.TheVariants as form
@@ -14,7 +13,7 @@ use Rattle.p3_numbers.specs.declared.effect.NumberedEffect.{NumberedEffect, Numb
 use Rattle.p3_numbers.specs.declared.effect.NumberedEffect.TheOpen as layer
 use Rattle.p3_numbers.specs.declared.numbers.Numbers.{Numbers}
 use Rattle.p3_expansion.specs.Atoms.{GroundAtom, atom_at}
-use Rattle.p3_expansion.specs.Expansions.{Stands, Grows, Means, IsSame, Tells}
+use Rattle.p3_expansion.specs.Expansions.{Stands, Grows, Tells}
 use Rattle.p3_expansion.specs.Meanings.{Meaning, condition_atoms}
 use Rattle.p3_expansion.specs.Statics.{IsSettled}
 use Rattle.p3_expansion.specs.declared.effect.Guard.{Guard}
@@ -94,15 +93,15 @@ ChangesStand N S atoms (literal ∷ meant) (change ∷ made) =
 
 -- ---- under a guard
 
--- the guard's node stands for what stands above, and is True where it is free
-pub record Guards (N : Numbers) (S : Statics) (work : Work) (guard : Guard) (above : Meaning) : Type 0 where
-  pub means : Means N S work above guard.number
-  pub free : guard.is_free ≡ true → form_of work.table guard.number ≡ form.True
+-- the guard's form stands for what stands above, and is True where it is free
+pub record Guards (N : Numbers) (S : Statics) (atoms : List GroundAtom) (guard : Guard) (above : Meaning) : Type 0 where
+  pub stands : Stands N S atoms above guard.form
+  pub free : guard.is_free ≡ true → guard.form ≡ form.True
 
 -- whatever stands above, changes are made for the literals under it
 pub record ChangesUnder (N : Numbers) (S : Statics) (guard : Guard) (reads : List GroundAtom) (old new : Work) (meant : Meaning → List GuardedLiteral) (before after : List Change) : Type 0 where
   pub grows : Grows reads old new
-  pub made : (above : Meaning) → Guards N S old guard above → (those : List GuardedLiteral) → ChangesStand N S old.atoms those before → ChangesStand N S new.atoms (those ++ meant above) after
+  pub made : (above : Meaning) → Guards N S old.atoms guard above → (those : List GuardedLiteral) → ChangesStand N S old.atoms those before → ChangesStand N S new.atoms (those ++ meant above) after
 
 -- one change more, of that atom under the guard
 pub record AddsChange (old new : Work) (guard : Guard) (add : Bool) (atom : GroundAtom) (before after : List Change) : Type 0 where
@@ -110,14 +109,13 @@ pub record AddsChange (old new : Work) (guard : Guard) (add : Bool) (atom : Grou
   pub is : after ≡ before ++ change ∷ []
   pub adds : change.add ≡ add
   pub stored : slice_get new.atoms change.atom ≡ Some atom
-  pub cond : IsSame (form_of old.table guard.number) change.cond
+  pub cond : change.cond ≡ guard.form
   pub tidy : IsTrue (is_tidy change.cond)
-  pub free : form_of old.table guard.number ≡ form.True → change.cond ≡ form.True
   pub grows : Grows (atom ∷ []) old new
 
 -- ---- a whole effect
 
--- the changes of an effect, among the atoms and nodes that came
+-- the changes of an effect, among the atoms that came
 pub record MakesChanges (N : Numbers) (S : Statics) (slots : Slots) (effect : NumberedEffect) (old new : Work) (made : List Change) : Type 0 where
   pub grows : Grows (effect_atoms N slots effect) old new
   pub stand : ChangesStand N S new.atoms (guarded_literals N always true slots effect) made

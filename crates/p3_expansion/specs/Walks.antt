@@ -1,4 +1,4 @@
--- Lists that are made of what is meant, item by item, while atoms and nodes come.
+-- Lists that are made of what is meant, item by item, while atoms come.
 use Rattle.std.specs.Prelude.{List, ◌++◌}
 use Rattle.p3_expansion.specs.Atoms.{GroundAtom}
 use Rattle.p3_expansion.specs.Expansions.{Grows}

@@ -1,111 +1,91 @@
-//! Conditions at objects as numbered nodes, with what no step changes decided.
+//! Conditions at objects as tidy forms, with what no step changes decided.
 
-ghost use Rattle.std.specs.Prelude.{false, IfOk};
-ghost use Rattle.p3_expansion.specs.Expansions.{Expands, Gathers};
+ghost use Rattle.std.specs.Prelude.{true, false, IfOk};
+ghost use Rattle.p3_expansion.specs.Expansions.{Gathers};
+ghost use Rattle.p3_expansion.specs.Forms.{Makes};
 ghost use Rattle.p3_expansion.specs.Meanings.{condition_meaning, combined, quantified, reads_of};
 
 use crate::choices::{choice_count, place_choice};
+use crate::form::{constant, is_value, negated};
 use crate::junction::{Junction, either};
 use crate::work::are_same;
 use crate::{Statics, Work};
 use p3_base::NoMemory;
+use p3_formula::Form;
 use p3_numbers::{Argument, Condition, Numbers};
 
-/// The node of an atom.
-fn atom_node(
+/// The form of an atom.
+fn atom_form(
     numbers: &Numbers,
     statics: &Statics,
     work: &mut Work,
     slots: &[u32],
     predicate: u32,
     args: &[Argument],
-) -> Result<usize, NoMemory>
-    ensures { IfOk result (λ number. Expands numbers.now statics.now work.old work.new
-        (condition_meaning numbers.now slots.now (Condition.Atom predicate args.now)) number) }
+) -> Result<Form, NoMemory>
+    ensures { IfOk result (Makes numbers.now statics.now work.old work.new
+        (condition_meaning numbers.now slots.now (Condition.Atom predicate args.now))) }
 {
     work.spell(slots, predicate, args)?;
     if statics.is_decided(numbers, work.words.as_slice()) {
         let holds = statics.facts.has(work.words.as_slice());
-        let number = work.constant(holds)?;
-        return Ok(number);
+        return Ok(constant(holds));
     }
-    let number = work.add_atom()?;
-    Ok(number)
+    let form = work.atom_form()?;
+    Ok(form)
 }
 
-/// The node of an equality.
-fn equality_node(
-    numbers: &Numbers,
-    statics: &Statics,
-    work: &mut Work,
-    slots: &[u32],
-    left: Argument,
-    right: Argument,
-) -> Result<usize, NoMemory>
-    ensures { IfOk result (λ number. Expands numbers.now statics.now work.old work.new
-        (condition_meaning numbers.now slots.now (Condition.Equal left right)) number) }
-{
-    let number = work.constant(are_same(slots, left, right))?;
-    Ok(number)
-}
-
-/// The node of a condition at the objects in the slots. What no step changes is decided at once.
+/// The tidy form of a condition at the objects in the slots. What no step changes is decided at
+/// once.
 #[cycle(expand)]
-pub(crate) fn condition_node(
+pub(crate) fn condition_form(
     numbers: &Numbers,
     statics: &Statics,
     work: &mut Work,
     slots: &[u32],
     condition: &Condition,
-) -> Result<usize, NoMemory>
-    ensures { IfOk result (λ number. Expands numbers.now statics.now work.old work.new
-        (condition_meaning numbers.now slots.now condition.now) number) }
+) -> Result<Form, NoMemory>
+    ensures { IfOk result (Makes numbers.now statics.now work.old work.new
+        (condition_meaning numbers.now slots.now condition.now)) }
 {
     match condition {
         Condition::Atom { predicate, args } => {
-            let number = atom_node(numbers, statics, work, slots, *predicate, args.items())?;
-            Ok(number)
+            let form = atom_form(numbers, statics, work, slots, *predicate, args.items())?;
+            Ok(form)
         }
-        Condition::Equal(left, right) => {
-            let number = equality_node(numbers, statics, work, slots, *left, *right)?;
-            Ok(number)
-        }
+        Condition::Equal(left, right) => Ok(constant(are_same(slots, *left, *right))),
         Condition::And(parts) => {
             let gathered = gathered_parts(numbers, statics, work, slots, true, parts.items())?;
-            let number = gathered.finish(work)?;
-            Ok(number)
+            Ok(gathered.finish())
         }
         Condition::Or(parts) => {
             let gathered = gathered_parts(numbers, statics, work, slots, false, parts.items())?;
-            let number = gathered.finish(work)?;
-            Ok(number)
+            Ok(gathered.finish())
         }
         Condition::Not(part) => {
-            let part = condition_node(numbers, statics, work, slots, part.get())?;
-            let number = work.negated(part)?;
-            Ok(number)
+            let part = condition_form(numbers, statics, work, slots, part.get())?;
+            let form = negated(work.alloc, part)?;
+            Ok(form)
         }
         Condition::Imply(first, second) => {
-            let first = condition_node(numbers, statics, work, slots, first.get())?;
-            let first = work.negated(first)?;
-            if work.is_constant(first, true) {
+            let first = condition_form(numbers, statics, work, slots, first.get())?;
+            let first = negated(work.alloc, first)?;
+            if is_value(&first, true) {
                 return Ok(first);
             }
-            let second = condition_node(numbers, statics, work, slots, second.get())?;
-            let number = either(work, first, second)?;
-            Ok(number)
+            let second = condition_form(numbers, statics, work, slots, second.get())?;
+            let form = either(work.alloc, first, second)?;
+            Ok(form)
         }
         Condition::Exists(ranges, body) => {
             let (ranges, body) = (ranges.items(), body.get());
             let gathered = gathered_body(numbers, statics, work, slots, false, ranges, body)?;
-            let number = gathered.finish(work)?;
-            Ok(number)
+            Ok(gathered.finish())
         }
         Condition::Forall(ranges, body) => {
             let (ranges, body) = (ranges.items(), body.get());
             let gathered = gathered_body(numbers, statics, work, slots, true, ranges, body)?;
-            let number = gathered.finish(work)?;
-            Ok(number)
+            Ok(gathered.finish())
         }
     }
 }
@@ -124,13 +104,13 @@ fn gathered_parts(
         (reads_of (combined numbers.now slots.now parts.now)) work.old work.new every
         (combined numbers.now slots.now parts.now)) }
 {
-    let mut gathered = Junction::new(work.alloc, every);
+    let mut gathered = Junction::with_room(work.alloc, every, parts.len())?;
     for part in parts {
         if gathered.is_cut {
             return Ok(gathered);
         }
-        let number = condition_node(numbers, statics, work, slots, part)?;
-        gathered.take(work, number)?;
+        let made = condition_form(numbers, statics, work, slots, part)?;
+        gathered.take(made)?;
     }
     Ok(gathered)
 }
@@ -158,8 +138,8 @@ fn gathered_body(
             return Ok(gathered);
         }
         place_choice(&mut inner, slots.len(), numbers, ranges, count, choice)?;
-        let number = condition_node(numbers, statics, work, inner.as_slice(), body)?;
-        gathered.take(work, number)?;
+        let made = condition_form(numbers, statics, work, inner.as_slice(), body)?;
+        gathered.take(made)?;
     }
     Ok(gathered)
 }

@@ -12,7 +12,7 @@ ghost use Rattle.p3_expansion.specs.Operators.{
 ghost use Rattle.p3_expansion.specs.Walks.{Pushes};
 
 use crate::choices::{choice_count, place_choice};
-use crate::form::condition_form;
+use crate::condition::condition_form;
 use crate::{Statics, Work};
 use p3_base::{List, NoMemory};
 use p3_formula::GroundModal;

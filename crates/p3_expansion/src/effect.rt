@@ -1,28 +1,27 @@
 //! Effects at objects as changes.
 
-ghost use Rattle.std.specs.Prelude.{◌≡◌, ◌<◌, [], false, length, flat_map, OnOk, IfOk};
+ghost use Rattle.std.specs.Prelude.{◌≡◌, true, false, flat_map, OnOk, IfOk, IsTrue};
+ghost use Rattle.p3_formula.specs.Tidy.{is_tidy};
 ghost use Rattle.p3_numbers.specs.Slots.{bound};
-ghost use Rattle.p3_numbers.specs.declared.numbers.Numbers.{Numbers as AllNumbers};
 ghost use Rattle.p3_expansion.specs.Atoms.{atom_at};
-ghost use Rattle.p3_expansion.specs.Changes.{AddsChange, ChangesUnder, Guards, MakesChanges, always, both as both_meanings, effect_atoms, guarded_literals};
-ghost use Rattle.p3_expansion.specs.Expansions.{Grows, Means};
-ghost use Rattle.p3_expansion.specs.Meanings.{Meaning};
-ghost use Rattle.p3_expansion.specs.declared.statics.Statics.{Statics as AllStatics};
+ghost use Rattle.p3_expansion.specs.Changes.{AddsChange, ChangesUnder, MakesChanges, effect_atoms, guarded_literals};
+ghost use Rattle.p3_expansion.specs.Expansions.{IsJoined};
 
 use crate::choices::{choice_count, place_choice};
-use crate::condition::condition_node;
-use crate::form::form_at;
+use crate::condition::condition_form;
+use crate::form::is_value;
 use crate::junction::both;
 use crate::{Statics, Work};
 use p3_base::{List, NoMemory};
-use p3_formula::{Change, Effects, fitted};
+use p3_formula::{Change, Effects, Form, copied, fitted};
 use p3_numbers::{Argument, NumberedEffect, Numbers};
+use std::alloc::Global;
 
 /// The conditions that stand above a part of an effect.
-#[derive(Clone, Copy)]
+#[derive(Drop)]
 pub(crate) struct Guard {
-    /// The node that all of them hold.
-    pub(crate) number: usize,
+    /// The tidy form that all of them hold.
+    pub(crate) form: Form,
     /// Whether there is none.
     pub(crate) is_free: bool,
 }
@@ -30,18 +29,18 @@ pub(crate) struct Guard {
 /// Puts the change of an atom behind those made.
 fn push_change(
     work: &mut Work,
-    guard: Guard,
+    guard: &Guard,
     slots: &[u32],
     add: bool,
     predicate: u32,
     args: &[Argument],
     made: &mut Effects,
 ) -> Result<(), NoMemory>
-    requires { guard.number < length work.old.table }
-    ensures { OnOk result (AddsChange work.old work.new guard add
+    requires { IsTrue (is_tidy guard.now.form) }
+    ensures { OnOk result (AddsChange work.old work.new guard.now add
         (atom_at slots.now predicate args.now) made.old made.new) }
 {
-    let cond = form_at(work, guard.number)?;
+    let cond = copied(work.alloc, &guard.form)?;
     work.spell(slots, predicate, args)?;
     let atom = work.atom_number()?;
     made.push(Change { cond, atom, add })?;
@@ -49,20 +48,17 @@ fn push_change(
 }
 
 /// The guard with one condition more.
-fn narrowed(work: &mut Work, guard: Guard, condition: usize) -> Result<Guard, NoMemory>
-    requires guard { guard.number < length work.old.table }
-    requires condition { condition < length work.old.table }
-    ensures grows { OnOk result (Grows [] work.old work.new) }
-    ensures guards { IfOk result (λ narrow. (N : AllNumbers) (S : AllStatics)
-        (above below : Meaning) → Means N S work.old above guard.number
-        → Means N S work.old below condition
-        → Guards N S work.new narrow (both_meanings above below)) }
+fn narrowed(alloc: Global, guard: &Guard, condition: Form) -> Result<Guard, NoMemory>
+    requires guard { IsTrue (is_tidy guard.now.form) }
+    requires condition { IsTrue (is_tidy condition) }
+    ensures joined { IfOk result (λ narrow. IsJoined true guard.now.form condition narrow.form) }
     ensures free { IfOk result (λ narrow. narrow.is_free ≡ false) }
-    ensures within { IfOk result (λ narrow. narrow.number < length work.new.table) }
+    ensures tidy { IfOk result (λ narrow. IsTrue (is_tidy narrow.form)) }
 {
-    let number = both(work, guard.number, condition)?;
+    let above = copied(alloc, &guard.form)?;
+    let form = both(alloc, above, condition)?;
     Ok(Guard {
-        number,
+        form,
         is_free: false,
     })
 }
@@ -74,14 +70,14 @@ fn push_changes(
     statics: &Statics,
     work: &mut Work,
     slots: &[u32],
-    guard: Guard,
+    guard: &Guard,
     effect: &NumberedEffect,
     made: &mut Effects,
 ) -> Result<(), NoMemory>
-    requires { guard.number < length work.old.table }
-    ensures { OnOk result (ChangesUnder numbers.now statics.now guard
+    requires { IsTrue (is_tidy guard.now.form) }
+    ensures { OnOk result (ChangesUnder numbers.now statics.now guard.now
         (effect_atoms numbers.now slots.now effect.now) work.old work.new
-        (λ above. guarded_literals numbers.now above guard.is_free slots.now effect.now)
+        (λ above. guarded_literals numbers.now above guard.now.is_free slots.now effect.now)
         made.old made.new) }
 {
     match effect {
@@ -103,12 +99,12 @@ fn push_changes(
             Ok(())
         }
         NumberedEffect::If(condition, body) => {
-            let condition = condition_node(numbers, statics, work, slots, condition)?;
-            let narrow = narrowed(work, guard, condition)?;
-            if work.is_constant(narrow.number, false) {
+            let condition = condition_form(numbers, statics, work, slots, condition)?;
+            let narrow = narrowed(work.alloc, guard, condition)?;
+            if is_value(&narrow.form, false) {
                 return Ok(());
             }
-            push_changes(numbers, statics, work, slots, narrow, body.get(), made)?;
+            push_changes(numbers, statics, work, slots, &narrow, body.get(), made)?;
             Ok(())
         }
         NumberedEffect::Cost(_) => Ok(()),
@@ -122,14 +118,14 @@ fn push_all(
     statics: &Statics,
     work: &mut Work,
     slots: &[u32],
-    guard: Guard,
+    guard: &Guard,
     parts: &[NumberedEffect],
     made: &mut Effects,
 ) -> Result<(), NoMemory>
-    requires { guard.number < length work.old.table }
-    ensures { OnOk result (ChangesUnder numbers.now statics.now guard
+    requires { IsTrue (is_tidy guard.now.form) }
+    ensures { OnOk result (ChangesUnder numbers.now statics.now guard.now
         (flat_map (effect_atoms numbers.now slots.now) parts.now) work.old work.new
-        (λ above. flat_map (guarded_literals numbers.now above guard.is_free slots.now) parts.now)
+        (λ above. flat_map (guarded_literals numbers.now above guard.now.is_free slots.now) parts.now)
         made.old made.new) }
 {
     for part in parts {
@@ -145,17 +141,17 @@ fn push_each(
     statics: &Statics,
     work: &mut Work,
     slots: &[u32],
-    guard: Guard,
+    guard: &Guard,
     ranges: &[u32],
     body: &NumberedEffect,
     made: &mut Effects,
 ) -> Result<(), NoMemory>
-    requires { guard.number < length work.old.table }
-    ensures { OnOk result (ChangesUnder numbers.now statics.now guard
+    requires { IsTrue (is_tidy guard.now.form) }
+    ensures { OnOk result (ChangesUnder numbers.now statics.now guard.now
         (flat_map (λ inner. effect_atoms numbers.now inner body.now)
         (bound numbers.now slots.now ranges.now)) work.old work.new
         (λ above. flat_map
-        (λ inner. guarded_literals numbers.now above guard.is_free inner body.now)
+        (λ inner. guarded_literals numbers.now above guard.now.is_free inner body.now)
         (bound numbers.now slots.now ranges.now)) made.old made.new) }
 {
     let count = choice_count(numbers, ranges)?;
@@ -167,12 +163,27 @@ fn push_each(
     Ok(())
 }
 
-/// How many parts the effect has at least.
-fn part_count(effect: &NumberedEffect) -> usize {
+/// How many literals the effect has, where each body is taken once.
+#[cycle(count)]
+fn literal_count(effect: &NumberedEffect) -> usize {
     match effect {
-        NumberedEffect::All(parts) => parts.len(),
-        _ => 1,
+        NumberedEffect::Add { .. } => 1,
+        NumberedEffect::Del { .. } => 1,
+        NumberedEffect::All(parts) => literal_sum(parts.items()),
+        NumberedEffect::Each(_, body) => literal_count(body.get()),
+        NumberedEffect::If(_, body) => literal_count(body.get()),
+        NumberedEffect::Cost(_) => 0,
     }
+}
+
+/// How many literals the effects have together.
+#[cycle(count)]
+fn literal_sum(parts: &[NumberedEffect]) -> usize {
+    let mut sum = 0usize;
+    for part in parts {
+        sum = sum.saturating_add(literal_count(part));
+    }
+    sum
 }
 
 /// The changes of an effect at the objects in the slots, in a list that may have room for more.
@@ -186,13 +197,12 @@ fn made_changes(
     ensures { IfOk result
         (MakesChanges numbers.now statics.now slots.now effect.now work.old work.new) }
 {
-    let number = work.constant(true)?;
     let guard = Guard {
-        number,
+        form: Form::True,
         is_free: true,
     };
-    let mut made = List::from(Vec::with_capacity(work.alloc, part_count(effect))?);
-    push_changes(numbers, statics, work, slots, guard, effect, &mut made)?;
+    let mut made = List::from(Vec::with_capacity(work.alloc, literal_count(effect))?);
+    push_changes(numbers, statics, work, slots, &guard, effect, &mut made)?;
     Ok(made)
 }
 

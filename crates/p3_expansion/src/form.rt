@@ -1,66 +1,67 @@
-//! Conditions and goals at objects as forms.
+//! Forms that are made of others.
 
-ghost use Rattle.std.specs.Prelude.{◌≡◌, ◌<◌, true, length, IfOk, IsTrue};
-ghost use Rattle.p3_formula.specs.Nodes.{form_of};
-ghost use Rattle.p3_formula.specs.Simplified.{constant as constant_of};
-ghost use Rattle.p3_formula.specs.Tidy.{is_tidy};
-ghost use Rattle.p3_expansion.specs.Expansions.{IsSame};
-ghost use Rattle.p3_expansion.specs.Forms.{Makes};
-ghost use Rattle.p3_expansion.specs.Hard.{hard_meaning};
-ghost use Rattle.p3_expansion.specs.Meanings.{condition_meaning};
+ghost use Rattle.std.specs.Prelude.{◌≡◌, IfOk};
+ghost use Rattle.p3_formula.specs.Simplified as made;
 
-use crate::condition::condition_node;
-use crate::goal::hard_node;
-use crate::{Statics, Work};
-use p3_base::NoMemory;
-use p3_formula::{Form, tidied};
-use p3_numbers::{Condition, Goal, Numbers};
+use p3_base::{List, NoMemory};
+use p3_formula::Form;
+use std::alloc::Global;
 
-/// The tidy form of a number.
-#[tactic(auto, using(crate::proofs::FormParts::simplified_laws))]
-pub(crate) fn form_at(work: &Work, number: usize) -> Result<Form, NoMemory>
-    requires { number < length work.now.table }
-    ensures same { IfOk result (λ form. IsSame (form_of work.now.table number) form) }
-    ensures tidy { IfOk result (λ form. IsTrue (is_tidy form)) }
-    // What always holds stays as it is.
-    ensures stays { form_of work.now.table number ≡ constant_of true
-        → IfOk result (λ form. form ≡ constant_of true) }
+/// The constant of that value.
+pub(crate) fn constant(value: bool) -> Form
+    ensures { result ≡ made.constant value }
 {
-    let form = work.table.form(work.alloc, number)?;
-    let simple = tidied(work.alloc, form)?;
-    Ok(simple)
+    if value { Form::True } else { Form::False }
 }
 
-/// The tidy form of a condition at the objects in the slots.
-#[tactic(auto, using(crate::proofs::ExpansionLemmas::form_laws))]
-pub(crate) fn condition_form(
-    numbers: &Numbers,
-    statics: &Statics,
-    work: &mut Work,
-    slots: &[u32],
-    condition: &Condition,
-) -> Result<Form, NoMemory>
-    ensures { IfOk result (Makes numbers.now statics.now work.old work.new
-        (condition_meaning numbers.now slots.now condition.now)) }
+/// Whether the form is the constant of that value.
+pub(crate) fn is_value(form: &Form, value: bool) -> bool
+    ensures { result ≡ made.is_value value form.now }
 {
-    let number = condition_node(numbers, statics, work, slots, condition)?;
-    let form = form_at(work, number)?;
-    Ok(form)
+    match form {
+        Form::True => value,
+        Form::False => !value,
+        Form::Atom(_) | Form::Not(_) | Form::And(_) | Form::Or(_) => false,
+    }
 }
 
-/// The tidy form of the hard part of a goal at the objects in the slots.
-#[tactic(auto, using(crate::proofs::ExpansionLemmas::form_laws))]
-pub fn hard_form(
-    numbers: &Numbers,
-    statics: &Statics,
-    work: &mut Work,
-    slots: &[u32],
-    goal: &Goal,
-) -> Result<Form, NoMemory>
-    ensures { IfOk result (Makes numbers.now statics.now work.old work.new
-        (hard_meaning numbers.now slots.now goal.now)) }
+/// The opposite, with no negation of a constant or of a negation.
+#[tactic(auto, using(p3_formula::proofs::SimplifiedLemmas::negated_laws))]
+pub(crate) fn negated(alloc: Global, form: Form) -> Result<Form, NoMemory>
+    ensures { IfOk result (λ opposite. opposite ≡ made.negated form) }
 {
-    let number = hard_node(numbers, statics, work, slots, goal)?;
-    let form = form_at(work, number)?;
-    Ok(form)
+    match form {
+        Form::True => Ok(Form::False),
+        Form::False => Ok(Form::True),
+        Form::Not(part) => Ok(part.into_inner()),
+        Form::Atom(atom) => Form::negation(alloc, Form::Atom(atom)),
+        Form::And(parts) => Form::negation(alloc, Form::And(parts)),
+        Form::Or(parts) => Form::negation(alloc, Form::Or(parts)),
+    }
+}
+
+/// A conjunction of the parts, or else their disjunction.
+fn together(parts: List<Form>, every: bool) -> Form
+    ensures { result ≡ made.together every parts }
+{
+    if every {
+        Form::And(parts)
+    } else {
+        Form::Or(parts)
+    }
+}
+
+/// The conjunction of the parts, or else their disjunction, where there are two or more.
+pub(crate) fn joined(parts: List<Form>, every: bool) -> Form
+    ensures { result ≡ made.joined every parts }
+{
+    let mut parts = parts.into_items();
+    if parts.len() > 1 {
+        parts.shrink_to_fit();
+        return together(List::from(parts), every);
+    }
+    match parts.pop() {
+        Some(part) => part,
+        None => constant(every),
+    }
 }

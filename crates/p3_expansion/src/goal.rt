@@ -1,50 +1,59 @@
-//! The hard parts of goals at objects as numbered nodes.
+//! The hard parts of goals at objects as tidy forms.
 
 ghost use Rattle.std.specs.Prelude.{true, IfOk};
-ghost use Rattle.p3_expansion.specs.Expansions.{Expands, Gathers};
+ghost use Rattle.p3_expansion.specs.Expansions.{Gathers};
+ghost use Rattle.p3_expansion.specs.Forms.{Makes};
 ghost use Rattle.p3_expansion.specs.Hard.{hard_meaning, hard_parts as parts_of, hard_bodies as bodies_of};
 ghost use Rattle.p3_expansion.specs.Meanings.{reads_of};
 
 use crate::choices::{choice_count, place_choice};
-use crate::condition::condition_node;
+use crate::condition::condition_form;
 use crate::junction::Junction;
 use crate::{Statics, Work};
 use p3_base::NoMemory;
+use p3_formula::Form;
 use p3_numbers::{Goal, Numbers};
 
-/// The node of the hard part of a goal at the objects in the slots.
+/// The tidy form of the hard part of a goal at the objects in the slots.
 #[cycle(hard)]
-pub(crate) fn hard_node(
+pub fn hard_form(
     numbers: &Numbers,
     statics: &Statics,
     work: &mut Work,
     slots: &[u32],
     goal: &Goal,
-) -> Result<usize, NoMemory>
-    ensures { IfOk result (λ number. Expands numbers.now statics.now work.old work.new
-        (hard_meaning numbers.now slots.now goal.now) number) }
+) -> Result<Form, NoMemory>
+    ensures { IfOk result (Makes numbers.now statics.now work.old work.new
+        (hard_meaning numbers.now slots.now goal.now)) }
 {
     match goal {
         Goal::Plain(condition) => {
-            let number = condition_node(numbers, statics, work, slots, condition)?;
-            Ok(number)
+            let form = condition_form(numbers, statics, work, slots, condition)?;
+            Ok(form)
         }
         Goal::Both(parts) => {
             let gathered = hard_parts(numbers, statics, work, slots, parts.items())?;
-            let number = gathered.finish(work)?;
-            Ok(number)
+            Ok(gathered.finish())
         }
         Goal::Each(ranges, body) => {
             let (ranges, body) = (ranges.items(), body.get());
             let gathered = hard_bodies(numbers, statics, work, slots, ranges, body)?;
-            let number = gathered.finish(work)?;
-            Ok(number)
+            Ok(gathered.finish())
         }
-        Goal::Soft(_) => {
-            let number = work.constant(true)?;
-            Ok(number)
+        Goal::Soft(_) => Ok(Form::True),
+    }
+}
+
+/// How many of the goals are more than a preference.
+fn hard_count(parts: &[Goal]) -> usize {
+    let mut count = 0usize;
+    for part in parts {
+        match part {
+            Goal::Soft(_) => {}
+            _ => count = count.wrapping_add(1),
         }
     }
+    count
 }
 
 /// The hard parts of the goals, until they are decided.
@@ -60,13 +69,13 @@ fn hard_parts(
         (reads_of (parts_of numbers.now slots.now parts.now)) work.old work.new true
         (parts_of numbers.now slots.now parts.now)) }
 {
-    let mut gathered = Junction::new(work.alloc, true);
+    let mut gathered = Junction::with_room(work.alloc, true, hard_count(parts))?;
     for part in parts {
         if gathered.is_cut {
             return Ok(gathered);
         }
-        let number = hard_node(numbers, statics, work, slots, part)?;
-        gathered.take(work, number)?;
+        let form = hard_form(numbers, statics, work, slots, part)?;
+        gathered.take(form)?;
     }
     Ok(gathered)
 }
@@ -93,8 +102,8 @@ fn hard_bodies(
             return Ok(gathered);
         }
         place_choice(&mut inner, slots.len(), numbers, ranges, count, choice)?;
-        let number = hard_node(numbers, statics, work, inner.as_slice(), body)?;
-        gathered.take(work, number)?;
+        let form = hard_form(numbers, statics, work, inner.as_slice(), body)?;
+        gathered.take(form)?;
     }
     Ok(gathered)
 }

@@ -1,22 +1,21 @@
 //! Parts that are joined.
 
-ghost use Rattle.std.specs.Prelude.{◌≡◌, ◌<◌, false, true, [], ◌∷◌, ◌++◌, length, not, OnOk, IfOk};
-ghost use Rattle.p3_formula.specs.Nodes.{form_of};
-ghost use Rattle.p3_formula.specs.Simplified.{constant as constant_of};
-ghost use Rattle.p3_expansion.specs.Expansions.{Grows, IsJoined, IsSame, IsSound, junction_form};
+ghost use Rattle.std.specs.Prelude.{◌≡◌, true, false, [], OnOk, IfOk, IsTrue};
+ghost use Rattle.p3_formula.specs.Tidy.{is_tidy};
+ghost use Rattle.p3_expansion.specs.Expansions.{IsJoined, IsSound, junction_form};
 
-use crate::Work;
+use crate::form::{constant, is_value, joined};
 use p3_base::{List, NoMemory};
-use p3_formula::Node;
+use p3_formula::Form;
 use std::alloc::Global;
 
-/// The numbers of parts, all of which hold or else some of which does.
-#[derive(Debug, Drop)]
+/// Parts, all of which hold or else some of which does.
+#[derive(Drop)]
 pub(crate) struct Junction {
     /// Whether all hold.
     pub(crate) every: bool,
-    /// The parts that are not decided, or behind them the one that decides.
-    pub(crate) numbers: List<usize>,
+    /// The parts that are no constants.
+    pub(crate) parts: List<Form>,
     /// Whether a part has decided it.
     pub(crate) is_cut: bool,
 }
@@ -25,136 +24,100 @@ impl Junction {
     /// No part.
     pub(crate) fn new(alloc: Global, every: bool) -> Junction
         ensures every { result.every ≡ every }
-        ensures numbers { result.numbers ≡ [] }
+        ensures parts { result.parts ≡ [] }
         ensures cut { result.is_cut ≡ false }
     {
         Junction {
             every,
-            numbers: List::new(alloc),
+            parts: List::new(alloc),
             is_cut: false,
         }
     }
 
-    /// Takes the part, which decides where it is told.
-    fn keep(&mut self, work: &Work, number: usize, decides: bool) -> Result<(), NoMemory>
-        requires within { number < length work.now.table }
-        requires sound { IsSound work.now self.old }
-        requires decides { decides ≡ true → form_of work.now.table number
-            ≡ constant_of (not self.old.every) }
-        ensures every { OnOk result (self.new.every ≡ self.old.every) }
-        ensures sound { OnOk result (IsSound work.now self.new) }
-        ensures joined { OnOk result (IsJoined self.old.every (junction_form work.now self.old)
-            (form_of work.now.table number) (junction_form work.now self.new)) }
+    /// No part, with room for so many.
+    pub(crate) fn with_room(alloc: Global, every: bool, room: usize) -> Result<Junction, NoMemory>
+        ensures every { IfOk result (λ junction. junction.every ≡ every) }
+        ensures parts { IfOk result (λ junction. junction.parts ≡ []) }
+        ensures cut { IfOk result (λ junction. junction.is_cut ≡ false) }
     {
-        self.numbers.push(number)?;
-        self.is_cut = decides;
-        Ok(())
+        let parts = List::from(Vec::with_capacity(alloc, room)?);
+        Ok(Junction {
+            every,
+            parts,
+            is_cut: false,
+        })
     }
 
     /// Takes one part more.
-    #[tactic(auto, using(crate::proofs::FormParts::joined_laws))]
-    pub(crate) fn take(&mut self, work: &Work, number: usize) -> Result<(), NoMemory>
-        requires within { number < length work.now.table }
-        requires sound { IsSound work.now self.old }
+    pub(crate) fn take(&mut self, part: Form) -> Result<(), NoMemory>
+        requires tidy { IsTrue (is_tidy part) }
+        requires sound { IsSound self.old }
         ensures every { OnOk result (self.new.every ≡ self.old.every) }
-        ensures sound { OnOk result (IsSound work.now self.new) }
-        ensures joined { OnOk result (IsJoined self.old.every (junction_form work.now self.old)
-            (form_of work.now.table number) (junction_form work.now self.new)) }
+        ensures sound { OnOk result (IsSound self.new) }
+        ensures joined { OnOk result
+            (IsJoined self.old.every (junction_form self.old) part (junction_form self.new)) }
     {
-        if work.is_constant(number, self.every) {
+        if is_value(&part, self.every) {
             return Ok(());
         }
-        let decides = work.is_constant(number, !self.every);
-        self.keep(work, number, decides)?;
+        if is_value(&part, !self.every) {
+            self.is_cut = true;
+            return Ok(());
+        }
+        self.parts.push(part)?;
         Ok(())
     }
 
-    /// The number of a node of all the parts.
-    #[tactic(auto, using(crate::proofs::FormParts::same_laws))]
-    fn together(self, work: &mut Work) -> Result<usize, NoMemory>
-        requires { IsSound work.old self }
-        ensures grows { OnOk result (Grows [] work.old work.new) }
-        ensures within { IfOk result (λ number. number < length work.new.table) }
-        ensures same { IfOk result
-            (λ number. IsSame (junction_form work.old self) (form_of work.new.table number)) }
+    /// The form of the parts.
+    pub(crate) fn finish(self) -> Form
+        ensures { result ≡ junction_form self }
     {
         let Junction {
             every,
-            numbers,
-            is_cut: _,
+            parts,
+            is_cut,
         } = self;
-        if every {
-            let number = work.add(Node::And(numbers))?;
-            return Ok(number);
+        if is_cut {
+            return constant(!every);
         }
-        let number = work.add(Node::Or(numbers))?;
-        Ok(number)
-    }
-
-    /// The number of the parts.
-    pub(crate) fn finish(self, work: &mut Work) -> Result<usize, NoMemory>
-        requires { IsSound work.old self }
-        ensures grows { OnOk result (Grows [] work.old work.new) }
-        ensures within { IfOk result (λ number. number < length work.new.table) }
-        ensures same { IfOk result
-            (λ number. IsSame (junction_form work.old self) (form_of work.new.table number)) }
-    {
-        if self.is_cut {
-            let number = work.constant(!self.every)?;
-            return Ok(number);
-        }
-        match self.numbers.items() {
-            [] => {
-                let number = work.constant(self.every)?;
-                Ok(number)
-            }
-            [one] => Ok(*one),
-            _ => {
-                let number = self.together(work)?;
-                Ok(number)
-            }
-        }
+        joined(parts, every)
     }
 }
 
-/// The number of a node that holds where both do, or else one of them.
-fn pair(work: &mut Work, every: bool, first: usize, second: usize) -> Result<usize, NoMemory>
-    requires first { first < length work.old.table }
-    requires second { second < length work.old.table }
-    ensures grows { OnOk result (Grows [] work.old work.new) }
-    ensures within { IfOk result (λ number. number < length work.new.table) }
-    ensures joined { IfOk result (λ number. IsJoined every (form_of work.old.table first)
-        (form_of work.old.table second) (form_of work.new.table number)) }
+/// A form that holds where both do, or else one of them.
+fn pair(alloc: Global, every: bool, first: Form, second: Form) -> Result<Form, NoMemory>
+    requires first { IsTrue (is_tidy first) }
+    requires second { IsTrue (is_tidy second) }
+    ensures joined { IfOk result (IsJoined every first second) }
+    ensures tidy { IfOk result (λ form. IsTrue (is_tidy form)) }
 {
-    let mut gathered = Junction::new(work.alloc, every);
-    gathered.take(work, first)?;
-    gathered.take(work, second)?;
-    let number = gathered.finish(work)?;
-    Ok(number)
+    if is_value(&first, every) {
+        return Ok(second);
+    }
+    let mut gathered = Junction::with_room(alloc, every, 2)?;
+    gathered.take(first)?;
+    gathered.take(second)?;
+    Ok(gathered.finish())
 }
 
-/// The number of a node that holds where one of the two does.
-pub(crate) fn either(work: &mut Work, first: usize, second: usize) -> Result<usize, NoMemory>
-    requires first { first < length work.old.table }
-    requires second { second < length work.old.table }
-    ensures grows { OnOk result (Grows [] work.old work.new) }
-    ensures within { IfOk result (λ number. number < length work.new.table) }
-    ensures joined { IfOk result (λ number. IsJoined false (form_of work.old.table first)
-        (form_of work.old.table second) (form_of work.new.table number)) }
+/// A form that holds where one of the two does.
+pub(crate) fn either(alloc: Global, first: Form, second: Form) -> Result<Form, NoMemory>
+    requires first { IsTrue (is_tidy first) }
+    requires second { IsTrue (is_tidy second) }
+    ensures joined { IfOk result (IsJoined false first second) }
+    ensures tidy { IfOk result (λ form. IsTrue (is_tidy form)) }
 {
-    let number = pair(work, false, first, second)?;
-    Ok(number)
+    let form = pair(alloc, false, first, second)?;
+    Ok(form)
 }
 
-/// The number of a node that holds where both do.
-pub(crate) fn both(work: &mut Work, first: usize, second: usize) -> Result<usize, NoMemory>
-    requires first { first < length work.old.table }
-    requires second { second < length work.old.table }
-    ensures grows { OnOk result (Grows [] work.old work.new) }
-    ensures within { IfOk result (λ number. number < length work.new.table) }
-    ensures joined { IfOk result (λ number. IsJoined true (form_of work.old.table first)
-        (form_of work.old.table second) (form_of work.new.table number)) }
+/// A form that holds where both do.
+pub(crate) fn both(alloc: Global, first: Form, second: Form) -> Result<Form, NoMemory>
+    requires first { IsTrue (is_tidy first) }
+    requires second { IsTrue (is_tidy second) }
+    ensures joined { IfOk result (IsJoined true first second) }
+    ensures tidy { IfOk result (λ form. IsTrue (is_tidy form)) }
 {
-    let number = pair(work, true, first, second)?;
-    Ok(number)
+    let form = pair(alloc, true, first, second)?;
+    Ok(form)
 }

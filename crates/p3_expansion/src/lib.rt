@@ -1,4 +1,4 @@
-//! Numbered trees at objects, as nodes of a table and as ground forms, changes and constraints.
+//! Numbered trees at objects, as ground forms, changes and constraints.
 #![tactic(auto)]
 
 mod atoms;
@@ -21,7 +21,7 @@ mod work;
 pub use atoms::Atoms;
 pub use choices::{choice_count, object_at, objects_of, place_choice};
 pub use effect::changes;
-pub use form::hard_form;
+pub use goal::hard_form;
 pub use laws::{
     changes_stand_for_the_effect, expanded_goals_mean_their_goals, the_start_is_told,
     well_formed_tasks_read_names, what_stands_is_bounded,

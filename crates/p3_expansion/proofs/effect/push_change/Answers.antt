@@ -1,4 +1,5 @@
 use Rattle.std.proofs.Common.{◌∙◌, ◌∷◌, [], Some, refl, ap, subst}
+use Rattle.p3_formula.specs.Tidy.{is_tidy}
 use Rattle.p3_expansion.specs.Atoms.{atom_at}
 use Rattle.p3_expansion.specs.Expansions.{Grows}
 use Rattle.p3_expansion.proofs.GrowthLemmas.{grows-trans, grows-none}
@@ -12,8 +13,7 @@ returns c =
       is = c.in_ok-push.ensures.ok;
       adds = refl;
       stored = c.in_ok-atom.ensures.stored ∙ ap Some c.in_ok-spell.ensures.words;
-      cond = c.in_ok-cond.ensures.same;
-      tidy = c.in_ok-cond.ensures.tidy;
-      free = c.in_ok-cond.ensures.stays;
+      cond = c.in_ok-cond.ensures;
+      tidy = ap is_tidy c.in_ok-cond.ensures ∙ c.requires;
       grows = grows-trans (atom ∷ []) c.args.work.now c.spell.new.self c.atom_number.new.self (grows-none (atom ∷ []) c.args.work.now c.spell.new.self c.in_ok-spell.ensures.grows) (subst (λ words. Grows (words ∷ []) c.spell.new.self c.atom_number.new.self) c.in_ok-spell.ensures.words c.in_ok-atom.ensures.grows);
     }
