@@ -76,7 +76,7 @@ fn ending(
     let (hard, soft) = frame.monitors.items().split_at(task.hard.len());
     let finish = finish_form(alloc, &task.goal, hard)?;
     let instances = soft_ends(alloc, &weights.by_name, &task.soft, soft)?;
-    end_phase(alloc, &finish, &instances, frame.go)
+    end_phase(alloc, finish, &instances, frame.go)
 }
 
 /// Names the question atoms, where some step is wide.

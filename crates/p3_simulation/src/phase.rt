@@ -8,7 +8,7 @@ ghost use Rattle.p3_formula.specs.Guards.{AllAreTidy};
 ghost use Rattle.p3_simulation.specs.Ends.{AreBelow, collect_name, forgo_name, IsMove, IsEndPhase, EndsOneWay, EndsNoWay, OneFits, MovesOn, IsGuarded, AllMoveForward, AllAreAllowed};
 
 use p3_base::{List, Name, NoMemory};
-use p3_formula::{Form, TargetAction, guarded, negate, turned};
+use p3_formula::{Form, TargetAction, copied, guarding, negate, turned};
 use std::alloc::Global;
 
 /// A preference instance at the end of a plan.
@@ -31,31 +31,31 @@ pub struct EndPhase {
     pub goal: Form,
 }
 
-/// The end phase of some instances. Its own atoms begin with the first one: the running atom, and
-/// behind it the chain.
+/// The end phase of some instances, where a plan may end as the form says, which it takes. Its own
+/// atoms begin with the first one: the running atom, and behind it the chain.
 pub fn end_phase(
     alloc: Global,
-    finish: &Form,
+    finish: Form,
     instances: &List<SoftEnd>,
     first_atom: usize,
 ) -> Result<EndPhase, NoMemory>
-    requires finish { IsBelow first_atom finish.now }
+    requires finish { IsBelow first_atom finish }
     requires accept { AreBelow first_atom instances.now }
     requires room { first_atom + length instances.now + 2 ≤ 2 ^ 64 - 1 }
     requires few { length instances.now ≤ instance_limit }
     // What its actions are.
-    ensures actions { IfOk result (IsEndPhase finish.now instances.now first_atom) }
+    ensures actions { IfOk result (IsEndPhase finish instances.now first_atom) }
     // From a running state where the plan may end, one list of actions leads to the goal, at the
     // weights of what is violated. From another none does.
-    ensures one_end { IfOk result (EndsOneWay first_atom finish.now instances.now) }
-    ensures no_end { IfOk result (EndsNoWay first_atom finish.now) }
+    ensures one_end { IfOk result (EndsOneWay first_atom finish instances.now) }
+    ensures no_end { IfOk result (EndsNoWay first_atom finish) }
     // The atom that is set moves on, and one action at most fits.
     ensures one_fits { IfOk result (OneFits first_atom) }
     ensures moves_on { IfOk result (MovesOn first_atom) }
     // Where they may fit, what they change, and what they read.
     ensures guarded { IfOk result (λ phase. IsGuarded first_atom phase.atoms phase.actions) }
     ensures changes { IfOk result (AllMoveForward first_atom) }
-    ensures atoms { IfOk result (AllAreAllowed finish.now instances.now first_atom) }
+    ensures atoms { IfOk result (AllAreAllowed finish instances.now first_atom) }
     ensures tidy { IfOk result (λ phase. AllAreTidy phase.actions) }
 {
     made(alloc, finish, instances, first_atom)
@@ -64,12 +64,12 @@ pub fn end_phase(
 /// The end phase.
 fn made(
     alloc: Global,
-    finish: &Form,
+    finish: Form,
     instances: &List<SoftEnd>,
     first_atom: usize,
 ) -> Result<EndPhase, NoMemory>
     requires room { first_atom + length instances.now + 2 ≤ 2 ^ 64 - 1 }
-    ensures { IfOk result (IsEndPhase finish.now instances.now first_atom) }
+    ensures { IfOk result (IsEndPhase finish instances.now first_atom) }
 {
     let mut actions = List::new(alloc);
     actions.push(finish_action(alloc, finish, first_atom)?)?;
@@ -100,10 +100,10 @@ fn push_both(
 }
 
 /// The plan ends: the running atom gives way to the first of the chain.
-fn finish_action(alloc: Global, finish: &Form, first_atom: usize) -> Result<TargetAction, NoMemory>
+fn finish_action(alloc: Global, finish: Form, first_atom: usize) -> Result<TargetAction, NoMemory>
     requires { first_atom + 1 ≤ 2 ^ 64 - 1 }
     ensures { IfOk result
-        (IsMove first_atom finish.now (λ state. truth state finish.now) (codes "finish") 0) }
+        (IsMove first_atom finish (λ state. truth state finish) (codes "finish") 0) }
 {
     let name = Name::of(alloc, b"finish".as_slice())?;
     moving(alloc, name, first_atom, finish, 0)
@@ -138,7 +138,8 @@ fn collect_action(
         truth state instance.now.accept) (collect_name number) 0) }
 {
     let name = Name::of(alloc, collect_name(alloc, number)?.as_bytes())?;
-    moving(alloc, name, first_atom + (number + 1), &instance.accept, 0)
+    let condition = copied(alloc, &instance.accept)?;
+    moving(alloc, name, first_atom + (number + 1), condition, 0)
 }
 
 /// The instance is not satisfied, which costs its weight.
@@ -159,7 +160,7 @@ fn forgo_action(
         alloc,
         name,
         first_atom + (number + 1),
-        &condition,
+        condition,
         instance.weight,
     )
 }
@@ -169,14 +170,14 @@ fn moving(
     alloc: Global,
     name: Name,
     atom: usize,
-    condition: &Form,
+    condition: Form,
     cost: u64,
 ) -> Result<TargetAction, NoMemory>
     requires { atom + 1 ≤ 2 ^ 64 - 1 }
     ensures { IfOk result
-        (IsMove atom condition.now (λ state. truth state condition.now) name cost) }
+        (IsMove atom condition (λ state. truth state condition) name cost) }
 {
-    let pre = guarded(alloc, [atom].as_slice(), condition)?;
+    let pre = guarding(alloc, [atom].as_slice(), condition)?;
     let effects = turned(List::new(alloc), [atom].as_slice(), [atom + 1].as_slice())?;
     Ok(TargetAction {
         name,

@@ -5,6 +5,6 @@ use Rattle.p3_simulation.proofs.phase.made.Goals as goal
 
 pub loop-number-preserved : goal.loop-number-preserved
 loop-number-preserved c =
-    subst (AreActions c.args.first_atom c.args.finish.now (take (c.loop-number.number + 1) c.args.instances.now)) (sym c.in_ok-push_both.ensures)
-    (actions_next c.args.first_atom c.loop-number.number c.args.finish.now c.args.instances.now c.index-items-number.result _ _ c.loop-number.actions (omega arith) (sym (c.index-items-number.is ∙ ap (λ list. get_or list c.loop-number.number c.index-items-number.result) c.items.ensures))
+    subst (AreActions c.args.first_atom c.args.finish (take (c.loop-number.number + 1) c.args.instances.now)) (sym c.in_ok-push_both.ensures)
+    (actions_next c.args.first_atom c.loop-number.number c.args.finish c.args.instances.now c.index-items-number.result _ _ c.loop-number.actions (omega arith) (sym (c.index-items-number.is ∙ ap (λ list. get_or list c.loop-number.number c.index-items-number.result) c.items.ensures))
     c.loop-number.invariant (record { collects = c.in_ok-collect.ensures; forgoes = c.in_ok-forgo.ensures }))

@@ -4,4 +4,4 @@ use Rattle.p3_simulation.proofs.phase.made.Given as goal
 
 -- the actions so far are those of the instances so far
 abbrev pub invariant-loop-number : goal.invariant-loop-number
-invariant-loop-number l = AreActions l.first_atom l.finish (take l.number l.instances) l.actions
+invariant-loop-number l = AreActions l.first_atom l.fn.finish (take l.number l.instances) l.actions
