@@ -139,7 +139,7 @@ pub(crate) fn build(
         open: Vec::new(alloc),
     };
     let mut number = None;
-    let mut faults = FaultSearch::begin(alloc, role);
+    let mut faults = FaultSearch::begin(alloc, role)?;
     let mut lexer = Lexer::new(text);
     loop {
         match lexer.next() {

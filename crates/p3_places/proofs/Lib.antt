@@ -21,4 +21,5 @@ pub mod Complete
 pub mod Faults
 pub mod WordLemmas
 pub mod DecimalWords
+pub mod StackLemmas
 pub mod WalkLemmas

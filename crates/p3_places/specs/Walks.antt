@@ -17,9 +17,9 @@ use Rattle.p3_places.specs.declared.state.State.{State}
 use Rattle.p3_places.specs.declared.walk.FaultSearch.{FaultSearch}
 use Rattle.p3_places.specs.declared.walk.Walk.{Walk}
 
--- the innermost list, and those around it, the innermost of which stands last in the code
+-- the lists that are open, the innermost of which stands last in the code
 abbrev pub the_stack : Walk → List State
-the_stack walk = walk.top ∷ reverse walk.outer.items
+the_stack walk = reverse walk.open.items
 
 -- the open lists behind a token that may stand there
 abbrev pub only_if : Bool → List State → Option (List State)

@@ -18,22 +18,20 @@ use p3_base::{Code, NoMemory, Pos, Refusal, Role};
 use p3_lexer::{is_close, is_open};
 use std::alloc::Global;
 
-/// The lists that are open: the innermost, and those around it.
+/// The lists that are open, the innermost last. They stand in memory, so that a token moves no state.
 #[derive(Drop)]
 struct Walk {
-    top: State,
-    outer: Vec<State>,
+    open: Vec<State>,
 }
 
 impl Walk {
     /// Stands before the first token of a text that is to stand at the place.
-    fn begun(alloc: Global, place: Place) -> Walk
-        ensures { the_stack result ≡ start place ∷ [] }
+    fn begun(alloc: Global, place: Place) -> Result<Walk, NoMemory>
+        ensures { IfOk result (λ walk. the_stack walk ≡ start place ∷ []) }
     {
-        Walk {
-            top: State::Rest(Rest::One(Slot::List(place))),
-            outer: Vec::new(alloc),
-        }
+        let mut open = Vec::new(alloc);
+        open.push(State::Rest(Rest::One(Slot::List(place))))?;
+        Ok(Walk { open })
     }
 
     /// Passes a word, where it may stand here.
@@ -42,9 +40,13 @@ impl Walk {
             ≡ step grammar_table (the_stack self.old)
             (marks.Names (str_to_ascii_lowercase text.now)) }
     {
-        match on_word(self.top, text) {
+        let count = self.open.len();
+        if count == 0 {
+            return false;
+        }
+        match on_word(self.open[count - 1], text) {
             Some(top) => {
-                self.top = top;
+                self.open[count - 1] = top;
                 true
             }
             None => false,
@@ -57,11 +59,14 @@ impl Walk {
             only_if goes (the_stack self.new)
             ≡ step grammar_table (the_stack self.old) marks.Opens) }
     {
-        let Some(first) = on_open(self.top) else {
+        let count = self.open.len();
+        if count == 0 {
+            return Ok(false);
+        }
+        let Some(first) = on_open(self.open[count - 1]) else {
             return Ok(false);
         };
-        self.outer.push(self.top)?;
-        self.top = first;
+        self.open.push(first)?;
         Ok(true)
     }
 
@@ -70,13 +75,14 @@ impl Walk {
         ensures { only_if result (the_stack self.new)
             ≡ step grammar_table (the_stack self.old) marks.Closes }
     {
-        let Some(above) = self.outer.pop() else {
+        let Some(last) = self.open.pop() else {
             return false;
         };
-        if !is_final(self.top) {
+        let count = self.open.len();
+        if count == 0 || !is_final(last) {
             return false;
         }
-        self.top = after(above, self.top);
+        self.open[count - 1] = after(self.open[count - 1], last);
         true
     }
 
@@ -115,13 +121,11 @@ pub struct FaultSearch {
 
 impl FaultSearch {
     /// Stands before the first token of a text of the role.
-    pub fn begin(alloc: Global, role: Role) -> FaultSearch
-        ensures begins { Begins role result }
+    pub fn begin(alloc: Global, role: Role) -> Result<FaultSearch, NoMemory>
+        ensures begins { IfOk result (λ search. Begins role search) }
     {
-        FaultSearch {
-            walk: Walk::begun(alloc, place_of(role)),
-            found: None,
-        }
+        let walk = Walk::begun(alloc, place_of(role))?;
+        Ok(FaultSearch { walk, found: None })
     }
 
     /// Passes a token.

@@ -15,7 +15,7 @@ loop-word-init c = record {
   few = let none = ap length c.new.ensures.items in omega (arith, none);
   goes = rw (c.new.ensures.items, c.new-2.ensures.items, c.new-lexer.ensures.starts) (at_start c.args.limit c.args.text.now);
   numbers = ap (λ (p : Progress). numbers_from (side_of c.args.role) c.args.role None (left p)) c.new-lexer.ensures.starts;
-  faults = ap (λ (p : Progress). fault_left c.args.role c.begin-faults.result (left p)) c.new-lexer.ensures.starts ∙ c.begin-faults.ensures.begins c.args.text.now;
+  faults = ap (λ (p : Progress). fault_left c.args.role c.in_ok-faults.faults (left p)) c.new-lexer.ensures.starts ∙ c.in_ok-faults.ensures.begins c.args.text.now;
 }
 
 pub returns-then-not-branch-clause-nodes : goal.returns-then-not-branch-clause-nodes
