@@ -1,6 +1,6 @@
 -- Changes with tidy conditions, one after another.
-use Rattle.std.proofs.Common.{◌≡◌, ◌∙◌, List, [], ◌∷◌, ◌++◌, sym, ap, append_assoc}
-use Rattle.std.proofs.lemmas.List.{append-nil}
+use Rattle.std.proofs.Common.{◌≡◌, ◌∙◌, ◌<◌, ◌+◌, ℕ, List, [], ◌∷◌, ◌++◌, length, take, get_or, sym, ap, subst, append_assoc}
+use Rattle.std.proofs.lemmas.List.{append-nil, take_more}
 use Rattle.p3_formula.specs.Forms.{truth}
 use Rattle.p3_formula.specs.declared.form.Change.{Change}
 use Rattle.p3_formula.specs.declared.form.Form.TheVariants.{False}
@@ -34,3 +34,9 @@ tidied_more changes old all next change has one = record {
   are = one.are ∙ ap (λ list. list ++ one.tidied) has.are ∙ append_assoc old has.tidied one.tidied;
   same = tidied-append changes (change ∷ []) has.tidied one.tidied has.same one.same;
 }
+
+-- the change at an index more
+pub tidied_next : (changes old all next : List Change) (index : ℕ) (change : Change) → index < length changes → change ≡ get_or changes index change → HasTidied (take index changes) old all → HasTidied (change ∷ []) all next
+    → HasTidied (take (index + 1) changes) old next
+tidied_next changes old all next index change within at has one =
+    subst (λ list. HasTidied list old next) (sym (take_more changes index change within ∙ ap (λ last. take index changes ++ last ∷ []) (sym at))) (tidied_more (take index changes) old all next change has one)

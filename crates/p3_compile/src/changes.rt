@@ -14,7 +14,7 @@ ghost use Rattle.p3_compile.specs.Updated.{AreApart, AreTouched, HasUpdates, Has
 use crate::reading::Reader;
 use crate::touching::touched;
 use p3_base::{List, NoMemory};
-use p3_formula::{Change, Effects, Form, Table, effects_copied, fitted, tidied};
+use p3_formula::{Change, Effects, Form, Table, change_copied, fitted, tidied};
 use p3_monitors::Monitor;
 use p3_regress::Regressed;
 use std::alloc::Global;
@@ -55,6 +55,16 @@ fn push_tidied(alloc: Global, all: &mut Effects, changes: Effects) -> Result<(),
 {
     for change in changes.into_items() {
         push_change(alloc, all, change)?;
+    }
+    Ok(())
+}
+
+/// The same of changes that stay, each of which is copied.
+fn push_own(alloc: Global, all: &mut Effects, changes: &[Change]) -> Result<(), NoMemory>
+    ensures { OnOk result (HasTidied changes.now all.old all.new) }
+{
+    for change in changes {
+        push_change(alloc, all, change_copied(alloc, change)?)?;
     }
     Ok(())
 }
@@ -120,7 +130,7 @@ fn made_changes(
 {
     let places = touched(alloc, readers, step)?;
     let mut all = room_for(alloc, step, places.len().min(monitors.len()))?;
-    push_tidied(alloc, &mut all, effects_copied(alloc, step)?)?;
+    push_own(alloc, &mut all, step.items())?;
     let mut regressed = Regressed::open(alloc, Table::new(alloc), step)?;
     push_updates(alloc, &mut all, monitors, &places, &mut regressed)?;
     Ok(all)

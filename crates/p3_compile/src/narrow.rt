@@ -11,7 +11,7 @@ ghost use Rattle.p3_simulation.specs.Naming.{pattern};
 
 use itoa::Buffer;
 use p3_base::{List, Name, NoMemory};
-use p3_formula::{Effects, GroundStep, TargetAction, Weights, effects_copied, guarded};
+use p3_formula::{Effects, GroundStep, TargetAction, Weights, effects_copied, guarding};
 use p3_precprefs::{StepCopy, split};
 use std::alloc::Global;
 
@@ -51,14 +51,18 @@ fn copy_action(
     alloc: Global,
     number: u32,
     effects: Effects,
-    copy: &StepCopy,
+    copy: StepCopy,
     go: usize,
 ) -> Result<TargetAction, NoMemory>
-    ensures { IfOk result (IsCopyAction go number effects copy.now) }
+    ensures { IfOk result (IsCopyAction go number effects copy) }
 {
-    let name = name_of_copy(alloc, number, &copy.violated)?;
-    let pre = guarded(alloc, [go].as_slice(), &copy.pre)?;
-    let cost = copy.cost;
+    let StepCopy {
+        violated,
+        pre,
+        cost,
+    } = copy;
+    let name = name_of_copy(alloc, number, &violated)?;
+    let pre = guarding(alloc, [go].as_slice(), pre)?;
     Ok(TargetAction {
         name,
         pre,
@@ -72,10 +76,10 @@ fn other_action(
     alloc: Global,
     number: u32,
     effects: &Effects,
-    copy: &StepCopy,
+    copy: StepCopy,
     go: usize,
 ) -> Result<TargetAction, NoMemory>
-    ensures { IfOk result (IsCopyAction go number effects.now copy.now) }
+    ensures { IfOk result (IsCopyAction go number effects.now copy) }
 {
     let effects = effects_copied(alloc, effects)?;
     copy_action(alloc, number, effects, copy, go)
@@ -86,11 +90,11 @@ fn copy_actions(
     alloc: Global,
     number: u32,
     effects: &Effects,
-    copies: &[StepCopy],
+    copies: Vec<StepCopy>,
     go: usize,
 ) -> Result<Vec<TargetAction>, NoMemory>
     ensures { IfOk result (λ actions.
-        AreCopyActions go number effects.now copies.now actions.items) }
+        AreCopyActions go number effects.now copies.items actions.items) }
 {
     let mut actions = Vec::with_capacity(alloc, copies.len().saturating_add(1))?;
     for copy in copies {
@@ -104,12 +108,13 @@ fn actions_of_copies(
     alloc: Global,
     number: u32,
     effects: Effects,
-    copies: &List<StepCopy>,
+    copies: List<StepCopy>,
     go: usize,
 ) -> Result<List<TargetAction>, NoMemory>
-    ensures { IfOk result (AreCopyActions go number effects copies.now) }
+    ensures { IfOk result (AreCopyActions go number effects copies) }
 {
-    let Some((last, others)) = copies.items().split_last() else {
+    let mut others = copies.into_items();
+    let Some(last) = others.pop() else {
         return Ok(List::new(alloc));
     };
     let mut actions = copy_actions(alloc, number, &effects, others, go)?;
@@ -137,5 +142,5 @@ pub(crate) fn narrow_actions(
         → IfOk result (λ actions. IsTrue (list_all is_tidy_action actions)) }
 {
     let copies = split(alloc, step, weights)?;
-    actions_of_copies(alloc, step.number, effects, &copies, go)
+    actions_of_copies(alloc, step.number, effects, copies, go)
 }

@@ -13,8 +13,8 @@ push_updates-requires-clause-touched c =
 
 pub returns : goal.returns
 returns c =
-    let own = subst (λ changes. HasTidied changes c.in_ok-all.all c.push_tidied.new.all) c.in_ok-effects_copied.ensures c.in_ok-push_tidied.ensures in
-    let has = subst (λ step. HasUpdates step c.args.monitors.now c.push_tidied.new.all c.push_updates.new.all) c.in_ok-regressed.ensures.effects c.in_ok-push_updates.ensures in
+    let own = subst (λ changes. HasTidied changes c.in_ok-all.all c.push_own.new.all) c.items.ensures c.in_ok-push_own.ensures in
+    let has = subst (λ step. HasUpdates step c.args.monitors.now c.push_own.new.all c.push_updates.new.all) c.in_ok-regressed.ensures.effects c.in_ok-push_updates.ensures in
     record {
       updates = has.updates;
       watched = has.watched;

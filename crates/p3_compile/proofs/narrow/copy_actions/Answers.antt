@@ -1,11 +1,15 @@
-use Rattle.std.proofs.Common.{◌+◌, take, sym, subst}
-use Rattle.p3_compile.proofs.CopyLists.{copies_next}
+use Rattle.std.proofs.Common.{rules, ◌≡◌, ◌∙◌, ◌++◌, ◌∷◌, [], sym, ap, subst, append_assoc}
+use Rattle.std.specs.Vec.Iter.{into_iter_items}
+use Rattle.p3_compile.proofs.CopyLists.{copies_more}
 use Rattle.p3_compile.proofs.narrow.copy_actions.Goals as goal
 use Rattle.p3_simulation.specs.Assembled.{AreCopyActions}
 
 pub loop-copy-preserved : goal.loop-copy-preserved
 loop-copy-preserved c =
-    subst (AreCopyActions c.args.go c.args.number c.args.effects.now (take (c.loop-copy.copy-index + 1) c.args.copies.now)) (sym c.in_ok-push.ensures.items)
-    (copies_next c.args.go c.args.number c.args.effects.now c.args.copies.now c.loop-copy.actions.items c.loop-copy.copy-index c.copy-item.result c.in_ok-other_action.field-0
-    c.loop-copy-test.true c.copy-item.is
-    c.loop-copy.invariant c.in_ok-other_action.ensures)
+    let next : into_iter_items c.loop-copy.copy-iterator ≡ c.in-Some.copy ∷ into_iter_items c.next.new.self = search rules in
+    record {
+      whole = append_assoc c.loop-copy.yielded (c.in-Some.copy ∷ []) (into_iter_items c.next.new.self) ∙ ap (λ items. c.loop-copy.yielded ++ items) (sym next) ∙ c.loop-copy.invariant.whole;
+      are = subst (AreCopyActions c.args.go c.args.number c.args.effects.now (c.loop-copy.yielded ++ c.in-Some.copy ∷ [])) (sym c.in_ok-push.ensures.items)
+          (copies_more c.args.go c.args.number c.args.effects.now c.loop-copy.yielded c.loop-copy.actions.items c.in-Some.copy c.in_ok-other_action.field-0 c.loop-copy.invariant.are c.in_ok-other_action.ensures);
+      counted = search rules;
+    }
