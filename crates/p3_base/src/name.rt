@@ -6,14 +6,16 @@ ghost use Rattle.std.specs.Cmp.Lexicographic.{slice_cmp};
 ghost use Rattle.std.specs.Str.{str_to_ascii_lowercase};
 
 use crate::NoMemory;
+use smallvec::SmallVec;
 use std::alloc::Global;
 use std::cmp::Ordering;
 use std::marker::Model;
 
-/// A name of a task: bytes whose letters A to Z are lowered.
+/// A name of a task: bytes whose letters A to Z are lowered. Those of a short name lie in it, since
+/// a text can name a million things, and most names are short.
 #[derive(Debug, Drop)]
 pub struct Name {
-    bytes: Vec<u8>,
+    bytes: SmallVec<u8, 16>,
 }
 
 impl Model for Name {
@@ -27,12 +29,20 @@ impl Model for Name {
     ghost invariant = { λ name. str_to_ascii_lowercase name.bytes.items ≡ name.bytes.items };
 }
 
+/// Lowers the letters A to Z.
+fn lower(bytes: &mut SmallVec<u8, 16>)
+    ensures { bytes.new.items ≡ str_to_ascii_lowercase bytes.old.items }
+{
+    bytes.as_mut_slice().make_ascii_lowercase();
+}
+
 impl Name {
     /// The text with A to Z lowered.
     pub fn of(alloc: Global, text: &[u8]) -> Result<Name, NoMemory>
         ensures { IfOk result (λ name. name ≡ str_to_ascii_lowercase text.now) }
     {
-        let bytes = text.to_ascii_lowercase(alloc)?;
+        let mut bytes = SmallVec::from_slice(alloc, text)?;
+        lower(&mut bytes);
         Ok(Name { bytes })
     }
 

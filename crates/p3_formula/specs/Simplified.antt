@@ -41,11 +41,15 @@ joined every [] = constant every
 joined every (part ∷ []) = part
 joined every (part ∷ other ∷ parts) = together every (part ∷ other ∷ parts)
 
+-- the parts kept so far, and one more where it is not that constant
+abbrev pub kept_with : Bool → List Form → Form → List Form
+kept_with value kept part = if is_value value part then kept else (kept ++ part ∷ [])
+
 -- the parts kept so far and those to come, without the constants
 abbrev pub junction : Bool → List Form → List Form → Form
 junction every kept [] = joined every kept
 junction every kept (part ∷ rest) =
-    if is_value (not every) part then constant (not every) else junction every (if is_value every part then kept else (kept ++ part ∷ [])) rest
+    if is_value (not every) part then constant (not every) else junction every (kept_with every kept part) rest
 
 -- what a part of a conjunction consists of: its own parts, where it is one, and nothing where it always holds
 abbrev pub spread : Form → List Form

@@ -34,7 +34,7 @@ fn copied_all(alloc: Global, forms: &[Form]) -> Result<List<Form>, NoMemory>
 }
 
 /// The same change once more.
-fn change_copied(alloc: Global, change: &Change) -> Result<Change, NoMemory>
+pub fn change_copied(alloc: Global, change: &Change) -> Result<Change, NoMemory>
     ensures { IfOk result (λ copy. copy ≡ change.now) }
 {
     Ok(Change {

@@ -4,7 +4,7 @@ ghost use Rattle.std.specs.Prelude.{◌≡◌, ◌++◌, IfOk, map};
 ghost use Rattle.p3_formula.specs.Guards as made;
 
 use crate::simpler::with_last;
-use crate::{Change, Effects, Form, simplify};
+use crate::{Change, Effects, Form, copied, tidied};
 use p3_base::{List, NoMemory};
 use std::alloc::Global;
 
@@ -12,7 +12,14 @@ use std::alloc::Global;
 pub fn guarded(alloc: Global, guards: &[usize], condition: &Form) -> Result<Form, NoMemory>
     ensures { IfOk result (made.IsGuardedForm guards.now condition.now) }
 {
-    let simple = simplify(alloc, condition)?;
+    guarding(alloc, guards, copied(alloc, condition)?)
+}
+
+/// A tidy form that holds where the guards are set and the condition holds, which it takes.
+pub fn guarding(alloc: Global, guards: &[usize], condition: Form) -> Result<Form, NoMemory>
+    ensures { IfOk result (made.IsGuardedForm guards.now condition) }
+{
+    let simple = tidied(alloc, condition)?;
     let kept = atoms(alloc, guards, part_count(&simple))?;
     with_last(kept, simple)
 }

@@ -21,10 +21,10 @@ mod tidy;
 
 pub use atoms::is_free_of;
 pub use bits::Bits;
-pub use copy::{copied, effects_copied, fitted};
+pub use copy::{change_copied, copied, effects_copied, fitted};
 pub use evaluation::eval;
 pub use form::{Change, Effects, Form};
-pub use guards::{guarded, turned};
+pub use guards::{guarded, guarding, turned};
 pub use laws::{
     alike_changes_make_the_same_state, copies_count_as_their_step, states_agree_after_changes,
 };

@@ -1,4 +1,5 @@
 pub mod ChangeLaws
+pub mod JointLaws
 pub mod UpdateLaws
 pub mod AcceptLaws
 pub mod RiderLaws

@@ -23,9 +23,10 @@ use Rattle.p3_regress.specs.Regressed.{growth}
 use Rattle.p3_formula.specs.Kept.{is_own}
 use Rattle.p3_formula.specs.Modals.{forms_of, is_read, IsModalBelow}
 use Rattle.p3_monitors.specs.KeepsOn.{AreOwn, condition_nodes}
-use Rattle.p3_monitors.specs.Updates.{IsRegressed, IsUpdate, change, always, sometime, at_most_once, sometime_after, sometime_before}
+use Rattle.p3_monitors.specs.Updates.{IsRegressed, IsUpdate, change, joint, joint_behind, ceased, always, sometime, at_most_once, sometime_after, sometime_before}
 use Rattle.p3_formula.proofs.ReadAtoms.{same_number, reads}
 use Rattle.p3_formula.proofs.WatchedLaws.{each-next, some-next, came-next, awaited-next, early-next}
+use Rattle.p3_monitors.proofs.JointLaws.{truth-joint, truth-behind, has_atoms-joint, has_atoms-behind, nodes-joint, nodes-behind}
 use Rattle.p3_monitors.proofs.ChangeLaws.{own_from, own_after, truth_now, truth_later, keeps_on, set_by, cleared_by}
 
 module _ {A : Type 0} (size : A → ℕ) where
@@ -167,12 +168,12 @@ module _ (base : ℕ) (step : List Change) where
           let now = made.atoms allowed (and_parts _ _ of).0 conds in
           let held = has_atoms-Atom allowed base ∙ own base first_own in
           and_from (has_atoms allowed later) _ now
-          (and_from (has_atoms allowed back) true (has_atoms-both allowed _ later (has_atoms-both allowed (Atom base) (Not f) held (has_atoms-Not allowed f ∙ (and_parts _ _ of).0)) now) refl);
+          (and_from (has_atoms allowed back) true (has_atoms-behind allowed _ later (has_atoms-both allowed (Atom base) (Not f) held (has_atoms-Not allowed f ∙ (and_parts _ _ of).0)) now) refl);
       few = omega arith;
-      size = let b = nodes-both (both (Atom base) (Not f)) later in let i = nodes-both (Atom base) (Not f) in let a = nodes-Atom base in let n = nodes-Not f in let c : condition_nodes (at_most_once base f later) ≡ nodes later + nodes back = two_sum (λ c. nodes c.cond) (change true base later) (change true (base + 1) back) in let m = one_sum nodes f in let s = made.size in let g = one_sum (growth step) f in omega arith;
+      size = let b = nodes-behind (both (Atom base) (Not f)) later in let i = nodes-both (Atom base) (Not f) in let a = nodes-Atom base in let n = nodes-Not f in let c : condition_nodes (at_most_once base f later) ≡ nodes later + nodes back = two_sum (λ c. nodes c.cond) (change true base later) (change true (base + 1) back) in let m = one_sum nodes f in let s = made.size in let g = one_sum (growth step) f in omega arith;
     } where
       back : Form
-      back = both (both (Atom base) (Not f)) later
+      back = joint_behind (ceased base f) later
 
       first_own : is_own base (modal.AtMostOnce f) base ≡ true
       first_own = own_from base (modal.AtMostOnce f) base (at_base base) (in_two base)
@@ -181,7 +182,7 @@ module _ (base : ℕ) (step : List Change) where
       mine = both_own base later back (modal.AtMostOnce f) first_own (own_from base (modal.AtMostOnce f) (base + 1) (past_base base) (next_in_two base))
 
       back_truth : (state : State) → truth state back ≡ ((is_set state base && not (truth state f)) && truth state later)
-      back_truth state = truth-both state (both (Atom base) (Not f)) later ∙ ap (λ b. b && truth state later) (truth-both state (Atom base) (Not f) ∙ (λ i. truth-Atom state base i && truth-Not state f i))
+      back_truth state = truth-behind state (both (Atom base) (Not f)) later ∙ ap (λ b. b && truth state later) (truth-both state (Atom base) (Not f) ∙ (λ i. truth-Atom state base i && truth-Not state f i))
 
   module _ (f g later answer : Form) (made : IsRegressed step f later) (other_made : IsRegressed step g answer) where
     -- a constraint of two forms
@@ -195,8 +196,8 @@ module _ (base : ℕ) (step : List Change) where
           let comes = truth_later stage f (reads_both (modal.SometimeAfter f g) refl).0 later made.truth in
           let answers = truth_later stage g (reads_both (modal.SometimeAfter f g) refl).1 answer other_made.truth in (
             own_after stage base (at_base base) (in_one base)
-                ∙ switched_by stage.state base answer (both later (Not answer))
-                ∙ (λ i. truth-both stage.state later (Not answer) i || (stage.kept.carries.stand.0 i && not (answers i)))
+                ∙ switched_by stage.state base answer (joint later (Not answer))
+                ∙ (λ i. truth-joint stage.state later (Not answer) i || (stage.kept.carries.stand.0 i && not (answers i)))
                 ∙ (λ i. (comes i && (truth-Not stage.state answer ∙ ap not answers) i) || (is_awaited (length stage.W) (holds_at stage.W f) (holds_at stage.W g) && not (truth stage.next g)))
                 ∙ awaiting (is_awaited (length stage.W) (holds_at stage.W f) (holds_at stage.W g)) (truth stage.next f) (truth stage.next g)
                 ∙ sym (awaited-next stage.W stage.next f g),
@@ -207,9 +208,9 @@ module _ (base : ℕ) (step : List Change) where
           let parts = and_parts (has_atoms allowed f) _ of in
           let first = made.atoms allowed parts.0 conds in
           let second = other_made.atoms allowed (and_parts _ _ parts.1).0 conds in
-          and_from (has_atoms allowed answer) _ second (and_from (has_atoms allowed (both later (Not answer))) true (has_atoms-both allowed later (Not answer) first (has_atoms-Not allowed answer ∙ second)) refl);
+          and_from (has_atoms allowed answer) _ second (and_from (has_atoms allowed (joint later (Not answer))) true (has_atoms-joint allowed later (Not answer) first (has_atoms-Not allowed answer ∙ second)) refl);
       few = omega arith;
-      size = let b = nodes-both later (Not answer) in let n = nodes-Not answer in let c : condition_nodes (sometime_after base later answer) ≡ nodes answer + nodes (both later (Not answer)) = two_sum (λ c. nodes c.cond) (change false base answer) (change true base (both later (Not answer))) in let m = two_sum nodes f g in let s = made.size in let o = other_made.size in let h = two_sum (growth step) f g in omega arith;
+      size = let b = nodes-joint later (Not answer) in let n = nodes-Not answer in let c : condition_nodes (sometime_after base later answer) ≡ nodes answer + nodes (joint later (Not answer)) = two_sum (λ c. nodes c.cond) (change false base answer) (change true base (joint later (Not answer))) in let m = two_sum nodes f g in let s = made.size in let o = other_made.size in let h = two_sum (growth step) f g in omega arith;
     } where
       mine : AreOwn base (modal.SometimeAfter f g) (sometime_after base later answer)
       mine =
@@ -240,12 +241,12 @@ module _ (base : ℕ) (step : List Change) where
           let first = made.atoms allowed parts.0 conds in
           let second = other_made.atoms allowed (and_parts _ _ parts.1).0 conds in
           let held = has_atoms-Not allowed (Atom base) ∙ has_atoms-Atom allowed base ∙ own base first_own in
-          and_from (has_atoms allowed answer) _ second (and_from (has_atoms allowed soon) true (has_atoms-both allowed later (Not (Atom base)) first held) refl);
+          and_from (has_atoms allowed answer) _ second (and_from (has_atoms allowed soon) true (has_atoms-joint allowed later (Not (Atom base)) first held) refl);
       few = omega arith;
-      size = let b = nodes-both later (Not (Atom base)) in let n = nodes-Not (Atom base) in let a = nodes-Atom base in let c : condition_nodes (sometime_before base later answer) ≡ nodes answer + nodes soon = two_sum (λ c. nodes c.cond) (change true base answer) (change true (base + 1) soon) in let m = two_sum nodes f g in let s = made.size in let o = other_made.size in let h = two_sum (growth step) f g in omega arith;
+      size = let b = nodes-joint later (Not (Atom base)) in let n = nodes-Not (Atom base) in let a = nodes-Atom base in let c : condition_nodes (sometime_before base later answer) ≡ nodes answer + nodes soon = two_sum (λ c. nodes c.cond) (change true base answer) (change true (base + 1) soon) in let m = two_sum nodes f g in let s = made.size in let o = other_made.size in let h = two_sum (growth step) f g in omega arith;
     } where
       soon : Form
-      soon = both later (Not (Atom base))
+      soon = joint later (Not (Atom base))
 
       first_own : is_own base (modal.SometimeBefore f g) base ≡ true
       first_own = own_from base (modal.SometimeBefore f g) base (at_base base) (in_two base)
@@ -254,7 +255,7 @@ module _ (base : ℕ) (step : List Change) where
       mine = both_own base answer soon (modal.SometimeBefore f g) first_own (own_from base (modal.SometimeBefore f g) (base + 1) (past_base base) (next_in_two base))
 
       soon_truth : (state : State) → truth state soon ≡ (truth state later && not (is_set state base))
-      soon_truth state = truth-both state later (Not (Atom base)) ∙ ap (λ b. truth state later && b) (truth-Not state (Atom base) ∙ ap not (truth-Atom state base))
+      soon_truth state = truth-joint state later (Not (Atom base)) ∙ ap (λ b. truth state later && b) (truth-Not state (Atom base) ∙ ap not (truth-Atom state base))
 
 -- what is made for the operator of a constraint is made for the constraint
 pub updated : {E : Type 0} (base : ℕ) (step made : List Change) (modal operator : GroundModal) (result : Result (List Change) E)

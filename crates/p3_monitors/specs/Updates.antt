@@ -1,10 +1,11 @@
 -- The changes that a monitor makes, from the forms as they will be after the step.
-use Rattle.std.specs.Prelude.{ℕ, ◌+◌, ◌≤◌, Bool, true, false, List, [], ◌∷◌, length}
+use Rattle.std.specs.Prelude.{ℕ, ◌+◌, ◌≤◌, Bool, true, false, List, [], ◌∷◌, length, if◌then◌else◌}
 use Rattle.p3_formula.specs.Constructors.{both}
 use Rattle.p3_formula.specs.Forms.{nodes}
 use Rattle.p3_formula.specs.declared.form.Change.{Change}
 use Rattle.p3_formula.specs.declared.form.Form.{Form}
-use Rattle.p3_formula.specs.declared.form.Form.TheVariants.{Atom, Not}
+use Rattle.p3_formula.specs.Simplified.{is_value}
+use Rattle.p3_formula.specs.declared.form.Form.TheVariants.{False, Atom, Not}
 use Rattle.p3_formula.specs.declared.modal.GroundModal.{GroundModal}
 use Rattle.p3_formula.specs.declared.modal.GroundModal.TheVariants as modal
 use Rattle.p3_regress.specs.Regressed.{IsTrueBefore, HasAtomsOfBoth, growth}
@@ -15,6 +16,18 @@ use Rattle.p3_monitors.specs.KeepsOn.{HasNone, AreOwn, KeepsOn, HasConditions, c
 abbrev pub change : Bool → ℕ → Form → Change
 change add atom cond = record { cond = cond; atom = atom; add = add }
 
+-- both hold, where the first may be a constant
+abbrev pub joint : Form → Form → Form
+joint first second = if is_value false first then False else (if is_value true first then second else both first second)
+
+-- both hold, where the second may be a constant
+abbrev pub joint_behind : Form → Form → Form
+joint_behind first second = if is_value false second then False else (if is_value true second then first else both first second)
+
+-- the atom is set, and the form does not hold
+abbrev pub ceased : ℕ → Form → Form
+ceased base now = both (Atom base) (Not now)
+
 abbrev pub always : ℕ → Form → List Change
 always base later = change false base (Not later) ∷ []
 
@@ -22,13 +35,13 @@ abbrev pub sometime : ℕ → Form → List Change
 sometime base later = change true base later ∷ []
 
 abbrev pub at_most_once : ℕ → Form → Form → List Change
-at_most_once base now later = change true base later ∷ change true (base + 1) (both (both (Atom base) (Not now)) later) ∷ []
+at_most_once base now later = change true base later ∷ change true (base + 1) (joint_behind (ceased base now) later) ∷ []
 
 abbrev pub sometime_after : ℕ → Form → Form → List Change
-sometime_after base first second = change false base second ∷ change true base (both first (Not second)) ∷ []
+sometime_after base first second = change false base second ∷ change true base (joint first (Not second)) ∷ []
 
 abbrev pub sometime_before : ℕ → Form → Form → List Change
-sometime_before base first second = change true base second ∷ change true (base + 1) (both first (Not (Atom base))) ∷ []
+sometime_before base first second = change true base second ∷ change true (base + 1) (joint first (Not (Atom base))) ∷ []
 
 -- the form that holds where the monitor accepts
 abbrev pub accept_form : ℕ → GroundModal → Form

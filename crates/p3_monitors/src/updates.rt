@@ -1,6 +1,7 @@
 //! The changes of a monitor's atoms that ride on a step.
 
 ghost use Rattle.std.specs.Prelude.{◌≡◌, ◌≤◌, ◌+◌, ◌-◌, ◌^◌, [], ◌∷◌, IfOk};
+ghost use Rattle.p3_formula.specs.Simplified.{is_value};
 ghost use Rattle.p3_monitors.specs.Updates as made;
 
 use p3_base::{List, NoMemory};
@@ -33,6 +34,53 @@ fn two(alloc: Global, first: Change, second: Change) -> Result<Effects, NoMemory
     Ok(List::from(effects))
 }
 
+/// Whether the form is the constant of that value.
+fn is_value(form: &Form, value: bool) -> bool
+    ensures { result ≡ is_value value form.now }
+{
+    match form {
+        Form::True => value,
+        Form::False => !value,
+        Form::Atom(_) | Form::Not(_) | Form::And(_) | Form::Or(_) => false,
+    }
+}
+
+/// Both hold, where the first may be a constant.
+fn joint(alloc: Global, first: Form, second: Form) -> Result<Form, NoMemory>
+    ensures { IfOk result (λ form. form ≡ made.joint first second) }
+{
+    if is_value(&first, false) {
+        drop(second);
+        return Ok(Form::False);
+    }
+    if is_value(&first, true) {
+        return Ok(second);
+    }
+    Form::both(alloc, first, second)
+}
+
+/// The atom is set, and the form does not hold.
+fn ceased(alloc: Global, base: usize, form: &Form) -> Result<Form, NoMemory>
+    ensures { IfOk result (λ ceased. ceased ≡ made.ceased base form.now) }
+{
+    let gone = Form::negation(alloc, copied(alloc, form)?)?;
+    Form::both(alloc, Form::Atom(base), gone)
+}
+
+/// The atom is set, the form does not hold, and it does later.
+fn back(alloc: Global, base: usize, form: &Form, later: Form) -> Result<Form, NoMemory>
+    ensures { IfOk result (λ back. back ≡ made.joint_behind (made.ceased base form.now) later) }
+{
+    if is_value(&later, false) {
+        return Ok(Form::False);
+    }
+    let ceased = ceased(alloc, base, form)?;
+    if is_value(&later, true) {
+        return Ok(ceased);
+    }
+    Form::both(alloc, ceased, later)
+}
+
 /// It has held in every state: no more where it does not hold after the step.
 pub(crate) fn always(alloc: Global, base: usize, later: Form) -> Result<Effects, NoMemory>
     ensures { IfOk result (λ effects. effects ≡ made.always base later) }
@@ -59,9 +107,7 @@ pub(crate) fn at_most_once(
     ensures { IfOk result (λ effects. effects ≡ made.at_most_once base form.now later) }
 {
     let held = change(copied(alloc, &later)?, base, true);
-    let gone = Form::negation(alloc, copied(alloc, form)?)?;
-    let ceased = Form::both(alloc, Form::Atom(base), gone)?;
-    let back = change(Form::both(alloc, ceased, later)?, base + 1, true);
+    let back = change(back(alloc, base, form, later)?, base + 1, true);
     two(alloc, held, back)
 }
 
@@ -77,7 +123,7 @@ pub(crate) fn sometime_after(
 {
     let met = change(copied(alloc, &second)?, base, false);
     let unmet = Form::negation(alloc, second)?;
-    let awaited = change(Form::both(alloc, first, unmet)?, base, true);
+    let awaited = change(joint(alloc, first, unmet)?, base, true);
     two(alloc, met, awaited)
 }
 
@@ -92,7 +138,7 @@ pub(crate) fn sometime_before(
     requires { base + 1 ≤ 2 ^ 64 - 1 }
     ensures { IfOk result (λ effects. effects ≡ made.sometime_before base first second) }
 {
-    let early = Form::both(alloc, first, Form::negation(alloc, Form::Atom(base))?)?;
+    let early = joint(alloc, first, Form::negation(alloc, Form::Atom(base))?)?;
     let held = change(second, base, true);
     two(alloc, held, change(early, base + 1, true))
 }

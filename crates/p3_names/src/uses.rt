@@ -177,8 +177,8 @@ impl<'t> Visits<'t> {
         match formula {
             Formula::Atom { pred, args } => self.atom(pred, args.items()),
             Formula::Equal(left, right) => {
-                self.side(left)?;
-                self.side(right)
+                self.side(left.get())?;
+                self.side(right.get())
             }
             Formula::And(parts) => self.formulas(parts.items()),
             Formula::Or(parts) => self.formulas(parts.items()),
@@ -279,6 +279,7 @@ impl<'t> Visits<'t> {
                 self.leave(variables.items())
             }
             PreGoal::Soft(pref) => {
+                let pref = pref.get();
                 self.preference(pref.at, &pref.name)?;
                 self.formula(&pref.body)
             }

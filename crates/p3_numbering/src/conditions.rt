@@ -33,8 +33,8 @@ pub(crate) fn numbered_formula<'t>(
             Ok(Condition::Atom { predicate, args })
         }
         Formula::Equal(left, right) => {
-            let left = argument(tables, scope, left)?;
-            let right = argument(tables, scope, right)?;
+            let left = argument(tables, scope, left.get())?;
+            let right = argument(tables, scope, right.get())?;
             Ok(Condition::Equal(left, right))
         }
         Formula::And(parts) => {

@@ -80,7 +80,7 @@ pub(crate) fn numbered_goal<'t>(
             Ok(Goal::Each(ranges, body))
         }
         PreGoal::Soft(pref) => {
-            let preference = numbered_preference(alloc, tables, scope, pref)?;
+            let preference = numbered_preference(alloc, tables, scope, pref.get())?;
             Ok(Goal::Soft(preference))
         }
     }

@@ -2,19 +2,20 @@
 use Rattle.std.proofs.Common.{◌≡◌, ◌∙◌, refl, sym, ap, ℕ, Bool, true, false, IsTrue, ◌↔◌, ◌||◌, ◌&&◌, not, List, [], ◌∷◌, ◌++◌, map, fold, Option, Some, None, append_assoc}
 use Rattle.std.specs.Prelude.{nat_lt, if◌then◌else◌, codes, option_map}
 use Rattle.std.specs.Bool.{one_answer}
-use Rattle.std.specs.List.{list_all}
+use Rattle.std.specs.List.{list_all, list_any}
 use Rattle.std.proofs.lemmas.Bool.{and_parts}
 use Rattle.std.specs.Char.{to_ascii_lowercase}
 use Rattle.std.specs.Str.{bytes_eq}
 use Rattle.std.proofs.lemmas.Slice.Eq.{bytes_eq-Decides}
 use mathlib.Core.Former.{Count}
+use Rattle.p3_base.specs.Words.{is_name}
 use Rattle.p3_base.specs.declared.refusal.Code.TheVariants.{Construct}
 use Rattle.p3_base.specs.declared.refusal.Role.{Role}
 use Rattle.p3_tree.proofs.OnceLemmas.{Some-injective}
-use Rattle.p3_tree.specs.Names.{Name, same_name, has_name}
+use Rattle.p3_tree.specs.Names.{Name, same_name, has_name, total_cost}
 use Rattle.p3_tree.specs.FirstOffence.{least_word}
 use Rattle.p3_tree.specs.Grammar.Words.{expressions, word_place}
-use Rattle.p3_tree.specs.Refusals.Constructs.{left_out, has_some, word_when, is_word_called, shown_by, not_a_number, constructs, constructs_of, constructs_all}
+use Rattle.p3_tree.specs.Refusals.Constructs.{left_out, has_some, word_when, is_word_called, shown_by, is_number_or_list, second_is_number, other_increase, not_a_number, constructs, constructs_of, constructs_all}
 use Rattle.p3_tree.specs.Refusals.Places.{refusal_at, refusal_at_word}
 use Rattle.p3_tree.specs.declared.expression.Expression.{Expression, Group', Row_of-Expression, end_of-Expression, more_of-Expression}
 use Rattle.p3_tree.specs.declared.expression.Expression.TheVariants as expression
@@ -22,7 +23,7 @@ use Rattle.p3_tree.specs.declared.term.Ref.{Ref}
 use Rattle.p3_outline.specs.declared.constructs.Around.{Around}
 use Rattle.p3_outline.specs.declared.constructs.Found.{Found}
 use Rattle.p3_outline.specs.Nodes.{elements}
-use Rattle.p3_outline.specs.Constructs.{the_found, sooner, least_with, is_some_of, begins_as_left_out, declaring, conditions, the_around, with_head, with_no_head, Finds, either_shown, increase_shown, other_shown, number_shown, timed_shown, compared_shown, metric_shown, head_shown, behind_shown, place_shown, constructs_in, total_time, behind_head, constructs_below}
+use Rattle.p3_outline.specs.Constructs.{the_found, sooner, least_with, is_some_of, begins_as_left_out, may_tell, is_plain, declaring, conditions, the_around, with_head, with_no_head, Finds, IsQuiet, either_shown, increase_shown, other_shown, number_shown, timed_shown, compared_shown, metric_shown, head_shown, behind_shown, place_shown, constructs_in, total_time, behind_head, constructs_below}
 
 -- ---- words
 
@@ -48,6 +49,14 @@ none_of test word fails (name ∷ names) all =
     by : (b : Bool) → same_name word name ≡ b → test name ≡ true → b ≡ false
     by true same passes = absurd (let is = ap test ((bytes_eq-Decides word name).0 same) in cc)
     by false same passes = refl
+
+-- nor is it any one of them
+not_called : (test : Name → Bool) (word : Name) → test word ≡ false → (name : Name) → test name ≡ true → same_name word name ≡ false
+not_called test word fails name passes = by (same_name word name) refl
+  where
+    by : (b : Bool) → same_name word name ≡ b → b ≡ false
+    by true same = absurd (let is = ap test ((bytes_eq-Decides word name).0 same) in cc)
+    by false same = refl
 
 pub left_out_first : (word : Name) → (begins_as_left_out word && is_some_of left_out word) ≡ is_some_of left_out word
 left_out_first word = by (begins_as_left_out word) refl
@@ -129,6 +138,65 @@ shown_finds around least first second last head behind by_head behind_it by_plac
     by_place ∙ ap (λ l. least_with l c) (behind_it ∙ ap (λ l. least_with l b) by_head ∙ sym (least_append least a b)) ∙ sym (least_append least (a ++ b) c)
     ∙ ap (λ (x : Around). least_with least (head_shown x head ++ b ++ place_shown x head behind)) is ∙ ap (least_with least) (sym (shown_as names innermost head behind))
 
+-- ---- heads that show nothing
+
+module _ (around : Around) (head : Ref) (plain : is_plain around head ≡ true) where
+  both_false : (a b : Bool) → (not a && not b) ≡ true → (a ≡ false) × (b ≡ false)
+  both_false true b is = absurd cc
+  both_false false true is = absurd cc
+  both_false false false is = (refl, refl)
+
+  no_metric : around.metric ≡ false
+  no_metric = (both_false around.metric (may_tell head.name) plain).0
+
+  tells_nothing : may_tell head.name ≡ false
+  tells_nothing = (both_false around.metric (may_tell head.name) plain).1
+
+  is_not : (name : Name) → may_tell name ≡ true → same_name head.name name ≡ false
+  is_not name tells = not_called may_tell head.name tells_nothing name tells
+
+  is_none : (names : List Name) → list_all may_tell names ≡ true → is_some_of names head.name ≡ false
+  is_none names all = none_of may_tell head.name tells_nothing names all
+
+  none_by_head : head_shown around head ≡ []
+  none_by_head =
+      ap (λ b. word_when b head ++ either_shown around head ++ increase_shown around head) (is_none left_out refl)
+      ∙ ap (λ b. word_when (b && around.declares) head ++ increase_shown around head) (is_not (codes "either") refl)
+      ∙ ap (λ b. word_when (b && around.conditional) head) (is_not (codes "increase") refl)
+
+  none_behind : (behind : List Expression) → behind_shown head behind ≡ []
+  none_behind behind =
+      ap (λ b. (if b then other_increase behind else []) ++ number_shown head behind) (is_not (codes "increase") refl)
+      ∙ ap (λ b. if b then not_a_number false behind else []) (is_not (codes ":functions") refl)
+
+  none_by_place : (behind : List Expression) → place_shown around head behind ≡ []
+  none_by_place behind =
+      ap (λ b. word_when (b && around.is_right_in_init && second_is_number behind) head ++ compared_shown around head behind ++ metric_shown around head) (is_not (codes "at") refl)
+      ∙ ap (λ b. word_when (b && not around.initial && list_any is_number_or_list behind) head ++ metric_shown around head) (is_not (codes "=") refl)
+      ∙ ap (λ b. word_when (b && is_name head.name && not (is_word_called head (codes "is-violated")) && not (is_word_called head total_cost)) head) no_metric
+
+  none_shown : (behind : List Expression) → head_shown around head ++ behind_shown head behind ++ place_shown around head behind ≡ []
+  none_shown behind =
+      ap (λ ws. ws ++ behind_shown head behind ++ place_shown around head behind) none_by_head
+      ∙ ap (λ ws. ws ++ place_shown around head behind) (none_behind behind) ∙ none_by_place behind
+
+  nothing_shown : (least : Option Found) (behind : List Expression) → Finds around least (λ names innermost. shown_by names innermost head behind) least
+  nothing_shown least behind names innermost place =
+      sym (ap (least_with least) (
+      shown_as names innermost head behind
+      ∙ ap (λ (x : Around). head_shown x head ++ behind_shown head behind ++ place_shown x head behind) (sym place)
+      ∙ none_shown behind
+      ))
+
+  same_around : with_no_head around ≡ with_head head.name around
+  same_around = λ i. record {
+    declares = sym (is_none declaring refl) i || around.declares;
+    conditional = sym (is_none conditions refl) i || around.conditional;
+    initial = sym (is_not (codes ":init") refl) i || around.initial;
+    metric = sym (is_not (codes ":metric") refl) i || around.metric;
+    is_right_in_init = sym (is_not (codes ":init") refl) i;
+  }
+
 pub number_word : (is_behind : Bool) (e : Expression) (rest : List Expression) (word : Ref) → word_place e ≡ Some word
     → not_a_number is_behind (e ∷ rest) ≡ word_when (is_behind && not (same_name word.name (codes "number"))) word ++ not_a_number (same_name word.name (codes "-")) rest
 number_word is_behind (expression.Word at text) rest word is =
@@ -196,9 +264,19 @@ module _ (around inner : Around) (least last : Option Found) (first : Expression
       ∙ sym (least_append least (first_words ++ total_time head) others)
       ∙ ap (λ o. least_with least (behind_head names innermost first rest o)) at ∙ ap (λ parts. least_with least (constructs_below names innermost parts)) (sym is)
 
+  pub below_plain : (head : Ref) → Some head ≡ word_place first → true ≡ is_plain around head → inner ≡ with_no_head around
+      → Finds inner least (λ names innermost. constructs_in names innermost rest) last → Finds around least (λ names innermost. constructs_below names innermost es) last
+  below_plain head at plain within by_rest =
+      below_head least least false head at (within ∙ same_around around head (sym plain)) (nothing_shown around head (sym plain) least rest) (sym (is_not around head (sym plain) (codes "total-time") refl)) refl by_rest
+
   pub below_list : None ≡ word_place first → inner ≡ with_no_head around
       → Finds inner least (λ names innermost. constructs_in names innermost es) last → Finds around least (λ names innermost. constructs_below names innermost es) last
   below_list at within by_all names innermost place =
       by_all names None (within ∙ ap with_no_head place ∙ no_head_around names innermost)
       ∙ ap (λ parts. least_with least (constructs_in names None parts)) is
       ∙ ap (λ o. least_with least (behind_head names innermost first rest o)) at ∙ ap (λ parts. least_with least (constructs_below names innermost parts)) (sym is)
+
+-- A LIST of one word that shows nothing
+pub alone_quiet : (around : Around) (first : Expression) (rest parts : List Expression) (head : Ref) → parts ≡ first ∷ rest → rest ≡ [] → Some head ≡ word_place first → is_plain around head ≡ true → IsQuiet around parts
+alone_quiet around first rest parts head is none at plain least =
+    below_plain around (with_no_head around) least least first [] parts (is ∙ ap (λ others. first ∷ others) none) head at (sym plain) refl (λ names innermost place. refl)

@@ -1,5 +1,5 @@
 -- The first construct that is left out by name, looked for from the outside in.
-use Rattle.std.specs.Prelude.{◌≡◌, ◌==◌, nat_lt, Bool, false, not, ◌&&◌, ◌||◌, List, [], ◌∷◌, ◌++◌, map, flat_map, length, codes, if◌then◌else◌, Option, Some, None}
+use Rattle.std.specs.Prelude.{◌≡◌, ℕ, ◌==◌, nat_lt, Bool, false, not, ◌&&◌, ◌||◌, List, [], ◌∷◌, ◌++◌, map, flat_map, length, codes, if◌then◌else◌, Option, Some, None}
 use Rattle.std.specs.List.{list_any}
 use Rattle.std.specs.Option.{option_map_or}
 use Rattle.std.specs.Str.{str_to_ascii_lowercase}
@@ -29,6 +29,24 @@ sooner (Some least) found = if nat_lt found.at least.at then found else least
 abbrev pub least_with : Option Found → List Ref → Option Found
 least_with least [] = least
 least_with least (word ∷ words) = least_with (Some (sooner least (the_found word))) words
+
+-- ---- heads that show nothing
+
+-- how each word begins that shows something as a head outside the metric, or changes what the lists around are
+abbrev pub is_telling_byte : ℕ → Bool
+is_telling_byte byte = byte == 97 || byte == 100 || byte == 101 || byte == 102 || byte == 104 || byte == 105 || byte == 115 || byte == 116 || byte == 119 || byte == 47 || byte == 60 || byte == 61 || byte == 62
+
+-- how many bytes may follow there
+abbrev pub is_telling_length : ℕ → Bool
+is_telling_length behind = behind == 0 || behind == 1 || behind == 3 || behind == 5 || behind == 7 || behind == 9 || behind == 10 || behind == 12
+
+-- or it begins with a colon
+abbrev pub may_tell : Name → Bool
+may_tell [] = false
+may_tell (byte ∷ bytes) = byte == 58 || (is_telling_byte byte && is_telling_length (length bytes))
+
+abbrev pub is_plain : Around → Ref → Bool
+is_plain around head = not around.metric && not (may_tell head.name)
 
 -- ---- the lists around
 
@@ -136,6 +154,10 @@ FindsShown around least head behind found = Finds around least (λ names innermo
 
 abbrev pub FindsBelow : Around → Option Found → List Expression → Option Found → Type 0
 FindsBelow around least parts found = Finds around least (λ names innermost. constructs_below names innermost parts) found
+
+-- nothing is shown in a list of these elements
+abbrev pub IsQuiet : Around → List Expression → Type 0
+IsQuiet around parts = (least : Option Found) → FindsBelow around least parts least
 
 abbrev pub FindsIn : Around → Option Found → List Expression → Option Found → Type 0
 FindsIn around least parts found = Finds around least (λ names innermost. constructs_in names innermost parts) found

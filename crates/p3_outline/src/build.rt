@@ -7,6 +7,7 @@ ghost use Rattle.p3_base.specs.declared.refusal.Side.TheVariants.{Written};
 ghost use Rattle.p3_tree.specs.Expressions.{expression_of_text};
 ghost use Rattle.p3_tree.specs.Sides.{byte_limit};
 ghost use Rattle.p3_lexer.specs.Lexing.{token_of};
+ghost use Rattle.p3_places.specs.Walks.{place_of, fault_of};
 ghost use Rattle.p3_outline.specs.Builds.{the_built, only_if, is_done, opened, closed, with_word, with_token};
 ghost use Rattle.p3_outline.specs.Nodes.{expressions_in};
 ghost use Rattle.p3_outline.specs.Numbers.{number_refusal};
@@ -15,6 +16,7 @@ use crate::numbers::or_long_number;
 use crate::view::Node;
 use p3_base::{NoMemory, Refusal, Role};
 use p3_lexer::{Lexer, Next, is_close, is_open};
+use p3_places::FaultSearch;
 use std::alloc::Global;
 
 /// A list that is open: the place of its node, and the offset of its `(`.
@@ -105,13 +107,15 @@ impl Building {
     }
 }
 
-/// The nodes of a text, and its first number too long.
+/// The nodes of a text, its first number too long, and its first fault.
 #[derive(Drop)]
 pub(crate) struct Nodes {
     /// The nodes.
     pub nodes: Vec<Node>,
     /// The refusal of the number.
     pub number: Option<Refusal>,
+    /// The refusal of the fault.
+    pub fault: Option<Refusal>,
 }
 
 /// The nodes of the one expression that a text spells with no list above the limit.
@@ -127,12 +131,15 @@ pub(crate) fn build(
         ≡ option_map (λ e. e ∷ []) (expression_of_text limit text.now)) }
     ensures number { IfOk result (λ found.
         IfSome found (λ built. built.number ≡ number_refusal role text.now)) }
+    ensures fault { IfOk result (λ found.
+        IfSome found (λ built. built.fault ≡ fault_of role (place_of role) text.now)) }
 {
     let mut building = Building {
         nodes: Vec::new(alloc),
         open: Vec::new(alloc),
     };
     let mut number = None;
+    let mut faults = FaultSearch::begin(alloc, role);
     let mut lexer = Lexer::new(text);
     loop {
         match lexer.next() {
@@ -141,6 +148,7 @@ pub(crate) fn build(
                     return Ok(None);
                 }
                 number = or_long_number(number, role, offset, word);
+                faults.pass(role, offset, word)?;
             }
             Next::End => {
                 if !building.is_done() {
@@ -149,6 +157,7 @@ pub(crate) fn build(
                 return Ok(Some(Nodes {
                     nodes: building.nodes,
                     number,
+                    fault: faults.found(),
                 }));
             }
             Next::Bad(_) => return Ok(None),

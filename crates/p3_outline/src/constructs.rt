@@ -1,6 +1,6 @@
 //! Constructs that are left out by name, wherever they stand.
 
-ghost use Rattle.std.specs.Prelude.{◌≡◌, ◌<◌, ◌^◌, ◌&&◌, length, false, if◌then◌else◌, [], Some, None, IfSome};
+ghost use Rattle.std.specs.Prelude.{◌≡◌, ◌<◌, ◌^◌, ◌&&◌, length, true, false, if◌then◌else◌, [], Some, None, IfSome};
 ghost use Rattle.std.specs.List.{list_any};
 ghost use Rattle.std.specs.Option.{option_map};
 ghost use Rattle.std.specs.Str.{str_to_ascii_lowercase};
@@ -9,8 +9,8 @@ ghost use Rattle.p3_tree.specs.Names.{same_name};
 ghost use Rattle.p3_tree.specs.Grammar.Words.{word_place};
 ghost use Rattle.p3_tree.specs.Refusals.Constructs.{left_out, word_when, head_of, is_number_or_list, second_is_number, other_increase, not_a_number, constructs};
 ghost use Rattle.p3_tree.specs.Refusals.Texts.{construct_in};
-ghost use Rattle.p3_outline.specs.Nodes.{expression_of, expressions_of};
-ghost use Rattle.p3_outline.specs.Constructs.{the_word, least_with, declaring, conditions, is_some_of, begins_as_left_out, the_around, with_head, with_no_head, FindsShown, FindsBelow, FindsIn, head_shown, behind_shown, place_shown};
+ghost use Rattle.p3_outline.specs.Nodes.{expression_of, expressions_of, elements};
+ghost use Rattle.p3_outline.specs.Constructs.{the_word, least_with, declaring, conditions, is_some_of, begins_as_left_out, is_telling_byte, is_telling_length, may_tell, is_plain, the_around, with_head, with_no_head, IsQuiet, FindsShown, FindsBelow, FindsIn, head_shown, behind_shown, place_shown};
 
 use crate::numbers::is_decimal;
 use crate::view::{Parts, View};
@@ -325,6 +325,62 @@ fn shown(
     place_shown(around, head, behind, least)
 }
 
+// ---- heads that show nothing
+
+fn is_telling_byte(byte: u8) -> bool
+    ensures { result ≡ is_telling_byte byte }
+{
+    matches!(
+        byte,
+        b'a' | b'd' | b'e' | b'f' | b'h' | b'i' | b's' | b't' | b'w' | b'/' | b'<' | b'=' | b'>'
+    )
+}
+
+fn is_telling_length(behind: usize) -> bool
+    ensures { result ≡ is_telling_length behind }
+{
+    matches!(behind, 0 | 1 | 3 | 5 | 7 | 9 | 10 | 12)
+}
+
+/// Whether a word may be one that shows something as a head outside the metric, or that changes what
+/// the lists around are. Its first byte and its length tell it.
+#[tactic(auto, using(crate::proofs::BuildLemmas::lowered_length))]
+fn may_tell(word: &[u8]) -> bool
+    ensures { result ≡ may_tell (str_to_ascii_lowercase word.now) }
+{
+    match word {
+        [] => false,
+        [first, behind @ ..] => {
+            let first = first.to_ascii_lowercase();
+            first == b':' || is_telling_byte(first) && is_telling_length(behind.len())
+        }
+    }
+}
+
+/// Whether a list shows nothing by its head, which changes nothing of the lists around.
+fn is_plain(around: Around, head: TextWord<'_>) -> bool
+    ensures { result ≡ is_plain around (the_word head.entry) }
+{
+    !around.metric && !may_tell(head.text)
+}
+
+/// Whether a list is one word that shows nothing.
+fn is_quiet(around: Around, list: View<'_, '_>) -> bool
+    ensures { result ≡ true → IsQuiet around (elements (expression_of list.entry)) }
+{
+    let mut behind = list.parts();
+    let Some(first) = behind.next() else {
+        return false;
+    };
+    if behind.node_count() != 0 {
+        return false;
+    }
+    match word_of(first) {
+        Some(head) => is_plain(around, head),
+        None => false,
+    }
+}
+
 // ---- the whole
 
 /// Whatever a list and the lists in it show.
@@ -338,6 +394,9 @@ fn below(around: Around, parts: Parts<'_, '_>, least: Option<Found>) -> Option<F
     };
     match word_of(first) {
         Some(head) => {
+            if is_plain(around, head) {
+                return all_in(with_no_head(around), behind, least);
+            }
             let least = shown(around, head, behind, least);
             let least = least_if(is(head.text, b"total-time"), least, head);
             all_in(with_head(around, head.text), behind, least)
@@ -356,7 +415,11 @@ fn all_in(around: Around, parts: Parts<'_, '_>, least: Option<Found>) -> Option<
     while let Some(part) = left.next() {
         match word_of(part) {
             Some(word) => least = least_if(is(word.text, b"total-time"), least, word),
-            None => least = below(around, part.parts(), least),
+            None => {
+                if !is_quiet(around, part) {
+                    least = below(around, part.parts(), least);
+                }
+            }
         }
     }
     least

@@ -61,10 +61,19 @@ pub fn outline<'a>(alloc: Global, role: Role, text: &'a [u8]) -> Result<Outline<
 {
     let limit = level_limit(role);
     match build(alloc, role, text, limit as usize) {
-        Ok(Some(Nodes { nodes, number })) => Ok(Outline {
+        Ok(
+            Some(
+                Nodes {
+                    nodes,
+                    number,
+                    fault,
+                },
+            ),
+        ) => Ok(Outline {
             text,
             nodes,
             number,
+            fault,
         }),
         Ok(None) => Err(ReadFail::Refused(why_none(role, limit, text))),
         Err(_) => Err(ReadFail::NoMemory),

@@ -33,6 +33,8 @@ pub struct Outline<'a> {
     pub(crate) nodes: Vec<Node>,
     /// The refusal of its first number too long.
     pub(crate) number: Option<Refusal>,
+    /// The refusal of the first token after which no text of the grammar goes on.
+    pub(crate) fault: Option<Refusal>,
 }
 
 /// A word or a list.
@@ -129,6 +131,14 @@ impl<'o, 'a> Parts<'o, 'a> {
 }
 
 impl<'a> Outline<'a> {
+    /// The refusal of the first token after which no text of the grammar goes on; None where there
+    /// is none, and the text has a tree.
+    pub fn fault(&self) -> Option<Refusal>
+        ensures fault { result ≡ self.now.fault }
+    {
+        self.fault
+    }
+
     /// The whole expression.
     #[tactic(auto, using(crate::proofs::NodeLemmas::no_root, crate::proofs::NodeLemmas::first_root))]
     pub fn root(&self) -> View<'_, 'a>

@@ -1,20 +1,20 @@
 -- A walk over a text, token by token.
-use Rattle.std.proofs.Common.{◌≡◌, ◌∙◌, refl, sym, ap, ℕ, Bool, true, false, ◌≢◌, if◌then◌else◌, List, length, codes, Some, None}
-use Rattle.std.specs.Option.{option_map}
+use Rattle.std.proofs.Common.{◌≡◌, ◌∙◌, refl, sym, ap, ℕ, Bool, true, false, if◌then◌else◌, List, [], length, codes, Option, Some, None}
+use Rattle.std.specs.Option.{option_map, option_or}
 use Rattle.std.specs.Str.{bytes_eq, str_to_ascii_lowercase}
 use Rattle.p3_base.specs.declared.refusal.Code.TheVariants.{Malformed}
+use Rattle.p3_base.specs.declared.refusal.Refusal.{Refusal}
 use Rattle.p3_base.specs.declared.refusal.Role.{Role}
 use Rattle.p3_tree.specs.Tokens.{Open, Close, Word, Tokens, before}
 use Rattle.p3_tree.specs.PlanTexts.{Opens, Closes, Names, mark_of}
 use Rattle.p3_tree.specs.Refusals.Places.{refusal_at, refusal_at_token}
-use Rattle.p3_lexer.specs.Lexing.{token_of, with_next}
+use Rattle.p3_lexer.specs.Lexing.{token_of}
 use Rattle.p3_lexer.proofs.MarkLemmas.{refusal_of_token}
-use Rattle.p3_lexer.specs.declared.lexer.Next.{Next}
-use Rattle.p3_lexer.specs.declared.lexer.Next.TheVariants as next
 use Rattle.p3_places.specs.Machine.{first_fault, step, or_at}
 use Rattle.p3_places.specs.Places.{grammar_table}
-use Rattle.p3_places.specs.Walks.{the_stack, only_if, mark_in, fault_among}
+use Rattle.p3_places.specs.Walks.{the_stack, only_if, mark_in, fault_among, fault_left}
 use Rattle.p3_places.specs.declared.state.State.{State}
+use Rattle.p3_places.specs.declared.walk.FaultSearch.{FaultSearch}
 use Rattle.p3_places.specs.declared.walk.Walk.{Walk}
 
 mark_by : (opens closes : Bool) (offset : ℕ) (word : List ℕ)
@@ -43,9 +43,16 @@ module _ (role : Role) (stack : List State) (offset : ℕ) (word : List ℕ) (la
       ap (λ o. option_map (refusal_at_token Malformed role) (or_at (token_of offset word) (λ s. first_fault grammar_table s later.tokens) o)) (stepped ∙ ap (λ b. only_if b (the_stack walk)) off)
       ∙ ap Some (refusal_of_token Malformed role offset word)
 
--- there is no token more
-pub walk_ends : (role : Role) (stack : List State) (given : Next) (later : Tokens) → ((word : _) (offset : _) → given ≢ next.Token word offset) → fault_among role stack (with_next given later) ≡ None
+-- ---- a search for the first fault
+
+abbrev none_left : Tokens
+none_left = record { tokens = []; foreign = None }
+
+found_by : (role : Role) (stack : List State) (found : Option Refusal) → option_or found (fault_among role stack none_left) ≡ found
 unfolding first_fault
-walk_ends role stack (next.Token word offset) later not = absurd (not word offset refl)
-walk_ends role stack next.End later not = refl
-walk_ends role stack (next.Bad offset) later not = refl
+found_by role stack None = refl
+found_by role stack (Some refusal) = refl
+
+-- where no token is left, it was found
+pub all_passed : (role : Role) (search : FaultSearch) → fault_left role search (record { tokens = []; foreign = None }) ≡ search.found
+all_passed role search = found_by role (the_stack search.walk) search.found

@@ -1,12 +1,12 @@
 -- What a walk over a text has come to, and what it finds.
-use Rattle.std.specs.Prelude.{ℕ, Bool, if◌then◌else◌, List, [], ◌∷◌, reverse, codes, Option, Some, None}
-use Rattle.std.specs.Option.{option_map}
+use Rattle.std.specs.Prelude.{◌≡◌, ℕ, Bool, if◌then◌else◌, List, [], ◌∷◌, reverse, codes, Option, Some, None}
+use Rattle.std.specs.Option.{option_map, option_or}
 use Rattle.std.specs.Str.{bytes_eq, str_to_ascii_lowercase}
 use Rattle.p3_base.specs.declared.refusal.Code.TheVariants.{Malformed}
 use Rattle.p3_base.specs.declared.refusal.Refusal.{Refusal}
 use Rattle.p3_base.specs.declared.refusal.Role.{Role}
 use Rattle.p3_base.specs.declared.refusal.Role.TheVariants as role
-use Rattle.p3_tree.specs.Tokens.{Tokens, tokens_of}
+use Rattle.p3_tree.specs.Tokens.{Token, Tokens, before, tokens_of}
 use Rattle.p3_tree.specs.PlanTexts.{Mark, Opens, Closes, Names}
 use Rattle.p3_tree.specs.Refusals.Places.{refusal_at_token}
 use Rattle.p3_places.specs.Machine.{first_fault}
@@ -14,6 +14,7 @@ use Rattle.p3_places.specs.Places.{grammar_table, start}
 use Rattle.p3_places.specs.declared.state.Place.{Place}
 use Rattle.p3_places.specs.declared.state.Place.TheVariants as place
 use Rattle.p3_places.specs.declared.state.State.{State}
+use Rattle.p3_places.specs.declared.walk.FaultSearch.{FaultSearch}
 use Rattle.p3_places.specs.declared.walk.Walk.{Walk}
 
 -- the innermost list, and those around it, the innermost of which stands last in the code
@@ -42,3 +43,17 @@ place_of role.WrittenDomain = place.Domain
 place_of role.Problem = place.Problem
 place_of role.WrittenProblem = place.Problem
 place_of role.Plan = place.Problem
+
+-- ---- a search for the first fault
+
+-- the first fault of a text, of which these tokens are left
+abbrev pub fault_left : Role → FaultSearch → Tokens → Option Refusal
+fault_left role search left = option_or search.found (fault_among role (the_stack search.walk) left)
+
+-- before its tokens it is that of the text, whatever the text
+abbrev pub Begins : Role → FaultSearch → Type 0
+Begins role search = (text : List ℕ) → fault_left role search (tokens_of text) ≡ fault_of role (place_of role) text
+
+-- behind one token more it is the same, whatever is left
+abbrev pub Passes : Role → FaultSearch → Token → FaultSearch → Type 0
+Passes role old token new = (later : Tokens) → fault_left role old (before token later) ≡ fault_left role new later

@@ -11,4 +11,4 @@ mod step;
 mod walk;
 mod word;
 
-pub use walk::first_malformed;
+pub use walk::FaultSearch;

@@ -1,20 +1,21 @@
 //! The walk over a text.
 
-ghost use Rattle.std.specs.Prelude.{◌≡◌, ◌≢◌, ◌≤◌, ◌∷◌, [], length, IfOk};
+ghost use Rattle.std.specs.Prelude.{◌≡◌, ◌≤◌, ◌∷◌, [], length, IfOk};
 ghost use Rattle.std.specs.Str.{str_to_ascii_lowercase};
-ghost use Rattle.p3_base.specs.declared.refusal.Role.TheVariants.{Plan};
+ghost use Rattle.p3_base.specs.declared.refusal.Code.TheVariants.{Malformed};
 ghost use Rattle.p3_base.specs.declared.refusal.Side.TheVariants.{Written};
 ghost use Rattle.p3_tree.specs.PlanTexts as marks;
+ghost use Rattle.p3_tree.specs.Refusals.Places.{refusal_at};
 ghost use Rattle.p3_tree.specs.Sides.{byte_limit};
+ghost use Rattle.p3_lexer.specs.Lexing.{token_of};
 ghost use Rattle.p3_places.specs.Machine.{step};
 ghost use Rattle.p3_places.specs.Places.{grammar_table, start};
-ghost use Rattle.p3_places.specs.Walks.{the_stack, only_if, mark_in, place_of, fault_of};
-ghost use Rattle.p3_places.specs.Found.{Finds};
+ghost use Rattle.p3_places.specs.Walks.{the_stack, only_if, mark_in, place_of, Begins, Passes};
 
 use crate::state::{Place, Rest, Slot, State};
 use crate::step::{after, is_final, on_open, on_word};
 use p3_base::{Code, NoMemory, Pos, Refusal, Role};
-use p3_lexer::{Lexer, Next, is_close, is_open};
+use p3_lexer::{is_close, is_open};
 use std::alloc::Global;
 
 /// The lists that are open: the innermost, and those around it.
@@ -95,32 +96,6 @@ impl Walk {
     }
 }
 
-/// The first token of a text that may not stand where it does.
-fn first_fault(
-    alloc: Global,
-    role: Role,
-    place: Place,
-    text: &[u8],
-) -> Result<Option<Refusal>, NoMemory>
-    requires { length text.now ≤ byte_limit Written }
-    ensures { IfOk result (λ found. found ≡ fault_of role place text.now) }
-{
-    let mut walk = Walk::begun(alloc, place);
-    let mut lexer = Lexer::new(text);
-    loop {
-        let Next::Token { text: word, offset } = lexer.next() else {
-            return Ok(None);
-        };
-        if !walk.pass(word)? {
-            return Ok(Some(Refusal {
-                code: Code::Malformed,
-                pos: Pos { role, offset },
-                len: word.len() as u32,
-            }));
-        }
-    }
-}
-
 /// Where the whole text of a file stands. A plan has no place here.
 fn place_of(role: Role) -> Place
     ensures { result ≡ place_of role }
@@ -131,13 +106,57 @@ fn place_of(role: Role) -> Place
     }
 }
 
-/// The first token of a domain's or a problem's text after which no text of the grammar goes on, as
-/// a refusal. Where there is none, a balanced text has a tree.
-#[tactic(auto, using(crate::proofs::Faults::finds))]
-pub fn first_malformed(alloc: Global, role: Role, text: &[u8]) -> Result<Option<Refusal>, NoMemory>
-    requires of_a_task { role ≢ Plan }
+/// The search for the first token of a text that may not stand where it does, as tokens pass.
+#[derive(Drop)]
+pub struct FaultSearch {
+    walk: Walk,
+    found: Option<Refusal>,
+}
+
+impl FaultSearch {
+    /// Stands before the first token of a text of the role.
+    pub fn begin(alloc: Global, role: Role) -> FaultSearch
+        ensures begins { Begins role result }
+    {
+        FaultSearch {
+            walk: Walk::begun(alloc, place_of(role)),
+            found: None,
+        }
+    }
+
+    /// Passes a token.
+    pub fn pass(&mut self, role: Role, offset: u32, text: &[u8]) -> Result<(), NoMemory>
+        requires short { length text.now ≤ byte_limit Written }
+        ensures passes { IfOk result (λ _.
+            Passes role self.old (token_of offset text.now) self.new) }
+    {
+        match self.found {
+            Some(_) => Ok(()),
+            None => {
+                if !self.walk.pass(text)? {
+                    self.found = Some(fault_at(role, offset, text));
+                }
+                Ok(())
+            }
+        }
+    }
+
+    /// The fault that was found.
+    pub fn found(&self) -> Option<Refusal>
+        ensures found { result ≡ self.now.found }
+    {
+        self.found
+    }
+}
+
+/// The refusal of a token that may not stand where it does.
+fn fault_at(role: Role, offset: u32, text: &[u8]) -> Refusal
     requires short { length text.now ≤ byte_limit Written }
-    ensures finds { IfOk result (λ found. Finds role text.now found) }
+    ensures { result ≡ refusal_at Malformed role offset (length text.now) }
 {
-    first_fault(alloc, role, place_of(role), text)
+    Refusal {
+        code: Code::Malformed,
+        pos: Pos { role, offset },
+        len: text.len() as u32,
+    }
 }

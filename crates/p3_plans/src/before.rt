@@ -9,6 +9,7 @@ ghost use Rattle.p3_plans.specs.declared.before.Before.TheVariants as before;
 ghost use Rattle.p3_plans.specs.Befores.{Leads, begin_of};
 
 use p3_base::{Code, Pos, Refusal, Role};
+use p3_lexer::{is_close, is_open};
 
 /// No plan has more steps.
 const STEP_LIMIT: u32 = 1_000_000;
@@ -62,7 +63,7 @@ fn begun(steps: u32, offset: u32, text: &[u8]) -> Result<Before, Refusal>
     requires short { length text.now ≤ plan_byte_limit }
     ensures { Leads (before.Outside steps) (token_of offset text.now) result }
 {
-    if text == b"(".as_slice() {
+    if is_open(text) {
         if steps < STEP_LIMIT {
             Ok(Before::Begun {
                 steps: steps + 1,
@@ -71,7 +72,7 @@ fn begun(steps: u32, offset: u32, text: &[u8]) -> Result<Before, Refusal>
         } else {
             Err(refusal(Code::TooManySteps, offset, 1))
         }
-    } else if text == b")".as_slice() {
+    } else if is_close(text) {
         Err(refusal(Code::Unbalanced, offset, 1))
     } else {
         Err(refusal(Code::Malformed, offset, text.len() as u32))
@@ -85,7 +86,7 @@ fn named(steps: u32, begin: u32, offset: u32, text: &[u8]) -> Result<Before, Ref
     ensures later { text.now ≢ codes ")"
         → Leads (before.Named steps begin) (token_of offset text.now) result }
 {
-    if text == b"(".as_slice() || text == b")".as_slice() {
+    if is_open(text) || is_close(text) {
         Err(refusal(Code::Malformed, offset, 1))
     } else if is_plan_word(text) {
         Ok(Before::Named { steps, begin })
@@ -102,7 +103,7 @@ pub(crate) fn advanced(before: Before, offset: u32, text: &[u8]) -> Result<Befor
     match before {
         Before::Outside { steps } => begun(steps, offset, text),
         Before::Begun { steps, begin } => named(steps, begin, offset, text),
-        Before::Named { steps, .. } if text == b")".as_slice() => Ok(Before::Outside { steps }),
+        Before::Named { steps, .. } if is_close(text) => Ok(Before::Outside { steps }),
         Before::Named { steps, begin } => named(steps, begin, offset, text),
     }
 }

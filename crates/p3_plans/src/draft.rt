@@ -12,6 +12,7 @@ ghost use Rattle.p3_plans.specs.Drafts.{draft_before, plan_of, added, with_argum
 use crate::PlanFail;
 use crate::before::{Before, advanced, refusal};
 use p3_base::{Code, List, Name, NoMemory};
+use p3_lexer::is_close;
 use p3_tree::{Plan, Step};
 use std::alloc::Global;
 
@@ -79,7 +80,7 @@ fn with_word(alloc: Global, draft: Draft, word: &[u8]) -> Result<Draft, NoMemory
             Ok(Draft::Named { plan, step })
         }
         Draft::Named { plan, step } => {
-            if word == b")".as_slice() {
+            if is_close(word) {
                 return with_step(plan, step);
             }
             let argument = Name::of(alloc, word)?;

@@ -10,7 +10,7 @@ use crate::before::refusal;
 use crate::offence::first_plan_offence;
 use crate::reader::{NextStep, PlanReader, PlanStep};
 use p3_base::{Code, Refusal};
-use p3_lexer::{Lexer, Next};
+use p3_lexer::{Lexer, Next, is_close, is_open};
 
 /// What a line of a plan text has.
 #[derive(Clone, Copy)]
@@ -77,10 +77,10 @@ fn second_step(line: &[u8]) -> Option<u32>
     loop {
         match lexer.next() {
             Next::Token { text, offset } => {
-                if closed && text == b"(".as_slice() {
+                if closed && is_open(text) {
                     return Some(offset);
                 }
-                closed = closed || text == b")".as_slice();
+                closed = closed || is_close(text);
             }
             Next::End | Next::Bad(_) => return None,
         }

@@ -87,13 +87,13 @@ fn first_copies(
     requires room { weighted_cost weights.now step.now < 2 ^ 62 }
     ensures { IfOk result (λ copies. copies ≡ made.first_copy weights.now step.now ∷ []) }
 {
-    let mut copies = List::new(alloc);
+    let mut copies = Vec::with_capacity(alloc, 1)?;
     copies.push(StepCopy {
         violated: List::new(alloc),
         pre: copied(alloc, &step.pre)?,
         cost: weighted_cost(weights.total_cost, step.cost),
     })?;
-    Ok(copies)
+    Ok(List::from(copies))
 }
 
 /// The cost of a step, weighted.
@@ -129,7 +129,7 @@ fn split_by(
 {
     let weight = weight_of(by_name, pref);
     if weight > 0 {
-        return doubled(alloc, &copies, &pref.body, weight);
+        return doubled(alloc, copies, &pref.body, weight);
     }
     Ok(copies)
 }
@@ -137,20 +137,20 @@ fn split_by(
 /// Two of each copy: the preference is satisfied, or it is violated.
 fn doubled(
     alloc: Global,
-    copies: &List<StepCopy>,
+    copies: List<StepCopy>,
     body: &Form,
     weight: u64,
 ) -> Result<List<StepCopy>, NoMemory>
     requires weight { weight < 2 ^ 62 }
-    requires costs { made.IsWithin (2 ^ 62) copies.now }
-    ensures { IfOk result (λ new. new ≡ made.doubled body.now weight copies.now) }
+    requires costs { made.IsWithin (2 ^ 62) copies }
+    ensures { IfOk result (λ new. new ≡ made.doubled body.now weight copies) }
 {
-    let mut new = List::new(alloc);
-    for copy in copies.items() {
-        new.push(satisfied(alloc, copy, body)?)?;
+    let mut new = Vec::with_capacity(alloc, copies.len().saturating_mul(2))?;
+    for copy in copies.into_items() {
+        new.push(satisfied(alloc, &copy, body)?)?;
         new.push(violating(alloc, copy, body, weight)?)?;
     }
-    Ok(new)
+    Ok(List::from(new))
 }
 
 /// The copy where the preference is satisfied.
@@ -168,14 +168,19 @@ fn satisfied(alloc: Global, copy: &StepCopy, body: &Form) -> Result<StepCopy, No
 }
 
 /// The copy where the preference is violated, at its weight.
-fn violating(alloc: Global, copy: &StepCopy, body: &Form, weight: u64) -> Result<StepCopy, NoMemory>
-    requires { copy.now.cost + weight < 2 ^ 64 }
-    ensures { IfOk result (λ new. new ≡ made.violating body.now weight copy.now) }
+fn violating(alloc: Global, copy: StepCopy, body: &Form, weight: u64) -> Result<StepCopy, NoMemory>
+    requires { copy.cost + weight < 2 ^ 64 }
+    ensures { IfOk result (λ new. new ≡ made.violating body.now weight copy) }
 {
-    let violated = entry_added(alloc, &copy.violated, true)?;
+    let StepCopy {
+        mut violated,
+        pre,
+        cost,
+    } = copy;
+    violated.push(true)?;
     let opposite = Form::negation(alloc, copied(alloc, body)?)?;
-    let pre = Form::both(alloc, copied(alloc, &copy.pre)?, opposite)?;
-    let cost = copy.cost + weight;
+    let pre = Form::both(alloc, pre, opposite)?;
+    let cost = cost + weight;
     Ok(StepCopy {
         violated,
         pre,

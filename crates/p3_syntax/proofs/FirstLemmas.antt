@@ -1,5 +1,5 @@
 -- Texts that show no refusal, and what is malformed.
-use Rattle.std.proofs.Common.{◌≡◌, ◌≢◌, ◌∙◌, sym, ap, subst, ℕ, List, [], ◌∷◌, ◌++◌, map, Option, Some, None, Result, Ok, Err, IfOk, append_assoc}
+use Rattle.std.proofs.Common.{◌≡◌, ◌≢◌, ◌∙◌, sym, ap, subst, ℕ, List, [], ◌∷◌, ◌++◌, map, Option, Some, None, append_assoc}
 use Rattle.std.proofs.lemmas.List.{map-append}
 use Rattle.p3_base.specs.declared.refusal.Refusal.{Refusal}
 use Rattle.p3_base.specs.declared.refusal.Role.{Role}
@@ -21,7 +21,6 @@ use Rattle.p3_outline.specs.declared.view.Outline.{Outline}
 use Rattle.p3_outline.specs.Nodes.{root_of}
 use Rattle.p3_outline.specs.Outlines.{IsOutline}
 use Rattle.p3_syntax.specs.First.{Decides}
-use Rattle.p3_base.specs.declared.error.NoMemory.{NoMemory}
 use Rattle.p3_outline.proofs.PlaceLemmas.{malformed_within}
 
 -- a text of a tree goes on behind each of its tokens
@@ -49,13 +48,16 @@ readable_text side half text e none balanced tree refusal is =
 pub outline_balanced : (of : Role) (text : List ℕ) (outline : Outline) → IsOutline of text outline → IsBalanced text (root_of outline)
 outline_balanced of text outline is = text_balanced (level_limit (side_of of)) text (root_of outline) is.whole
 
--- what is found where nothing was shown before
-pub decided_last : (of : Role) (text : List ℕ) (outline : Outline) (result : Result (Option Refusal) NoMemory) → of ≢ role.Plan → IsOutline of text outline → None ≡ text_refusal (side_of of) (half_of of) text
-    → IfOk result (Finds of text) → IfOk result (Decides of text (root_of outline))
-decided_last of text outline (Err fault) task whole none finds = tt
-decided_last of text outline (Ok (Some refusal)) task whole none finds =
+decided : (of : Role) (text : List ℕ) (outline : Outline) (found : Option Refusal) → of ≢ role.Plan → IsOutline of text outline → None ≡ text_refusal (side_of of) (half_of of) text
+    → Finds of text found → Decides of text (root_of outline) found
+decided of text outline (Some refusal) task whole none finds =
     (subst (λ (found : Option Refusal). IsFirstOfHalf found (side_of of) (half_of of) text refusal) none finds, malformed_within of text refusal task finds)
-decided_last of text outline (Ok None) task whole none finds =
+decided of text outline None task whole none finds =
     let balanced = outline_balanced of text outline whole in
     let tree = finds (root_of outline) balanced in
     (tree, readable_text (side_of of) (half_of of) text (root_of outline) (sym none) balanced tree)
+
+-- what is found where nothing was shown before
+pub decided_last : (of : Role) (text : List ℕ) (outline : Outline) (found : Option Refusal) → of ≢ role.Plan → IsOutline of text outline → None ≡ text_refusal (side_of of) (half_of of) text
+    → found ≡ outline.fault → Decides of text (root_of outline) found
+decided_last of text outline found task whole none is = decided of text outline found task whole none (subst (Finds of text) (sym is) whole.faults)

@@ -10,28 +10,22 @@ ghost use Rattle.p3_outline.specs.Nodes.{root_of};
 ghost use Rattle.p3_outline.specs.Outlines.{IsOutline};
 ghost use Rattle.p3_syntax.specs.First.{IsFirstOf, StandsIn, half_text, Decides};
 
-use p3_base::{NoMemory, Refusal, Role};
+use p3_base::{Refusal, Role};
 use p3_outline::{Outline, ReadFail, first_shown, outline};
-use p3_places::first_malformed;
 use std::alloc::Global;
 
 /// The first refusal of a text with an outline: one that it shows by itself, or else the token where
 /// it leaves the grammar.
 #[tactic(auto, using(p3_outline::proofs::PlaceLemmas::shown_within, crate::proofs::FirstLemmas::decided_last))]
-fn refusal_of(
-    alloc: Global,
-    role: Role,
-    outline: &Outline<'_>,
-    text: &[u8],
-) -> Result<Option<Refusal>, NoMemory>
+fn refusal_of(role: Role, outline: &Outline<'_>, text: &[u8]) -> Option<Refusal>
     requires of_a_task { role ≢ Plan }
     requires short { length text.now ≤ byte_limit Written }
     requires outline { IsOutline role text.now outline.now }
-    ensures { IfOk result (Decides role text.now (root_of outline.now)) }
+    ensures { Decides role text.now (root_of outline.now) result }
 {
     match first_shown(role, outline, text) {
-        Some(refusal) => Ok(Some(refusal)),
-        None => first_malformed(alloc, role, text),
+        Some(refusal) => Some(refusal),
+        None => outline.fault(),
     }
 }
 
@@ -54,9 +48,8 @@ pub(crate) fn readable<'a>(
     ensures place { IfErr result (StandsIn role text.now) }
 {
     let outline = outline(alloc, role, text)?;
-    match refusal_of(alloc, role, &outline, text) {
-        Ok(None) => Ok(outline),
-        Ok(Some(refusal)) => Err(ReadFail::Refused(refusal)),
-        Err(_) => Err(ReadFail::NoMemory),
+    match refusal_of(role, &outline, text) {
+        None => Ok(outline),
+        Some(refusal) => Err(ReadFail::Refused(refusal)),
     }
 }

@@ -13,8 +13,8 @@ pub enum Formula {
         /// The arguments.
         args: List<Term>,
     },
-    /// Both terms are the same object.
-    Equal(Term, Term),
+    /// Both terms are the same object. They lie apart, so that a formula takes no more room than an atom.
+    Equal(Boxed<Term>, Boxed<Term>),
     /// Every part holds.
     And(List<Formula>),
     /// Some part holds.

@@ -25,5 +25,5 @@ pub enum PreGoal {
     /// The body for all objects of the types.
     Each(List<Typed>, Boxed<PreGoal>),
     /// A preference, which is soft.
-    Soft(Pref),
+    Soft(Boxed<Pref>),
 }

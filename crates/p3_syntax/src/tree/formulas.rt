@@ -52,7 +52,9 @@ fn equal_form(alloc: Global, behind: Parts<'_, '_>) -> Result<Formula, Fault>
     ensures { Gives (λ tree. tree) result (form_at equal_form behind.entry) }
 {
     let (left, right) = pair(behind)?;
-    Ok(Formula::Equal(term(alloc, left)?, term(alloc, right)?))
+    let left = Boxed::new(alloc, term(alloc, left)?)?;
+    let right = Boxed::new(alloc, term(alloc, right)?)?;
+    Ok(Formula::Equal(left, right))
 }
 
 /// The formulas of parts.

@@ -94,11 +94,12 @@ fn goal_by(
     } else if is(word.text, b"preference") {
         let NamedBody { name, body } = named(alloc, behind)?;
         let body = formula(alloc, body)?;
-        Ok(PreGoal::Soft(Pref {
+        let pref = Pref {
             at: word.at,
             name,
             body,
-        }))
+        };
+        Ok(PreGoal::Soft(Boxed::new(alloc, pref)?))
     } else {
         Ok(PreGoal::Plain(formula(alloc, view)?))
     }

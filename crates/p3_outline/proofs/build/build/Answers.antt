@@ -2,6 +2,8 @@ use Rattle.std.proofs.Common.{◌≡◌, ◌∷◌, [], ◌∙◌, sym, ap, subs
 use Rattle.std.specs.Option.{option_map}
 use Rattle.p3_lexer.specs.Lexing.{Progress, left, token_of, with_next}
 use Rattle.p3_places.specs.Found.{side_of}
+use Rattle.p3_places.specs.Walks.{fault_left}
+use Rattle.p3_places.proofs.WalkLemmas.{all_passed}
 use Rattle.p3_outline.specs.Builds.{the_built, only_if, with_token}
 use Rattle.p3_outline.proofs.BuildLemmas.{Goes, at_start, one_more, none_more, at_end, token_stands, one_node}
 use Rattle.p3_outline.proofs.NumberLemmas.{numbers_from, numbers_more}
@@ -13,6 +15,7 @@ loop-word-init c = record {
   few = let none = ap length c.new.ensures.items in omega (arith, none);
   goes = rw (c.new.ensures.items, c.new-2.ensures.items, c.new-lexer.ensures.starts) (at_start c.args.limit c.args.text.now);
   numbers = ap (λ (p : Progress). numbers_from (side_of c.args.role) c.args.role None (left p)) c.new-lexer.ensures.starts;
+  faults = ap (λ (p : Progress). fault_left c.args.role c.begin-faults.result (left p)) c.new-lexer.ensures.starts ∙ c.begin-faults.ensures.begins c.args.text.now;
 }
 
 pub returns-then-not-branch-clause-nodes : goal.returns-then-not-branch-clause-nodes
@@ -47,6 +50,7 @@ loop-word-preserved c =
       numbers =
           sym (numbers_more (side_of c.args.role) c.args.role c.loop-word.number c.or_long_number-number.result token later c.or_long_number-number.ensures)
           ∙ ap (numbers_from (side_of c.args.role) c.args.role c.loop-word.number) (sym leads) ∙ c.loop-word.invariant.numbers;
+      faults = sym (c.in_ok-pass-in-Token.ensures.passes later) ∙ ap (fault_left c.args.role c.loop-word.faults) (sym leads) ∙ c.loop-word.invariant.faults;
     }
 
 pub returns-in-End-clause-nodes : goal.returns-in-End-clause-nodes
@@ -55,3 +59,8 @@ returns-in-End-clause-nodes c =
     let leads = c.next.ensures.tokens ∙ ap (λ n. with_next n (left c.next.new.self)) c.in-End.is in
     let goes = subst (λ l. Goes c.args.limit c.args.text.now l built) leads c.loop-word.invariant.goes in
     at_end c.args.limit c.args.text.now built true (sym c.is_done.ensures ∙ c.if-not-is_done.false) goes
+
+pub returns-in-End-clause-fault : goal.returns-in-End-clause-fault
+returns-in-End-clause-fault c =
+    let leads = c.next.ensures.tokens ∙ ap (λ n. with_next n (left c.next.new.self)) c.in-End.is in
+    c.found.ensures.found ∙ sym (all_passed c.args.role c.loop-word.faults) ∙ ap (fault_left c.args.role c.loop-word.faults) (sym leads) ∙ c.loop-word.invariant.faults
