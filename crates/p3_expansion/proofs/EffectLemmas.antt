@@ -179,9 +179,9 @@ module _ (N : Numbers) (S : Statics) where
   pub under-none : (guard : Guard) (reads : List GroundAtom) (work : Work) (items : List Change) → ChangesUnder N S guard reads work work (λ above. []) items items
   under-none guard reads work items = record { grows = grows-refl reads work; made = λ above guards those stand. subst (λ all. ChangesStand N S work.atoms all items) (sym (append-nil those)) stand }
 
-  pub under-literal : (guard : Guard) (add : Bool) (atom : GroundAtom) (old new : Work) (before after : List Change) → AddsChange old new guard add atom before after
+  pub under-literal : (guard : Guard) (add : Bool) (atom : GroundAtom) (old new : Work) (before after : List Change) (cond : Form) → cond ≡ guard.form → AddsChange old new cond add atom before after
       → ChangesUnder N S guard (atom ∷ []) old new (λ above. record { add = add; atom = atom; takes_place = both above (conditions_meaning N []); is_free = guard.is_free && true } ∷ []) before after
-  under-literal guard add atom old new before after adds = record {
+  under-literal guard add atom old new before after cond same adds = record {
     grows = adds.grows;
     made = λ above guards those stand.
         let literal : GuardedLiteral = record { add = add; atom = atom; takes_place = both above (conditions_meaning N []); is_free = guard.is_free && true } in
@@ -190,9 +190,9 @@ module _ (N : Numbers) (S : Statics) where
         (stand-push new.atoms those before literal adds.change (stand-keeps old.atoms new.atoms adds.grows.atoms those before stand) (record {
           add = adds.adds;
           atom = adds.stored;
-          cond = subst (λ meaning. Stands N S new.atoms meaning adds.change.cond) (sym alone) (subst (Stands N S new.atoms above) (sym adds.cond) (stands-grows N S old.atoms new.atoms above guard.form adds.grows.atoms guards.stands));
+          cond = subst (λ meaning. Stands N S new.atoms meaning adds.change.cond) (sym alone) (subst (Stands N S new.atoms above) (sym (adds.cond ∙ same)) (stands-grows N S old.atoms new.atoms above guard.form adds.grows.atoms guards.stands));
           tidy = adds.tidy;
-          free = λ is. adds.cond ∙ guards.free (sym (and-true guard.is_free) ∙ is);
+          free = λ is. adds.cond ∙ same ∙ guards.free (sym (and-true guard.is_free) ∙ is);
         }));
   }
 

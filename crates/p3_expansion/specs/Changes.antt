@@ -4,6 +4,7 @@ use Rattle.std.specs.List.{list_all}
 use Rattle.p3_tree.specs.States.{State}
 use Rattle.p3_formula.specs.Tidy.{is_tidy}
 use Rattle.p3_formula.specs.declared.form.Change.{Change}
+use Rattle.p3_formula.specs.declared.form.Form.{Form}
 use Rattle.p3_formula.specs.declared.form.Form.TheVariants as form
 use Rattle.p3_numbers.specs.Conditions.{met}
 use Rattle.p3_numbers.specs.Effects.{PlacedCondition, NumberedLiteral, numbered_literals}
@@ -103,13 +104,13 @@ pub record ChangesUnder (N : Numbers) (S : Statics) (guard : Guard) (reads : Lis
   pub grows : Grows reads old new
   pub made : (above : Meaning) → Guards N S old.atoms guard above → (those : List GuardedLiteral) → ChangesStand N S old.atoms those before → ChangesStand N S new.atoms (those ++ meant above) after
 
--- one change more, of that atom under the guard
-pub record AddsChange (old new : Work) (guard : Guard) (add : Bool) (atom : GroundAtom) (before after : List Change) : Type 0 where
+-- one change more, of that atom where the form holds
+pub record AddsChange (old new : Work) (above : Form) (add : Bool) (atom : GroundAtom) (before after : List Change) : Type 0 where
   pub change : Change
   pub is : after ≡ before ++ change ∷ []
   pub adds : change.add ≡ add
   pub stored : slice_get new.atoms change.atom ≡ Some atom
-  pub cond : change.cond ≡ guard.form
+  pub cond : change.cond ≡ above
   pub tidy : IsTrue (is_tidy change.cond)
   pub grows : Grows (atom ∷ []) old new
 

@@ -9,11 +9,11 @@ ghost use Rattle.p3_expansion.specs.Expansions.{IsJoined};
 
 use crate::choices::{choice_count, place_choice};
 use crate::condition::condition_form;
-use crate::form::is_value;
+use crate::form::{form_copied, is_value};
 use crate::junction::both;
 use crate::{Statics, Work};
 use p3_base::{List, NoMemory};
-use p3_formula::{Change, Effects, Form, copied, fitted};
+use p3_formula::{Change, Effects, Form, fitted};
 use p3_numbers::{Argument, NumberedEffect, Numbers};
 use std::alloc::Global;
 
@@ -26,21 +26,20 @@ pub(crate) struct Guard {
     pub(crate) is_free: bool,
 }
 
-/// Puts the change of an atom behind those made.
+/// Puts the change of an atom, where the condition holds, behind those made.
 fn push_change(
     work: &mut Work,
-    guard: &Guard,
+    cond: Form,
     slots: &[u32],
     add: bool,
     predicate: u32,
     args: &[Argument],
     made: &mut Effects,
 ) -> Result<(), NoMemory>
-    requires { IsTrue (is_tidy guard.now.form) }
-    ensures { OnOk result (AddsChange work.old work.new guard.now add
+    requires { IsTrue (is_tidy cond) }
+    ensures { OnOk result (AddsChange work.old work.new cond add
         (atom_at slots.now predicate args.now) made.old made.new) }
 {
-    let cond = copied(work.alloc, &guard.form)?;
     work.spell(slots, predicate, args)?;
     let atom = work.atom_number()?;
     made.push(Change { cond, atom, add })?;
@@ -55,7 +54,7 @@ fn narrowed(alloc: Global, guard: &Guard, condition: Form) -> Result<Guard, NoMe
     ensures free { IfOk result (λ narrow. narrow.is_free ≡ false) }
     ensures tidy { IfOk result (λ narrow. IsTrue (is_tidy narrow.form)) }
 {
-    let above = copied(alloc, &guard.form)?;
+    let above = form_copied(alloc, &guard.form)?;
     let form = both(alloc, above, condition)?;
     Ok(Guard {
         form,
@@ -82,11 +81,13 @@ fn push_changes(
 {
     match effect {
         NumberedEffect::Add { predicate, args } => {
-            push_change(work, guard, slots, true, *predicate, args.items(), made)?;
+            let copy = form_copied(work.alloc, &guard.form)?;
+            push_change(work, copy, slots, true, *predicate, args.items(), made)?;
             Ok(())
         }
         NumberedEffect::Del { predicate, args } => {
-            push_change(work, guard, slots, false, *predicate, args.items(), made)?;
+            let copy = form_copied(work.alloc, &guard.form)?;
+            push_change(work, copy, slots, false, *predicate, args.items(), made)?;
             Ok(())
         }
         NumberedEffect::All(parts) => {
@@ -104,10 +105,45 @@ fn push_changes(
             if is_value(&narrow.form, false) {
                 return Ok(());
             }
-            push_changes(numbers, statics, work, slots, &narrow, body.get(), made)?;
+            push_under(numbers, statics, work, slots, narrow, body.get(), made)?;
             Ok(())
         }
         NumberedEffect::Cost(_) => Ok(()),
+    }
+}
+
+/// Puts the changes of an effect behind those made. A literal takes the guard's form as it is.
+#[cycle(changes)]
+fn push_under(
+    numbers: &Numbers,
+    statics: &Statics,
+    work: &mut Work,
+    slots: &[u32],
+    guard: Guard,
+    effect: &NumberedEffect,
+    made: &mut Effects,
+) -> Result<(), NoMemory>
+    requires { IsTrue (is_tidy guard.form) }
+    ensures { OnOk result (ChangesUnder numbers.now statics.now guard
+        (effect_atoms numbers.now slots.now effect.now) work.old work.new
+        (λ above. guarded_literals numbers.now above guard.is_free slots.now effect.now)
+        made.old made.new) }
+{
+    match effect {
+        NumberedEffect::Add { predicate, args } => {
+            let cond = guard.form;
+            push_change(work, cond, slots, true, *predicate, args.items(), made)?;
+            Ok(())
+        }
+        NumberedEffect::Del { predicate, args } => {
+            let cond = guard.form;
+            push_change(work, cond, slots, false, *predicate, args.items(), made)?;
+            Ok(())
+        }
+        _ => {
+            push_changes(numbers, statics, work, slots, &guard, effect, made)?;
+            Ok(())
+        }
     }
 }
 

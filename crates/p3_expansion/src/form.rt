@@ -4,7 +4,7 @@ ghost use Rattle.std.specs.Prelude.{◌≡◌, IfOk};
 ghost use Rattle.p3_formula.specs.Simplified as made;
 
 use p3_base::{List, NoMemory};
-use p3_formula::Form;
+use p3_formula::{Form, copied};
 use std::alloc::Global;
 
 /// The constant of that value.
@@ -37,6 +37,16 @@ pub(crate) fn negated(alloc: Global, form: Form) -> Result<Form, NoMemory>
         Form::Atom(atom) => Form::negation(alloc, Form::Atom(atom)),
         Form::And(parts) => Form::negation(alloc, Form::And(parts)),
         Form::Or(parts) => Form::negation(alloc, Form::Or(parts)),
+    }
+}
+
+/// The same form once more.
+pub(crate) fn form_copied(alloc: Global, form: &Form) -> Result<Form, NoMemory>
+    ensures { IfOk result (λ copy. copy ≡ form.now) }
+{
+    match form {
+        Form::True => Ok(Form::True),
+        _ => copied(alloc, form),
     }
 }
 

@@ -22,7 +22,7 @@ push_changes-returns-in_ok-push_change-in-Add t c =
     (λ above. guarded_literals N above free slots c.args.effect.now) (λ above. record { add = true; atom = atom; takes_place = both above (conditions_meaning N []); is_free = free && true } ∷ []) c.args.made.now c.push_change.new.made
     (ap (effect_atoms N slots) c.in-Add.is ∙ atoms-Add N slots predicate c.in-Add.args ∙ ap (λ args. atom_at slots predicate args ∷ []) (sym c.items.ensures))
     (λ above. ap (guarded_literals N above free slots) c.in-Add.is ∙ guarded-Add N slots above free predicate c.in-Add.args ∙ ap (λ args. record { add = true; atom = atom_at slots predicate args; takes_place = both above (conditions_meaning N []); is_free = free && true } ∷ []) (sym c.items.ensures))
-    (under-literal N c.args.statics.now c.args.guard.now true atom c.args.work.now c.push_change.new.work c.args.made.now c.push_change.new.made c.in_ok-push_change-in-Add.ensures)
+    (under-literal N c.args.statics.now c.args.guard.now true atom c.args.work.now c.push_change.new.work c.args.made.now c.push_change.new.made c.in_ok-copy-in-Add.copy c.in_ok-copy-in-Add.ensures c.in_ok-push_change-in-Add.ensures)
 
 pub push_changes-returns-in_ok-push_change-in-Del : goal.push_changes-returns-in_ok-push_change-in-Del
 push_changes-returns-in_ok-push_change-in-Del t c =
@@ -35,7 +35,7 @@ push_changes-returns-in_ok-push_change-in-Del t c =
     (λ above. guarded_literals N above free slots c.args.effect.now) (λ above. record { add = false; atom = atom; takes_place = both above (conditions_meaning N []); is_free = free && true } ∷ []) c.args.made.now c.push_change-in-Del.new.made
     (ap (effect_atoms N slots) c.in-Del.is ∙ atoms-Del N slots predicate c.in-Del.args ∙ ap (λ args. atom_at slots predicate args ∷ []) (sym c.items-in-Del.ensures))
     (λ above. ap (guarded_literals N above free slots) c.in-Del.is ∙ guarded-Del N slots above free predicate c.in-Del.args ∙ ap (λ args. record { add = false; atom = atom_at slots predicate args; takes_place = both above (conditions_meaning N []); is_free = free && true } ∷ []) (sym c.items-in-Del.ensures))
-    (under-literal N c.args.statics.now c.args.guard.now false atom c.args.work.now c.push_change-in-Del.new.work c.args.made.now c.push_change-in-Del.new.made c.in_ok-push_change-in-Del.ensures)
+    (under-literal N c.args.statics.now c.args.guard.now false atom c.args.work.now c.push_change-in-Del.new.work c.args.made.now c.push_change-in-Del.new.made c.in_ok-copy-in-Del.copy c.in_ok-copy-in-Del.ensures c.in_ok-push_change-in-Del.ensures)
 
 pub push_changes-returns-in_ok-push_all-in-All : goal.push_changes-returns-in_ok-push_all-in-All
 push_changes-returns-in_ok-push_all-in-All t c =
@@ -87,20 +87,46 @@ push_changes-returns-then-is_value t c =
     (under-never N S slots c.args.guard.now c.in_ok-narrow-in-If.narrow condition body c.in_ok-condition-in-If.condition c.args.work.now c.condition_form.new.work c.in_ok-condition-in-If.ensures c.in_ok-narrow-in-If.ensures.joined c.in_ok-narrow-in-If.ensures.free
     c.args.made.now (value-is c.in_ok-narrow-in-If.narrow.form false (sym c.is_value.ensures ∙ c.if-is_value.true)))
 
-pub push_changes-returns-in_ok-push_changes-in-If : goal.push_changes-returns-in_ok-push_changes-in-If
-push_changes-returns-in_ok-push_changes-in-If t c =
+pub push_changes-returns-in_ok-push_under-in-If : goal.push_changes-returns-in_ok-push_under-in-If
+push_changes-returns-in_ok-push_under-in-If t c =
     let N = c.args.numbers.now in
     let S = c.args.statics.now in
     let slots = c.args.slots.now in
     let free = c.args.guard.now.is_free in
     let condition = c.in-If.condition in
     let body = c.get.result.now in
-    under-by N S c.args.guard.now (effect_atoms N slots c.args.effect.now) (condition_atoms N slots condition ++ effect_atoms N slots body) c.args.work.now c.push_changes.new.work
-    (λ above. guarded_literals N above free slots c.args.effect.now) (λ above. guarded_literals N (both above (condition_meaning N slots condition)) false slots body) c.args.made.now c.push_changes.new.made
+    under-by N S c.args.guard.now (effect_atoms N slots c.args.effect.now) (condition_atoms N slots condition ++ effect_atoms N slots body) c.args.work.now c.push_under.new.work
+    (λ above. guarded_literals N above free slots c.args.effect.now) (λ above. guarded_literals N (both above (condition_meaning N slots condition)) false slots body) c.args.made.now c.push_under.new.made
     (ap (effect_atoms N slots) c.in-If.is ∙ atoms-If N slots condition c.in-If.body ∙ ap (λ body. condition_atoms N slots condition ++ effect_atoms N slots body) (sym c.get.ensures))
     (λ above. ap (guarded_literals N above free slots) c.in-If.is ∙ guarded-If N slots above free condition c.in-If.body ∙ ap (guarded_literals N (both above (condition_meaning N slots condition)) false slots) (sym c.get.ensures))
     (under-narrow N S slots c.args.guard.now c.in_ok-narrow-in-If.narrow condition body c.in_ok-condition-in-If.condition c.args.work.now c.condition_form.new.work c.in_ok-condition-in-If.ensures c.in_ok-narrow-in-If.ensures.joined c.in_ok-narrow-in-If.ensures.free
-    c.push_changes.new.work c.args.made.now c.push_changes.new.made c.in_ok-push_changes-in-If.ensures)
+    c.push_under.new.work c.args.made.now c.push_under.new.made c.in_ok-push_under-in-If.ensures)
+
+pub push_under-returns-in_ok-push_change-in-Add : goal.push_under-returns-in_ok-push_change-in-Add
+push_under-returns-in_ok-push_change-in-Add t c =
+    let N = c.args.numbers.now in
+    let slots = c.args.slots.now in
+    let free = c.args.guard.is_free in
+    let predicate = c.in-Add.predicate in
+    let atom = atom_at slots predicate c.items.result.now in
+    under-by N c.args.statics.now c.args.guard (effect_atoms N slots c.args.effect.now) (atom ∷ []) c.args.work.now c.push_change.new.work
+    (λ above. guarded_literals N above free slots c.args.effect.now) (λ above. record { add = true; atom = atom; takes_place = both above (conditions_meaning N []); is_free = free && true } ∷ []) c.args.made.now c.push_change.new.made
+    (ap (effect_atoms N slots) c.in-Add.is ∙ atoms-Add N slots predicate c.in-Add.args ∙ ap (λ args. atom_at slots predicate args ∷ []) (sym c.items.ensures))
+    (λ above. ap (guarded_literals N above free slots) c.in-Add.is ∙ guarded-Add N slots above free predicate c.in-Add.args ∙ ap (λ args. record { add = true; atom = atom_at slots predicate args; takes_place = both above (conditions_meaning N []); is_free = free && true } ∷ []) (sym c.items.ensures))
+    (under-literal N c.args.statics.now c.args.guard true atom c.args.work.now c.push_change.new.work c.args.made.now c.push_change.new.made c.args.guard.form refl c.in_ok-push_change-in-Add.ensures)
+
+pub push_under-returns-in_ok-push_change-in-Del : goal.push_under-returns-in_ok-push_change-in-Del
+push_under-returns-in_ok-push_change-in-Del t c =
+    let N = c.args.numbers.now in
+    let slots = c.args.slots.now in
+    let free = c.args.guard.is_free in
+    let predicate = c.in-Del.predicate in
+    let atom = atom_at slots predicate c.items-in-Del.result.now in
+    under-by N c.args.statics.now c.args.guard (effect_atoms N slots c.args.effect.now) (atom ∷ []) c.args.work.now c.push_change-in-Del.new.work
+    (λ above. guarded_literals N above free slots c.args.effect.now) (λ above. record { add = false; atom = atom; takes_place = both above (conditions_meaning N []); is_free = free && true } ∷ []) c.args.made.now c.push_change-in-Del.new.made
+    (ap (effect_atoms N slots) c.in-Del.is ∙ atoms-Del N slots predicate c.in-Del.args ∙ ap (λ args. atom_at slots predicate args ∷ []) (sym c.items-in-Del.ensures))
+    (λ above. ap (guarded_literals N above free slots) c.in-Del.is ∙ guarded-Del N slots above free predicate c.in-Del.args ∙ ap (λ args. record { add = false; atom = atom_at slots predicate args; takes_place = both above (conditions_meaning N []); is_free = free && true } ∷ []) (sym c.items-in-Del.ensures))
+    (under-literal N c.args.statics.now c.args.guard false atom c.args.work.now c.push_change-in-Del.new.work c.args.made.now c.push_change-in-Del.new.made c.args.guard.form refl c.in_ok-push_change-in-Del.ensures)
 
 pub push_all-loop-part-init : goal.push_all-loop-part-init
 push_all-loop-part-init t c =
