@@ -201,7 +201,7 @@ fn push_each(
 
 /// How many literals the effect has, where each body is taken once.
 #[cycle(count)]
-fn literal_count(effect: &NumberedEffect) -> usize {
+pub fn literal_count(effect: &NumberedEffect) -> usize {
     match effect {
         NumberedEffect::Add { .. } => 1,
         NumberedEffect::Del { .. } => 1,
@@ -229,6 +229,7 @@ fn made_changes(
     work: &mut Work,
     slots: &[u32],
     effect: &NumberedEffect,
+    room: usize,
 ) -> Result<Effects, NoMemory>
     ensures { IfOk result
         (MakesChanges numbers.now statics.now slots.now effect.now work.old work.new) }
@@ -237,23 +238,24 @@ fn made_changes(
         form: Form::True,
         is_free: true,
     };
-    let mut made = List::from(Vec::with_capacity(work.alloc, literal_count(effect))?);
+    let mut made = List::from(Vec::with_capacity(work.alloc, room)?);
     push_changes(numbers, statics, work, slots, &guard, effect, &mut made)?;
     Ok(made)
 }
 
 /// The changes of an effect at the objects in the slots, in the order of its literals. Those of
-/// literals that never take place may be left out.
+/// literals that never take place may be left out. Room is made for so many at first.
 pub fn changes(
     numbers: &Numbers,
     statics: &Statics,
     work: &mut Work,
     slots: &[u32],
     effect: &NumberedEffect,
+    room: usize,
 ) -> Result<Effects, NoMemory>
     ensures { IfOk result
         (MakesChanges numbers.now statics.now slots.now effect.now work.old work.new) }
 {
-    let made = made_changes(numbers, statics, work, slots, effect)?;
+    let made = made_changes(numbers, statics, work, slots, effect, room)?;
     Ok(fitted(made))
 }

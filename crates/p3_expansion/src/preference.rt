@@ -13,6 +13,27 @@ use p3_base::{List, NoMemory};
 use p3_formula::GroundPref;
 use p3_numbers::{Goal, Numbers, Preference};
 
+/// How many preferences the goal has, where each body is taken once.
+#[cycle(count)]
+pub fn preference_count(goal: &Goal) -> usize {
+    match goal {
+        Goal::Plain(_) => 0,
+        Goal::Both(parts) => preference_sum(parts.items()),
+        Goal::Each(_, body) => preference_count(body.get()),
+        Goal::Soft(_) => 1,
+    }
+}
+
+/// How many preferences the goals have together.
+#[cycle(count)]
+fn preference_sum(parts: &[Goal]) -> usize {
+    let mut sum = 0usize;
+    for part in parts {
+        sum = sum.saturating_add(preference_count(part));
+    }
+    sum
+}
+
 /// Puts the preference at the objects in the slots behind those made.
 fn push_preference(
     numbers: &Numbers,

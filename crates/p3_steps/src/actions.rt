@@ -14,7 +14,7 @@ ghost use Rattle.p3_steps.specs.Steps.{
 
 use crate::choices::candidates;
 use crate::costs::Costs;
-use crate::made::step_at;
+use crate::made::{room_of, step_at};
 use p3_base::{List, NoMemory};
 use p3_expansion::{Statics, Work, choice_count, place_choice};
 use p3_formula::GroundStep;
@@ -42,6 +42,7 @@ fn push_action_steps(
     let ranges = action.ranges.items();
     let kept = candidates(work.alloc, numbers, statics, ranges, &action.pre)?;
     let count = choice_count(numbers, ranges)?;
+    let room = room_of(action);
     let mut words = Vec::new(work.alloc);
     let mut slots = Vec::new(work.alloc);
     for choice in kept.as_slice() {
@@ -56,6 +57,7 @@ fn push_action_steps(
             action,
             first,
             *choice,
+            room,
         )?;
         made.push(step)?;
     }

@@ -1,4 +1,4 @@
-use Rattle.std.proofs.Common.{◌∙◌, refl, subst}
+use Rattle.std.proofs.Common.{rules, ◌≡◌, ◌∙◌, [], refl, subst}
 use Rattle.p3_numbers.specs.Goals.{preferences}
 use Rattle.p3_steps.specs.Costs.{cost_of}
 use Rattle.p3_expansion.specs.Preferences.{PreferencesStand, preference_atoms}
@@ -13,10 +13,11 @@ returns c =
     let S = c.args.statics.now in
     let slots = c.args.slots.now in
     let pre = c.args.action.now.pre in
+    let empty : c.from-prefs.result ≡ [] = search rules in
     makes-step c.args.task.now S c.args.costs.now.places (planned_step c.args.action.now c.args.first c.args.choice) slots c.requires.slots
     c.args.work.now c.hard_form.new.work c.push_preferences.new.work c.changes.new.work c.in_ok-pre.pre c.push_preferences.new.made c.in_ok-effects.effects _ c.in_ok-pre.ensures
     (
     subst (λ before. Pushes (PreferencesStand N S) (preference_atoms N slots pre) c.hard_form.new.work c.push_preferences.new.work (preferences N slots pre) before c.push_preferences.new.made)
-    c.new-prefs.ensures c.in_ok-push_preferences.ensures
+    empty c.in_ok-push_preferences.ensures
     )
     c.in_ok-effects.ensures refl refl refl refl (c.in_ok-cost.ensures ∙ (λ i. cost_of c.args.costs.now.places (c.requires.values i) slots c.args.action.now.effect))
