@@ -1,6 +1,6 @@
 -- The decimal places of a metric of which nothing is refused.
-use Rattle.std.proofs.Common.{◌≡◌, ◌∙◌, ◌≤◌, refl, sym, ap, subst, true, false, cond, nat_lt, List, [], ◌∷◌, Option, Some, None, arith}
-use Rattle.std.specs.Prelude.{ℕ, Bool, option_map}
+use Rattle.std.proofs.Common.{◌≡◌, ◌∙◌, ◌≤◌, refl, sym, ap, true, false, cond, nat_lt, List, [], ◌∷◌, Option, Some, None, arith}
+use Rattle.std.specs.Prelude.{Bool, option_map}
 use Rattle.std.specs.Option.{option_and_then}
 use Rattle.std.proofs.lemmas.Bool.{ltb-false}
 use Rattle.p3_base.specs.declared.refusal.Refusal.{Refusal}

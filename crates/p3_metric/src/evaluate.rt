@@ -76,33 +76,40 @@ impl<'t> Evaluator<'t> {
             (IsFailure self.now.task.now self.now.role (operations tree.now)) }
     {
         match tree {
-            Num::Number(numeral) => Ok(self.number(*numeral)),
-            Num::TotalCost(at) => Ok(self.cost(*at)),
+            Num::Number(numeral) => self.number(*numeral),
+            Num::TotalCost(at) => self.cost(*at),
             Num::Violated(name) => self.violated(name),
             Num::Neg(at, part) => self.negation(*at, part.get()),
-            Num::Sub(at, first, second) => {
-                let minuend = self.evaluate(first.get())?;
-                self.difference(*at, minuend, second.get())
-            }
+            // A `?` would keep one more form on the stack for each level.
+            Num::Sub(at, first, second) => match self.evaluate(first.get()) {
+                Ok(minuend) => self.difference(*at, minuend, second.get()),
+                Err(fail) => Err(fail),
+            },
             Num::Sum(at, parts) => self.sum(*at, parts.items()),
             Num::Product(at, parts) => self.product(*at, parts.items()),
         }
     }
 
     /// The form of a number.
-    fn number(&self, numeral: Numeral) -> Linear<'t>
+    #[inline(never)]
+    fn number(&self, numeral: Numeral) -> Result<Linear<'t>, MetricFail>
         requires { IsFit self.now.task.now (num.Number numeral) }
-        ensures { IsEvaluated self.now.task.now (num.Number numeral) result }
+        ensures form { IfOk result (IsEvaluated self.now.task.now (num.Number numeral)) }
+        ensures fails { IfErr result
+            (IsFailure self.now.task.now self.now.role (operations (num.Number numeral))) }
     {
-        constant(self.alloc, self.key, numeral.digits, numeral.places)
+        Ok(constant(self.alloc, self.key, numeral.digits, numeral.places))
     }
 
     /// The form of the total cost.
-    fn cost(&self, at: u32) -> Linear<'t>
+    #[inline(never)]
+    fn cost(&self, at: u32) -> Result<Linear<'t>, MetricFail>
         requires { IsFit self.now.task.now (num.TotalCost at) }
-        ensures { IsEvaluated self.now.task.now (num.TotalCost at) result }
+        ensures form { IfOk result (IsEvaluated self.now.task.now (num.TotalCost at)) }
+        ensures fails { IfErr result
+            (IsFailure self.now.task.now self.now.role (operations (num.TotalCost at))) }
     {
-        total_cost(self.alloc, self.key, self.cost_places)
+        Ok(total_cost(self.alloc, self.key, self.cost_places))
     }
 
     /// The form of a count.
@@ -149,7 +156,32 @@ impl<'t> Evaluator<'t> {
             → IsFailure self.now.task.now self.now.role
             (operations (num.Sub at first second.now)) fail) }
     {
-        let subtrahend = self.evaluate(second)?;
+        match self.evaluate(second) {
+            Ok(subtrahend) => self.subtracted(at, minuend, subtrahend),
+            Err(fail) => Err(fail),
+        }
+    }
+
+    /// The form of a difference, of which both parts have been evaluated.
+    #[inline(never)]
+    fn subtracted(
+        &self,
+        at: u32,
+        minuend: Linear<'t>,
+        subtrahend: Linear<'t>,
+    ) -> Result<Linear<'t>, MetricFail>
+        requires minuend { IsBounded minuend }
+        requires subtrahend { IsBounded subtrahend }
+        ensures form { IfOk result (λ form. (first second : Num)
+            → IsEvaluated self.now.task.now first minuend.entry
+            → IsEvaluated self.now.task.now second subtrahend.entry
+            → IsEvaluated self.now.task.now (num.Sub at first second) form) }
+        ensures fails { IfErr result (λ fail. (first second : Num)
+            → IsEvaluated self.now.task.now first minuend.entry
+            → IsEvaluated self.now.task.now second subtrahend.entry
+            → IsFailure self.now.task.now self.now.role
+            (operations (num.Sub at first second)) fail) }
+    {
         let measured = minus(self.alloc, minuend, subtrahend)?;
         accepted(measured, self.too_large(at))
     }

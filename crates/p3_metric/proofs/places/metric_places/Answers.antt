@@ -1,4 +1,4 @@
-use Rattle.std.proofs.Common.{◌≡◌, ◌∙◌, ◌≤◌, ap, sym, arith}
+use Rattle.std.proofs.Common.{◌≡◌, ◌∙◌, ◌≤◌, ap, arith}
 use Rattle.p3_tree.specs.Metrics.{metric_places}
 use Rattle.p3_metric.specs.Cut.{cut}
 use Rattle.p3_metric.proofs.PlacesLaws.{few_places}

@@ -1,6 +1,6 @@
-use Rattle.std.proofs.Common.{rules, ◌≡◌, ◌∙◌, ◌+◌, ◌++◌, ◌∷◌, [], List, refl, ap, sym, subst, take, drop, suc}
+use Rattle.std.proofs.Common.{rules, ◌≡◌, ◌∙◌, ◌+◌, ◌++◌, ◌∷◌, [], List, ap, sym, subst, take, drop, suc}
 use Rattle.std.proofs.lemmas.List.{take_all, take_more}
-use Rattle.std.proofs.lemmas.Result.{err_from_is_err_and}
+use Rattle.std.proofs.lemmas.Result.{err_from_is_err_and, IfOk-weaker}
 use Rattle.p3_tree.specs.Refusals.Metric.{operations}
 use Rattle.p3_tree.specs.declared.metric.Num.{Num}
 use Rattle.p3_tree.specs.declared.metric.Num.TheVariants as num
@@ -10,8 +10,8 @@ use Rattle.p3_metric.specs.declared.error.MetricFail.{MetricFail}
 use Rattle.p3_metric.specs.declared.error.MetricFail.TheVariants.{Refused}
 use Rattle.p3_metric.specs.declared.linear.Linear.{Linear}
 use Rattle.p3_metric.proofs.FitLemmas.{fit_negated, fit_first, fit_second, fit_term, fit_factor}
-use Rattle.p3_metric.proofs.WordLaws.{refused-Neg, refused-Sub, refused-Sum, refused-Product}
-use Rattle.p3_metric.proofs.StepLemmas.{accepted_form, accepted_fails, split_at, negation_evaluated, negation_fails, negation_part_fails, difference_evaluated, difference_fails, first_fails, second_fails, sum_begun, sum_ended, term_fails, sum_step, sum_fails, product_begun, product_ended, factor_fails, factors_fit, mentions_apart, product_step, product_fails}
+use Rattle.p3_metric.proofs.WordLaws.{refused-Neg, refused-Sum, refused-Product}
+use Rattle.p3_metric.proofs.StepLemmas.{accepted_form, accepted_fails, split_at, negation_evaluated, negation_fails, negation_part_fails, first_fails, second_fails, sum_begun, sum_ended, term_fails, sum_step, sum_fails, product_begun, product_ended, factor_fails, factors_fit, mentions_apart, product_step, product_fails}
 use Rattle.p3_metric.proofs.evaluate.Evaluator.+evaluate.Goals as goal
 
 -- ---- negations
@@ -42,28 +42,11 @@ negation-returns-clause-fails t c =
 pub difference-evaluate-requires : goal.difference-evaluate-requires
 difference-evaluate-requires t c = (search (rules, the_lemmas), c.requires.fit)
 
-pub difference-returns-in_err-subtrahend-clause-fails : goal.difference-returns-in_err-subtrahend-clause-fails
-difference-returns-in_err-subtrahend-clause-fails t c =
-    let p = err_from_is_err_and c.from_residual.result c.from_residual.ensures.1 in
-    rw (p.1, p.2) (λ first is. second_fails c.args.self.now.task.now c.args.at first c.args.second.now c.args.self.now.role c.in_err-subtrahend.field-0.0 is.fine c.in_err-subtrahend.ensures.fails)
-
-pub difference-returns-clause-form : goal.difference-returns-clause-form
-difference-returns-clause-form t c =
-    let m = c.in_ok-measured.measured in
-    let T = c.args.self.now.task.now in
-    accepted_form c.accepted.result (λ form. (first : Num) → IsEvaluated T first c.args.minuend → IsEvaluated T (num.Sub c.args.at first c.args.second.now) form) m.form m.small c.accepted.ensures.form c.accepted.ensures.small
-    (λ e first is. difference_evaluated T c.args.at first c.args.second.now c.args.minuend c.in_ok-subtrahend.subtrahend m.form is c.in_ok-subtrahend.ensures.form c.in_ok-measured.ensures.difference (c.in_ok-measured.ensures.small e))
-
 pub difference-returns-clause-fails : goal.difference-returns-clause-fails
-difference-returns-clause-fails t c =
-    let m = c.in_ok-measured.measured in
-    let T = c.args.self.now.task.now in
-    let role = c.args.self.now.role in
-    let second = c.args.second.now in
-    let fails : MetricFail → Num → Type 0 = λ fail first. IsFailure T role (operations (num.Sub c.args.at first second)) fail in
-    accepted_fails c.accepted.result (λ fail. (first : Num) → IsEvaluated T first c.args.minuend → fails fail first) c.too_large.result c.too_large.result m.small c.accepted.ensures.refusal c.accepted.ensures.large refl
-    (λ e first is. subst (λ refusal. fails (Refused refusal) first) (sym (c.too_large.ensures ∙ sym (refused-Sub role c.args.at first second)))
-    (difference_fails T c.args.at first second c.args.minuend c.in_ok-subtrahend.subtrahend m.form is c.in_ok-subtrahend.ensures.form c.in_ok-measured.ensures.difference role (c.in_ok-measured.ensures.large e)))
+difference-returns-clause-fails t c = λ first is. second_fails c.args.self.now.task.now c.args.at first c.args.second.now c.args.self.now.role c.in-Err.fail is.fine c.in-Err.ensures.fails
+
+pub difference-returns-in-Ok-clause-form : goal.difference-returns-in-Ok-clause-form
+difference-returns-in-Ok-clause-form t c = IfOk-weaker c.subtracted.result _ _ (λ form more first is. more first c.args.second.now is c.in-Ok.ensures.form) c.subtracted.ensures.form
 
 pub evaluate-evaluate-requires : goal.evaluate-evaluate-requires
 evaluate-evaluate-requires t c =
@@ -73,17 +56,15 @@ evaluate-evaluate-requires t c =
 pub evaluate-difference-requires : goal.evaluate-difference-requires
 evaluate-difference-requires t c =
     let P : Num → Type 0 = IsFit c.args.self.now.task.now in
-    let fit : P c.get-in-Sub-2.result.now = subst P (sym c.get-in-Sub-2.ensures) (fit_second c.args.self.now.task.now c.in-Sub.at c.in-Sub.first c.in-Sub.second (subst P c.in-Sub.is c.requires)) in
-    (search (rules, the_lemmas), (c.in_ok-minuend-in-Sub.ensures.form.bounded, fit))
+    let fit : P c.get-in-Ok.result.now = subst P (sym c.get-in-Ok.ensures) (fit_second c.args.self.now.task.now c.in-Sub.at c.in-Sub.first c.in-Sub.second (subst P c.in-Sub.is c.requires)) in
+    (search (rules, the_lemmas), (c.in-Ok.ensures.form.bounded, fit))
 
-pub evaluate-returns-in_err-minuend-in-Sub-clause-fails : goal.evaluate-returns-in_err-minuend-in-Sub-clause-fails
-evaluate-returns-in_err-minuend-in-Sub-clause-fails t c =
-    let p = err_from_is_err_and c.from_residual.result c.from_residual.ensures.1 in
+pub evaluate-returns-in-Err-clause-fails : goal.evaluate-returns-in-Err-clause-fails
+evaluate-returns-in-Err-clause-fails t c =
     let first = c.get-in-Sub.result.now in
     let whole : c.args.tree.now ≡ num.Sub c.in-Sub.at first c.in-Sub.second = c.in-Sub.is ∙ ap (λ tree. num.Sub c.in-Sub.at tree c.in-Sub.second) (sym c.get-in-Sub.ensures) in
-    let fail = c.in_err-minuend-in-Sub.field-0.0 in
-    let P : Num → Type 0 = λ tree. IsFailure c.args.self.now.task.now c.args.self.now.role (operations tree) fail in
-    rw (p.1, p.2) (subst P (sym whole) (first_fails c.args.self.now.task.now c.in-Sub.at first c.in-Sub.second c.args.self.now.role fail c.in_err-minuend-in-Sub.ensures.fails))
+    let P : Num → Type 0 = λ tree. IsFailure c.args.self.now.task.now c.args.self.now.role (operations tree) c.in-Err.fail in
+    subst P (sym whole) (first_fails c.args.self.now.task.now c.in-Sub.at first c.in-Sub.second c.args.self.now.role c.in-Err.fail c.in-Err.ensures.fails)
 
 -- ---- sums
 
