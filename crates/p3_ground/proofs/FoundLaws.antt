@@ -24,7 +24,7 @@ is_set-within [] n has = absurd (cc)
 is_set-within (bit ∷ held) zero has = omega arith
 is_set-within (bit ∷ held) (suc n) has = let rest = is_set-within held n has in omega (arith, rest)
 
-set_grows : (held : State) (n : ℕ) → IsWithin held (set held n true)
+pub set_grows : (held : State) (n : ℕ) → IsWithin held (set held n true)
 set_grows [] n other h = h
 set_grows (bit ∷ held) zero zero h = refl
 set_grows (bit ∷ held) zero (suc other) h = h

@@ -3,6 +3,7 @@ pub mod ExpandedLaws
 pub mod Extras
 pub mod FoundLaws
 pub mod GroundingLaws
+pub mod GrownLaws
 pub mod InitialLemmas
 pub mod KnownNames
 pub mod LeadLaws

@@ -102,7 +102,7 @@ or-not : (a b c d : Bool) → (a ≡ false → c ≡ true) → (b ≡ false → 
 or-not false b c d f g h = ap (λ x. x && d) (f refl) ∙ g h
 or-not true b c d f g h = absurd (cc)
 
-has-of : (asked has : Bool) → (not asked || has) ≡ true → asked ≡ true → has ≡ true
+pub has-of : (asked has : Bool) → (not asked || has) ≡ true → asked ≡ true → has ≡ true
 has-of true has kept h = kept
 has-of false has kept h = absurd (cc)
 

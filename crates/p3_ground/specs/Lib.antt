@@ -2,6 +2,7 @@ pub mod Closed
 pub mod Expanded
 pub mod Found
 pub mod Grounding
+pub mod Grown
 pub mod May
 pub mod Models
 pub mod Planned

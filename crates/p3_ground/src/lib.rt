@@ -11,6 +11,7 @@ mod leading;
 mod may;
 mod model;
 mod parts;
+mod passes;
 mod planned;
 mod reach;
 mod rest;

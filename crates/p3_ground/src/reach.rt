@@ -10,6 +10,7 @@ ghost use Rattle.p3_ground.specs.Models.{Says};
 use crate::leading::lead_step;
 use crate::may::may_hold;
 use crate::model::least_model;
+use crate::passes::closed_by_passes;
 use crate::rules::Theory;
 use p3_base::{List, NoMemory};
 use p3_formula::{Bits, GroundStep, GroundTask};
@@ -69,8 +70,8 @@ fn first_bits(alloc: Global, bits: &Bits, count: usize) -> Result<Bits, NoMemory
     Ok(first)
 }
 
-/// The least closed set of atoms.
-fn closed(alloc: Global, task: &GroundTask) -> Result<Bits, NoMemory>
+/// The least closed set of atoms, by rules.
+fn closed_by_rules(alloc: Global, task: &GroundTask) -> Result<Bits, NoMemory>
     requires atoms { HasAtomsBelow task.now }
     requires bits { length task.now.initial ≡ task.now.atoms }
     ensures closed { IfOk result (IsClosed task.now) }
@@ -79,6 +80,19 @@ fn closed(alloc: Global, task: &GroundTask) -> Result<Bits, NoMemory>
     let mut theory = theory_of_atoms(alloc, &task.initial)?;
     lead_steps(&mut theory, task.steps.items(), task.atoms)?;
     first_bits(alloc, &least_model(alloc, &theory)?, task.atoms)
+}
+
+/// The least closed set of atoms. Most tasks have it after a few passes over their steps.
+fn closed(alloc: Global, task: &GroundTask) -> Result<Bits, NoMemory>
+    requires atoms { HasAtomsBelow task.now }
+    requires bits { length task.now.initial ≡ task.now.atoms }
+    ensures closed { IfOk result (IsClosed task.now) }
+    ensures least { IfOk result (IsInEachClosed task.now) }
+{
+    match closed_by_passes(alloc, task, 8)? {
+        Some(atoms) => Ok(atoms),
+        None => closed_by_rules(alloc, task),
+    }
 }
 
 /// Whether each step may fit.

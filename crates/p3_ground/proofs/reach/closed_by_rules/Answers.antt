@@ -5,7 +5,7 @@ use Rattle.p3_formula.specs.Forms.{is_set}
 use Rattle.p3_ground.specs.Closed.{IsClosed, IsWithin, step_keeps}
 use Rattle.p3_ground.specs.Models.{Says}
 use Rattle.p3_ground.proofs.ReachLaws.{closed_front, least_front}
-use Rattle.p3_ground.proofs.reach.closed.Goals as goal
+use Rattle.p3_ground.proofs.reach.closed_by_rules.Goals as goal
 
 pub returns-clause-closed : goal.returns-clause-closed
 returns-clause-closed c =
