@@ -12,7 +12,7 @@ ghost use Rattle.p3_outline.specs.Builds.{the_built, only_if, is_done, opened, c
 ghost use Rattle.p3_outline.specs.Nodes.{expressions_in};
 ghost use Rattle.p3_outline.specs.Numbers.{number_refusal};
 
-use crate::numbers::or_long_number;
+use crate::numbers::note_long_number;
 use crate::view::Node;
 use p3_base::{NoMemory, Refusal, Role};
 use p3_lexer::{Lexer, Next, is_close, is_open};
@@ -147,7 +147,7 @@ pub(crate) fn build(
                 if !building.add(limit, offset, word)? {
                     return Ok(None);
                 }
-                number = or_long_number(number, role, offset, word);
+                note_long_number(&mut number, role, offset, word);
                 faults.pass(role, offset, word)?;
             }
             Next::End => {

@@ -6,8 +6,10 @@ ghost use Rattle.std.specs.List.{list_all, prefix_len};
 ghost use Rattle.std.specs.Option.{option_or};
 ghost use Rattle.std.specs.Str.{str_to_ascii_lowercase};
 ghost use Rattle.p3_base.specs.Words.{is_digit};
+ghost use Rattle.p3_base.specs.declared.refusal.Code.TheVariants.{NumberTooLong};
 ghost use Rattle.p3_base.specs.declared.refusal.Side.TheVariants.{Written};
 ghost use Rattle.p3_tree.specs.Decimals.{are_digits, at_point, is_decimal};
+ghost use Rattle.p3_tree.specs.Refusals.Places.{refusal_at};
 ghost use Rattle.p3_tree.specs.Refusals.Texts.{is_too_long, long_number};
 ghost use Rattle.p3_tree.specs.Sides.{digit_limit, place_limit, byte_limit};
 ghost use Rattle.p3_lexer.specs.Lexing.{token_of};
@@ -174,34 +176,25 @@ fn has_too_many_digits(role: Role, word: &[u8]) -> bool
         && (digit_count(parts) > digit_limit(role) || has_places_above(place_limit(role), parts))
 }
 
-/// The refusal of a token that is a number too long.
-fn long_number(role: Role, offset: u32, text: &[u8]) -> Option<Refusal>
+/// The refusal of a token that is too long a number.
+fn number_at(role: Role, offset: u32, text: &[u8]) -> Refusal
     requires short { length text.now ≤ byte_limit Written }
-    ensures { result ≡ long_number (side_of role) role (token_of offset text.now) }
+    ensures { result ≡ refusal_at NumberTooLong role offset (length text.now) }
 {
-    if !is_open(text) && !is_close(text) && is_too_long(role, text) {
-        Some(Refusal {
-            code: Code::NumberTooLong,
-            pos: Pos { role, offset },
-            len: text.len() as u32,
-        })
-    } else {
-        None
+    Refusal {
+        code: Code::NumberTooLong,
+        pos: Pos { role, offset },
+        len: text.len() as u32,
     }
 }
 
-/// A number too long that was found, or else that of one token more.
-pub(crate) fn or_long_number(
-    found: Option<Refusal>,
-    role: Role,
-    offset: u32,
-    text: &[u8],
-) -> Option<Refusal>
+/// Notes a token that is a number too long, where none was noted before.
+pub(crate) fn note_long_number(noted: &mut Option<Refusal>, role: Role, offset: u32, text: &[u8])
     requires short { length text.now ≤ byte_limit Written }
-    ensures { result ≡ option_or found (long_number (side_of role) role (token_of offset text.now)) }
+    ensures { noted.new
+        ≡ option_or noted.old (long_number (side_of role) role (token_of offset text.now)) }
 {
-    match found {
-        Some(refusal) => Some(refusal),
-        None => long_number(role, offset, text),
+    if noted.is_none() && is_too_long(role, text) && !is_open(text) && !is_close(text) {
+        *noted = Some(number_at(role, offset, text));
     }
 }

@@ -1,7 +1,9 @@
 -- The innermost of the lists that are open stands last in the code.
-use Rattle.std.proofs.Common.{◌≡◌, ◌∙◌, sym, ap, subst, ℕ, ◌+◌, List, [], ◌∷◌, ◌++◌, length, reverse, set, get_or, arith}
+use Rattle.std.proofs.Common.{◌≡◌, ◌∙◌, refl, sym, ap, subst, ℕ, ◌+◌, Bool, true, false, List, [], ◌∷◌, ◌++◌, length, reverse, set, get_or, Some, arith}
 use Rattle.std.proofs.lemmas.List.{length-append, reverse-append, reverse-reverse, set_at}
 use Rattle.std.proofs.Math.Seq.{get_or-append_seam}
+use Rattle.p3_tree.specs.Grammar.Words.{◌>>=◌}
+use Rattle.p3_places.specs.Walks.{only_if}
 use Rattle.p3_places.specs.declared.state.State.{State}
 
 -- what stands at the last place, and the lists around
@@ -27,3 +29,8 @@ innermost_by (state ∷ outer) place default last =
 pub innermost : (items : List State) (place : ℕ) (default : State) → place + 1 ≡ length items → Innermost items place default
 innermost items place default last =
     subst (λ l. Innermost l place default) (reverse-reverse items) (innermost_by (reverse items) place default (last ∙ ap length (sym (reverse-reverse items))))
+
+-- what the innermost list comes to, if anything, is what all of them come to
+pub only_on_top : (goes : Bool) (state : State) (outer : List State) → only_if goes (state ∷ outer) ≡ (only_if goes state >>= λ next. Some (next ∷ outer))
+only_on_top true state outer = refl
+only_on_top false state outer = refl

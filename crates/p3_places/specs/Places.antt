@@ -16,6 +16,7 @@ use Rattle.p3_places.specs.declared.state.Slot.{Slot}
 use Rattle.p3_places.specs.declared.state.Slot.TheVariants as slot
 use Rattle.p3_places.specs.declared.state.Items.{Items}
 use Rattle.p3_places.specs.declared.state.Items.TheVariants as items
+use Rattle.p3_places.specs.declared.state.Progress.{Progress}
 use Rattle.p3_places.specs.declared.state.Progress.TheVariants as progress
 use Rattle.p3_places.specs.declared.state.Rest.{Rest}
 use Rattle.p3_places.specs.declared.state.Rest.TheVariants as rest
@@ -88,6 +89,12 @@ next_slot (rest.Named p) = Some (slot.List p)
 next_slot (rest.Typed i progress.Start) = Some (item_slot i)
 next_slot (rest.Typed i progress.Waiting) = Some (item_slot i)
 next_slot (rest.Typed i progress.Type) = Some (type_slot i)
+
+-- how far items with types have come behind an item or a type
+abbrev pub behind_item : Progress → Progress
+behind_item progress.Start = progress.Waiting
+behind_item progress.Waiting = progress.Waiting
+behind_item progress.Type = progress.Start
 
 -- what is to come behind it
 abbrev pub behind : Rest → Rest

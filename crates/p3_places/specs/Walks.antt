@@ -21,9 +21,9 @@ use Rattle.p3_places.specs.declared.walk.Walk.{Walk}
 abbrev pub the_stack : Walk → List State
 the_stack walk = reverse walk.open.items
 
--- the open lists behind a token that may stand there
-abbrev pub only_if : Bool → List State → Option (List State)
-only_if goes stack = if goes then Some stack else None
+-- what is reached, where it may be
+abbrev pub only_if : {A : Type 0} → Bool → A → Option A
+only_if goes reached = if goes then Some reached else None
 
 -- what the bytes of a token are
 abbrev pub mark_in : List ℕ → Mark

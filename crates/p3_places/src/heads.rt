@@ -1,10 +1,11 @@
 //! The first word of a list.
 
-ghost use Rattle.std.specs.Prelude.{◌≡◌};
+ghost use Rattle.std.specs.Prelude.{◌≡◌, if◌then◌else◌, Some, None};
 ghost use Rattle.std.specs.Str.{str_to_ascii_lowercase};
 ghost use Rattle.p3_places.specs.Places.{terms, names, quantified, one_of, two_of, many_of, rest_if, formula_head, goal_head, modal_head, inner_head, constraint_head, num_slot, num_head, init_head, amount_slot, increase_rest, effect_head, in_list, head_word};
+ghost use Rattle.p3_places.specs.Walks.{only_if};
 
-use crate::rests::rest_word;
+use crate::rests::pass_word;
 use crate::state::{Class, Items, Place, Progress, Rest, Slot, State};
 use crate::word::{is, is_function_word, is_predicate_word};
 
@@ -211,68 +212,64 @@ fn variables() -> Rest
     Rest::Typed(Items::Variables, Progress::Start)
 }
 
-pub(crate) fn in_list(rest: Option<Rest>) -> Option<State>
-    ensures { result ≡ in_list rest }
+/// Puts a state in the place of another, where the test passes.
+fn put_if(test: bool, state: &mut State, next: State) -> bool
+    ensures { only_if result state.new ≡ (if test then Some next else None) }
 {
-    Some(State::Rest(rest?))
+    *state = next;
+    test
 }
 
-pub(crate) fn head_word(place: Place, word: &[u8]) -> Option<State>
-    ensures { result ≡ head_word place (str_to_ascii_lowercase word.now) }
+/// Begins a list with what is to come in it, where that is known.
+fn begin_with(state: &mut State, rest: Option<Rest>) -> bool
+    ensures { only_if result state.new ≡ in_list rest }
 {
+    match rest {
+        Some(rest) => {
+            *state = State::Rest(rest);
+            true
+        }
+        None => false,
+    }
+}
+
+/// Begins a list of variables.
+fn begin_variables(state: &mut State, word: &[u8]) -> bool
+    ensures { only_if result state.new
+        ≡ head_word Place.Variables (str_to_ascii_lowercase word.now) }
+{
+    let mut rest = variables();
+    let goes = pass_word(&mut rest, word);
+    *state = State::Rest(rest);
+    goes
+}
+
+/// Begins the list at a place with a word, where it may come first.
+pub(crate) fn begin(state: &mut State, place: Place, word: &[u8]) -> bool
+    ensures { only_if result state.new ≡ head_word place (str_to_ascii_lowercase word.now) }
+{
+    let one_name = Rest::One(Slot::Word(Class::Name));
+    let some_names = Rest::Some(Slot::Word(Class::Name));
     match place {
-        Place::Domain => {
-            if is(word, b"define") {
-                Some(State::DomainDefined)
-            } else {
-                None
-            }
-        }
-        Place::DomainTitle => {
-            if is(word, b"domain") {
-                Some(State::Rest(Rest::One(Slot::Word(Class::Name))))
-            } else {
-                None
-            }
-        }
-        Place::Problem => {
-            if is(word, b"define") {
-                Some(State::Defined)
-            } else {
-                None
-            }
-        }
-        Place::ProblemTitle => {
-            if is(word, b"problem") {
-                Some(State::Rest(Rest::One(Slot::Word(Class::Name))))
-            } else {
-                None
-            }
-        }
-        Place::Variables => in_list(rest_word(
-            Rest::Typed(Items::Variables, Progress::Start),
-            word,
-        )),
-        Place::Either => {
-            if is(word, b"either") {
-                Some(State::Rest(Rest::Some(Slot::Word(Class::Name))))
-            } else {
-                None
-            }
-        }
-        Place::Formula => in_list(formula_head(word)),
-        Place::PreGoal | Place::PreGoalOrEmpty => in_list(goal_head(word)),
-        Place::Constraint | Place::ConstraintOrEmpty => in_list(constraint_head(word)),
-        Place::Inner => in_list(inner_head(word)),
-        Place::Num => in_list(num_head(word)),
-        Place::Init => in_list(init_head(word)),
-        Place::InitAtom => in_list(rest_if(is_predicate_word(word), names())),
-        Place::InitFunction => in_list(rest_if(is_function_word(word), names())),
-        Place::Atom => in_list(rest_if(is_predicate_word(word), terms())),
-        Place::Effect(free) => in_list(effect_head(free, word)),
-        Place::EffectOrEmpty => in_list(effect_head(true, word)),
-        Place::TotalCost => in_list(rest_if(is(word, b"total-cost"), Rest::Nothing)),
-        Place::PredicateHeader => in_list(rest_if(is_predicate_word(word), variables())),
-        Place::FunctionHeader => in_list(rest_if(is_function_word(word), variables())),
+        Place::Domain => put_if(is(word, b"define"), state, State::DomainDefined),
+        Place::Problem => put_if(is(word, b"define"), state, State::Defined),
+        Place::DomainTitle => begin_with(state, rest_if(is(word, b"domain"), one_name)),
+        Place::ProblemTitle => begin_with(state, rest_if(is(word, b"problem"), one_name)),
+        Place::Variables => begin_variables(state, word),
+        Place::Either => begin_with(state, rest_if(is(word, b"either"), some_names)),
+        Place::Formula => begin_with(state, formula_head(word)),
+        Place::PreGoal | Place::PreGoalOrEmpty => begin_with(state, goal_head(word)),
+        Place::Constraint | Place::ConstraintOrEmpty => begin_with(state, constraint_head(word)),
+        Place::Inner => begin_with(state, inner_head(word)),
+        Place::Num => begin_with(state, num_head(word)),
+        Place::Init => begin_with(state, init_head(word)),
+        Place::InitAtom => begin_with(state, rest_if(is_predicate_word(word), names())),
+        Place::InitFunction => begin_with(state, rest_if(is_function_word(word), names())),
+        Place::Atom => begin_with(state, rest_if(is_predicate_word(word), terms())),
+        Place::Effect(free) => begin_with(state, effect_head(free, word)),
+        Place::EffectOrEmpty => begin_with(state, effect_head(true, word)),
+        Place::TotalCost => begin_with(state, rest_if(is(word, b"total-cost"), Rest::Nothing)),
+        Place::PredicateHeader => begin_with(state, rest_if(is_predicate_word(word), variables())),
+        Place::FunctionHeader => begin_with(state, rest_if(is_function_word(word), variables())),
     }
 }

@@ -2,26 +2,27 @@
 
 ghost use Rattle.std.specs.Prelude.{◌≡◌};
 ghost use Rattle.std.specs.Str.{str_to_ascii_lowercase};
-ghost use Rattle.p3_places.specs.Places.{takes_word, takes, list_of, item_slot, type_slot, next_slot, behind, may_end, ordinary, rest_word, rest_list};
+ghost use Rattle.p3_places.specs.Places.{takes_word, takes, list_of, item_slot, type_slot, next_slot, behind, behind_item, may_end, ordinary, rest_word, rest_list};
+ghost use Rattle.p3_places.specs.Walks.{only_if};
 
 use crate::state::{Class, Items, Place, Progress, Rest, Slot};
 use crate::word::{is, is_name_word, is_word_of};
 
-fn takes_word(slot: Slot, word: &[u8]) -> bool
-    ensures { result ≡ takes_word slot (str_to_ascii_lowercase word.now) }
+fn takes_word(slot: &Slot, word: &[u8]) -> bool
+    ensures { result ≡ takes_word slot.now (str_to_ascii_lowercase word.now) }
 {
     match slot {
-        Slot::Word(class) | Slot::Either(class, _) => is_word_of(class, word),
+        Slot::Word(class) | Slot::Either(class, _) => is_word_of(*class, word),
         Slot::List(_) => false,
     }
 }
 
-fn list_of(slot: Slot) -> Option<Place>
-    ensures { result ≡ list_of slot }
+fn list_of(slot: &Slot) -> Option<Place>
+    ensures { result ≡ list_of slot.now }
 {
     match slot {
         Slot::Word(_) => None,
-        Slot::List(place) | Slot::Either(_, place) => Some(place),
+        Slot::List(place) | Slot::Either(_, place) => Some(*place),
     }
 }
 
@@ -45,42 +46,32 @@ fn type_slot(items: Items) -> Slot
     }
 }
 
-/// The element that comes next.
-fn next_slot(rest: Rest) -> Option<Slot>
-    ensures { result ≡ next_slot rest }
+/// Passes the element that comes next.
+pub(crate) fn pass_one(rest: &mut Rest)
+    ensures { rest.new ≡ behind rest.old }
 {
     match rest {
-        Rest::Nothing => None,
-        Rest::One(slot)
-        | Rest::Two(slot, _)
-        | Rest::Many(slot)
-        | Rest::Some(slot)
-        | Rest::OneOrTwo(slot)
-        | Rest::Maybe(slot) => Some(slot),
-        Rest::Named(place) => Some(Slot::List(place)),
-        Rest::Typed(items, Progress::Start | Progress::Waiting) => Some(item_slot(items)),
-        Rest::Typed(items, Progress::Type) => Some(type_slot(items)),
+        Rest::Nothing | Rest::Many(_) => {}
+        Rest::One(_) | Rest::Maybe(_) | Rest::Named(_) => *rest = Rest::Nothing,
+        Rest::Two(_, later) => *rest = Rest::One(*later),
+        Rest::Some(slot) => *rest = Rest::Many(*slot),
+        Rest::OneOrTwo(slot) => *rest = Rest::Maybe(*slot),
+        Rest::Typed(_, progress) => *progress = behind_item(*progress),
     }
 }
 
-/// What is to come behind it.
-pub(crate) fn behind(rest: Rest) -> Rest
-    ensures { result ≡ behind rest }
+/// How far items with types have come behind an item or a type.
+fn behind_item(progress: Progress) -> Progress
+    ensures { result ≡ behind_item progress }
 {
-    match rest {
-        Rest::Nothing | Rest::One(_) | Rest::Maybe(_) | Rest::Named(_) => Rest::Nothing,
-        Rest::Two(_, later) => Rest::One(later),
-        Rest::Many(slot) | Rest::Some(slot) => Rest::Many(slot),
-        Rest::OneOrTwo(slot) => Rest::Maybe(slot),
-        Rest::Typed(items, Progress::Start | Progress::Waiting) => {
-            Rest::Typed(items, Progress::Waiting)
-        }
-        Rest::Typed(items, Progress::Type) => Rest::Typed(items, Progress::Start),
+    match progress {
+        Progress::Start | Progress::Waiting => Progress::Waiting,
+        Progress::Type => Progress::Start,
     }
 }
 
-pub(crate) fn may_end(rest: Rest) -> bool
-    ensures { result ≡ may_end rest }
+pub(crate) fn may_end(rest: &Rest) -> bool
+    ensures { result ≡ may_end rest.now }
 {
     match rest {
         Rest::Nothing | Rest::Many(_) | Rest::Maybe(_) => true,
@@ -92,58 +83,68 @@ pub(crate) fn may_end(rest: Rest) -> bool
     }
 }
 
-fn takes(slot: Option<Slot>, word: &[u8]) -> bool
-    ensures { result ≡ takes slot (str_to_ascii_lowercase word.now) }
+/// Whether the word may come next.
+fn takes(rest: &Rest, word: &[u8]) -> bool
+    ensures { result ≡ takes (next_slot rest.now) (str_to_ascii_lowercase word.now) }
 {
-    match slot {
-        None => false,
-        Some(slot) => takes_word(slot, word),
+    match rest {
+        Rest::Nothing | Rest::Named(_) => false,
+        Rest::One(slot)
+        | Rest::Two(slot, _)
+        | Rest::Many(slot)
+        | Rest::Some(slot)
+        | Rest::OneOrTwo(slot)
+        | Rest::Maybe(slot) => takes_word(slot, word),
+        Rest::Typed(items, Progress::Start | Progress::Waiting) => {
+            takes_word(&item_slot(*items), word)
+        }
+        Rest::Typed(items, Progress::Type) => takes_word(&type_slot(*items), word),
     }
 }
 
-fn ordinary(rest: Rest, word: &[u8]) -> Option<Rest>
-    ensures { result ≡ ordinary rest (str_to_ascii_lowercase word.now) }
+fn pass_ordinary(rest: &mut Rest, word: &[u8]) -> bool
+    ensures { only_if result rest.new ≡ ordinary rest.old (str_to_ascii_lowercase word.now) }
 {
-    if takes(next_slot(rest), word) {
-        Some(behind(rest))
+    if takes(rest, word) {
+        pass_one(rest);
+        true
     } else {
-        None
+        false
     }
 }
 
-/// What is to come behind a word.
-pub(crate) fn rest_word(rest: Rest, word: &[u8]) -> Option<Rest>
-    ensures { result ≡ rest_word rest (str_to_ascii_lowercase word.now) }
+/// Passes a word, where it may come next.
+pub(crate) fn pass_word(rest: &mut Rest, word: &[u8]) -> bool
+    ensures { only_if result rest.new ≡ rest_word rest.old (str_to_ascii_lowercase word.now) }
 {
     match rest {
         Rest::Named(place) => {
-            if is_name_word(word) {
-                Some(Rest::One(Slot::List(place)))
-            } else {
-                None
-            }
+            let place = *place;
+            *rest = Rest::One(Slot::List(place));
+            is_name_word(word)
         }
-        Rest::Typed(items, Progress::Waiting) => {
-            if is(word, b"-") {
-                Some(Rest::Typed(items, Progress::Type))
-            } else {
-                ordinary(rest, word)
-            }
+        Rest::Typed(items, Progress::Waiting) if is(word, b"-") => {
+            *rest = Rest::Typed(*items, Progress::Type);
+            true
         }
-        Rest::Typed(_, Progress::Start | Progress::Type)
-        | Rest::Nothing
-        | Rest::One(_)
-        | Rest::Two(_, _)
-        | Rest::Many(_)
-        | Rest::Some(_)
-        | Rest::OneOrTwo(_)
-        | Rest::Maybe(_) => ordinary(rest, word),
+        _ => pass_ordinary(rest, word),
     }
 }
 
 /// The place of a list that may come next.
-pub(crate) fn rest_list(rest: Rest) -> Option<Place>
-    ensures { result ≡ rest_list rest }
+pub(crate) fn rest_list(rest: &Rest) -> Option<Place>
+    ensures { result ≡ rest_list rest.now }
 {
-    list_of(next_slot(rest)?)
+    match rest {
+        Rest::Nothing => None,
+        Rest::Named(place) => Some(*place),
+        Rest::One(slot)
+        | Rest::Two(slot, _)
+        | Rest::Many(slot)
+        | Rest::Some(slot)
+        | Rest::OneOrTwo(slot)
+        | Rest::Maybe(slot) => list_of(slot),
+        Rest::Typed(items, Progress::Start | Progress::Waiting) => list_of(&item_slot(*items)),
+        Rest::Typed(items, Progress::Type) => list_of(&type_slot(*items)),
+    }
 }

@@ -2,32 +2,16 @@
 
 ghost use Rattle.std.specs.Prelude.{◌≡◌};
 ghost use Rattle.std.specs.Str.{str_to_ascii_lowercase};
-ghost use Rattle.p3_places.specs.Places.{head_of, in_section, in_domain_section, with_domain_list, no_part, action_name, on_word, on_open, is_final, with_list, after, may_be_empty, part_once, part_word};
+ghost use Rattle.p3_places.specs.Places.{with_domain_list, no_part, action_name, on_word, on_open, is_final, with_list, after, may_be_empty, part_once, part_word};
+ghost use Rattle.p3_places.specs.Walks.{only_if};
 
 use crate::domain_sections::{domain_word, no_domain_section, with_domain_section};
-use crate::heads::{head_word, in_list};
-use crate::rests::{behind, may_end, rest_list, rest_word};
+use crate::heads::begin;
+use crate::rests;
+use crate::rests::{may_end, pass_one, rest_list};
 use crate::sections::{has_all, has_needed, no_section, section_word, with_section};
-use crate::state::{DomainKeyword, DomainSeen, Keyword, PartsSeen, Place, Rest, Seen, State};
+use crate::state::{DomainSeen, PartsSeen, Place, Seen, State};
 use crate::word::{is, is_name_word};
-
-fn in_section(keyword: Keyword, rest: Option<Rest>) -> Option<State>
-    ensures { result ≡ in_section keyword rest }
-{
-    Some(State::Section(keyword, rest?))
-}
-
-fn in_domain_section(keyword: DomainKeyword, rest: Option<Rest>) -> Option<State>
-    ensures { result ≡ in_domain_section keyword rest }
-{
-    Some(State::DomainSection(keyword, rest?))
-}
-
-fn head_of(place: Option<Place>) -> Option<State>
-    ensures { result ≡ head_of place }
-{
-    Some(State::Head(place?))
-}
 
 fn may_be_empty(place: Place) -> bool
     ensures { result ≡ may_be_empty place }
@@ -96,28 +80,55 @@ fn part_word(seen: PartsSeen, word: &[u8]) -> Option<State>
     }
 }
 
-/// A list with one word more.
-pub(crate) fn on_word(state: State, word: &[u8]) -> Option<State>
-    ensures { result ≡ on_word state (str_to_ascii_lowercase word.now) }
+/// Puts a state in the place of another, where there is one.
+fn put(state: &mut State, next: Option<State>) -> bool
+    ensures { only_if result state.new ≡ next }
 {
-    match state {
-        State::Parts(seen) => part_word(seen, word),
-        State::Part(_, _) => None,
-        State::Head(place) => head_word(place, word),
-        State::Rest(rest) => in_list(rest_word(rest, word)),
-        State::Defined | State::Sections(_) => None,
-        State::SectionHead(seen) => section_word(seen, word),
-        State::Section(keyword, rest) => in_section(keyword, rest_word(rest, word)),
-        State::DomainDefined | State::DomainSections(_) => None,
-        State::DomainHead(seen) => domain_word(seen, word),
-        State::DomainSection(keyword, rest) => in_domain_section(keyword, rest_word(rest, word)),
-        State::Action => action_name(word),
+    match next {
+        Some(next) => {
+            *state = next;
+            true
+        }
+        None => false,
     }
 }
 
-/// A list that opens.
-pub(crate) fn on_open(state: State) -> Option<State>
-    ensures { result ≡ on_open state }
+/// Leads a list on by a word, where it may stand there.
+pub(crate) fn pass_word(state: &mut State, word: &[u8]) -> bool
+    ensures { only_if result state.new ≡ on_word state.old (str_to_ascii_lowercase word.now) }
+{
+    match state {
+        State::Head(place) => {
+            let place = *place;
+            begin(state, place, word)
+        }
+        State::Rest(rest) => rests::pass_word(rest, word),
+        State::Section(_, rest) => rests::pass_word(rest, word),
+        State::DomainSection(_, rest) => rests::pass_word(rest, word),
+        State::Parts(seen) => {
+            let seen = *seen;
+            put(state, part_word(seen, word))
+        }
+        State::SectionHead(seen) => {
+            let seen = *seen;
+            put(state, section_word(seen, word))
+        }
+        State::DomainHead(seen) => {
+            let seen = *seen;
+            put(state, domain_word(seen, word))
+        }
+        State::Action => put(state, action_name(word)),
+        State::Part(_, _)
+        | State::Defined
+        | State::Sections(_)
+        | State::DomainDefined
+        | State::DomainSections(_) => false,
+    }
+}
+
+/// The state in which a list begins, where one may open.
+pub(crate) fn on_open(state: &State) -> Option<State>
+    ensures { result ≡ on_open state.now }
 {
     match state {
         State::Head(_)
@@ -125,99 +136,77 @@ pub(crate) fn on_open(state: State) -> Option<State>
         | State::DomainHead(_)
         | State::Action
         | State::Parts(_) => None,
-        State::Part(_, place) => Some(State::Head(place)),
+        State::Part(_, place) => Some(State::Head(*place)),
         State::Rest(rest) | State::Section(_, rest) | State::DomainSection(_, rest) => {
-            head_of(rest_list(rest))
+            Some(State::Head(rest_list(rest)?))
         }
         State::Defined => Some(State::Head(Place::ProblemTitle)),
         State::DomainDefined => Some(State::Head(Place::DomainTitle)),
-        State::DomainSections(seen) => Some(State::DomainHead(seen)),
+        State::DomainSections(seen) => Some(State::DomainHead(*seen)),
         State::Sections(seen) => {
-            if has_all(seen) {
+            if has_all(*seen) {
                 None
             } else {
-                Some(State::SectionHead(seen))
+                Some(State::SectionHead(*seen))
             }
         }
     }
 }
 
 /// Whether a list may end.
-pub(crate) fn is_final(state: State) -> bool
-    ensures { result ≡ is_final state }
+pub(crate) fn is_final(state: &State) -> bool
+    ensures { result ≡ is_final state.now }
 {
     match state {
         State::Parts(_) | State::DomainSections(_) => true,
         State::Part(_, _) | State::Action => false,
-        State::Head(place) => may_be_empty(place),
+        State::Head(place) => may_be_empty(*place),
         State::Rest(rest) | State::Section(_, rest) | State::DomainSection(_, rest) => {
             may_end(rest)
         }
         State::Defined | State::SectionHead(_) | State::DomainDefined | State::DomainHead(_) =>
             false,
-        State::Sections(seen) => has_needed(seen),
+        State::Sections(seen) => has_needed(*seen),
     }
 }
 
-fn with_list(seen: Seen, last: State) -> State
-    ensures { result ≡ with_list seen last }
+fn with_list(seen: Seen, last: &State) -> State
+    ensures { result ≡ with_list seen last.now }
 {
     match last {
-        State::Section(keyword, _) => State::Sections(with_section(seen, keyword)),
-        State::Head(_)
-        | State::Parts(_)
-        | State::Part(_, _)
-        | State::Rest(_)
-        | State::Defined
-        | State::Sections(_)
-        | State::SectionHead(_)
-        | State::DomainDefined
-        | State::DomainSections(_)
-        | State::DomainHead(_)
-        | State::DomainSection(_, _)
-        | State::Action => State::Sections(seen),
+        State::Section(keyword, _) => State::Sections(with_section(seen, *keyword)),
+        _ => State::Sections(seen),
     }
 }
 
-fn with_domain_list(seen: DomainSeen, last: State) -> State
-    ensures { result ≡ with_domain_list seen last }
+fn with_domain_list(seen: DomainSeen, last: &State) -> State
+    ensures { result ≡ with_domain_list seen last.now }
 {
     match last {
         State::DomainSection(keyword, _) => {
-            State::DomainSections(with_domain_section(seen, keyword))
+            State::DomainSections(with_domain_section(seen, *keyword))
         }
-        State::Head(_)
-        | State::Parts(_)
-        | State::Part(_, _)
-        | State::Rest(_)
-        | State::Defined
-        | State::Sections(_)
-        | State::SectionHead(_)
-        | State::Section(_, _)
-        | State::DomainDefined
-        | State::DomainSections(_)
-        | State::DomainHead(_)
-        | State::Action => State::DomainSections(seen),
+        _ => State::DomainSections(seen),
     }
 }
 
-/// A list with one list more, which ended in the state given last.
-pub(crate) fn after(above: State, last: State) -> State
-    ensures { result ≡ after above last }
+/// Leads a list on by a list, which ended in the state given last.
+pub(crate) fn pass_list(above: &mut State, last: &State)
+    ensures { above.new ≡ after above.old last.now }
 {
     match above {
         State::Head(_)
         | State::SectionHead(_)
         | State::DomainHead(_)
         | State::Action
-        | State::Parts(_) => above,
-        State::Part(seen, _) => State::Parts(seen),
-        State::Rest(rest) => State::Rest(behind(rest)),
-        State::Defined => State::Sections(no_section()),
-        State::Sections(seen) => with_list(seen, last),
-        State::Section(keyword, rest) => State::Section(keyword, behind(rest)),
-        State::DomainDefined => State::DomainSections(no_domain_section()),
-        State::DomainSections(seen) => with_domain_list(seen, last),
-        State::DomainSection(keyword, rest) => State::DomainSection(keyword, behind(rest)),
+        | State::Parts(_) => {}
+        State::Part(seen, _) => *above = State::Parts(*seen),
+        State::Rest(rest) => pass_one(rest),
+        State::Section(_, rest) => pass_one(rest),
+        State::DomainSection(_, rest) => pass_one(rest),
+        State::Defined => *above = State::Sections(no_section()),
+        State::Sections(seen) => *above = with_list(*seen, last),
+        State::DomainDefined => *above = State::DomainSections(no_domain_section()),
+        State::DomainSections(seen) => *above = with_domain_list(*seen, last),
     }
 }

@@ -13,7 +13,7 @@ ghost use Rattle.p3_places.specs.Places.{grammar_table, start};
 ghost use Rattle.p3_places.specs.Walks.{the_stack, only_if, mark_in, place_of, Begins, Passes};
 
 use crate::state::{Place, Rest, Slot, State};
-use crate::step::{after, is_final, on_open, on_word};
+use crate::step::{is_final, on_open, pass_list, pass_word};
 use p3_base::{Code, NoMemory, Pos, Refusal, Role};
 use p3_lexer::{is_close, is_open};
 use std::alloc::Global;
@@ -44,13 +44,7 @@ impl Walk {
         if count == 0 {
             return false;
         }
-        match on_word(self.open[count - 1], text) {
-            Some(top) => {
-                self.open[count - 1] = top;
-                true
-            }
-            None => false,
-        }
+        pass_word(&mut self.open[count - 1], text)
     }
 
     /// Passes a `(`, where a list may open.
@@ -63,7 +57,7 @@ impl Walk {
         if count == 0 {
             return Ok(false);
         }
-        let Some(first) = on_open(self.open[count - 1]) else {
+        let Some(first) = on_open(&self.open[count - 1]) else {
             return Ok(false);
         };
         self.open.push(first)?;
@@ -79,10 +73,10 @@ impl Walk {
             return false;
         };
         let count = self.open.len();
-        if count == 0 || !is_final(last) {
+        if count == 0 || !is_final(&last) {
             return false;
         }
-        self.open[count - 1] = after(self.open[count - 1], last);
+        pass_list(&mut self.open[count - 1], &last);
         true
     }
 

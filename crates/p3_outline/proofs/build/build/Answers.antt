@@ -48,7 +48,7 @@ loop-word-preserved c =
       few = omega (arith, few, c.loop-word.invariant.few, place.some, place.ends, place.behind_gap);
       goes = one_more c.args.limit c.args.text.now token later built next stands goes is;
       numbers =
-          sym (numbers_more (side_of c.args.role) c.args.role c.loop-word.number c.or_long_number-number.result token later c.or_long_number-number.ensures)
+          sym (numbers_more (side_of c.args.role) c.args.role c.loop-word.number c.note_long_number.new.noted token later c.note_long_number.ensures)
           ∙ ap (numbers_from (side_of c.args.role) c.args.role c.loop-word.number) (sym leads) ∙ c.loop-word.invariant.numbers;
       faults = sym (c.in_ok-pass-in-Token.ensures.passes later) ∙ ap (fault_left c.args.role c.loop-word.faults) (sym leads) ∙ c.loop-word.invariant.faults;
     }
