@@ -1,10 +1,10 @@
 -- A word and its first point.
-use Rattle.std.proofs.Common.{◌≡◌, ◌∙◌, refl, ap, ℕ, suc, ◌+◌, ◌<◌, ◌≤◌, Bool, true, false, not, ◌&&◌, ◌||◌, nat_lt, sym, map, cond, List, [], ◌∷◌, take, drop, length, Option, Some, None, arith}
+use Rattle.std.proofs.Common.{◌≡◌, ◌∙◌, refl, ap, ℕ, suc, ◌+◌, ◌<◌, ◌≤◌, Bool, true, false, not, ◌&&◌, ◌||◌, nat_lt, sym, map, cond, List, [], ◌∷◌, take, drop, length, codes, Option, Some, None, arith}
 use Rattle.std.proofs.lemmas.List.{take_rest}
 use Rattle.std.specs.Prelude.{◌-◌, ◌==◌, if◌then◌else◌}
 use Rattle.std.specs.Char.{to_ascii_lowercase}
 use Rattle.std.specs.List.{prefix_len}
-use Rattle.std.specs.Str.{str_to_ascii_lowercase}
+use Rattle.std.specs.Str.{bytes_eq, str_to_ascii_lowercase}
 use Rattle.std.proofs.lemmas.Bool.Decides.{nat_tests}
 use Rattle.p3_tree.specs.Names.{Name}
 use Rattle.p3_tree.specs.Decimals.{at_point}
@@ -18,7 +18,8 @@ use Rattle.p3_tree.specs.Decimals.{are_digits, is_decimal, digits_of}
 use Rattle.p3_tree.specs.Refusals.Places.{first_some}
 use Rattle.p3_tree.specs.Refusals.Texts.{is_too_long, has_places_above, long_number}
 use Rattle.p3_tree.specs.Sides.{digit_limit, place_limit}
-use Rattle.p3_tree.specs.Tokens.{Token, Tokens, before}
+use Rattle.p3_tree.specs.Tokens.{Token, Open, Close, Word, Tokens, before}
+use Rattle.p3_lexer.specs.Lexing.{token_of}
 use Rattle.p3_outline.specs.Numbers.{is_no_point, begins_with_digit}
 
 lowered_point : (byte : ℕ) → (byte == 46) ≡ (to_ascii_lowercase byte == 46)
@@ -120,6 +121,15 @@ or_none None = refl
 
 abbrev pub numbers_from : Side → Role → Option Refusal → Tokens → Option Refusal
 numbers_from side role found left = option_or found (first_some (map (long_number side role) left.tokens))
+
+-- a parenthesis is no number
+pub none_open : (side : Side) (role : Role) (offset : ℕ) (text : List ℕ) (found : Option Refusal) → bytes_eq text (codes "(") ≡ true → option_or found (long_number side role (token_of offset text)) ≡ found
+none_open side role offset text found opens = ap (λ b. option_or found (long_number side role (if b then Open offset else (if bytes_eq text (codes ")") then Close offset else Word offset (str_to_ascii_lowercase text))))) opens ∙ or_none found
+
+pub none_close : (side : Side) (role : Role) (offset : ℕ) (text : List ℕ) (found : Option Refusal) → bytes_eq text (codes "(") ≡ false → bytes_eq text (codes ")") ≡ true → option_or found (long_number side role (token_of offset text)) ≡ found
+none_close side role offset text found opens closes =
+    ap (λ b. option_or found (long_number side role (if b then Open offset else (if bytes_eq text (codes ")") then Close offset else Word offset (str_to_ascii_lowercase text))))) opens
+    ∙ ap (λ b. option_or found (long_number side role (if b then Close offset else Word offset (str_to_ascii_lowercase text)))) closes ∙ or_none found
 
 -- one token more
 pub numbers_more : (side : Side) (role : Role) (found next : Option Refusal) (token : Token) (later : Tokens) → next ≡ option_or found (long_number side role token)

@@ -15,6 +15,9 @@ pub record Built : Type 0 where
 abbrev pub the_built : Building → Built
 the_built building = record { nodes = building.nodes.items; open_lists = reverse building.open.items }
 
+abbrev pub nothing_built : Built
+nothing_built = record { nodes = []; open_lists = [] }
+
 -- what is built behind a token that may come next
 abbrev pub only_if : Bool → Built → Option Built
 only_if goes built = if goes then Some built else None
@@ -47,3 +50,9 @@ added limit built (Word at text) = Some (with_word at (length text) built)
 -- nothing follows the whole expression
 abbrev pub with_token : ℕ → Built → Token → Option Built
 with_token limit built token = if is_done built then None else added limit built token
+
+abbrev pub end_added : Built → Option Built
+end_added built = if is_done built then None else closed built
+
+abbrev pub word_added : ℕ → ℕ → Built → Option Built
+word_added at len built = if is_done built then None else Some (with_word at len built)

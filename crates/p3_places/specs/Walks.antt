@@ -1,13 +1,11 @@
 -- What a walk over a text has come to, and what it finds.
-use Rattle.std.specs.Prelude.{◌≡◌, ℕ, Bool, if◌then◌else◌, List, [], ◌∷◌, reverse, codes, Option, Some, None}
+use Rattle.std.specs.Prelude.{◌≡◌, ℕ, Bool, if◌then◌else◌, List, [], ◌∷◌, reverse, Option, Some, None}
 use Rattle.std.specs.Option.{option_map, option_or}
-use Rattle.std.specs.Str.{bytes_eq, str_to_ascii_lowercase}
 use Rattle.p3_base.specs.declared.refusal.Code.TheVariants.{Malformed}
 use Rattle.p3_base.specs.declared.refusal.Refusal.{Refusal}
 use Rattle.p3_base.specs.declared.refusal.Role.{Role}
 use Rattle.p3_base.specs.declared.refusal.Role.TheVariants as role
 use Rattle.p3_tree.specs.Tokens.{Token, Tokens, before, tokens_of}
-use Rattle.p3_tree.specs.PlanTexts.{Mark, Opens, Closes, Names}
 use Rattle.p3_tree.specs.Refusals.Places.{refusal_at_token}
 use Rattle.p3_places.specs.Machine.{first_fault}
 use Rattle.p3_places.specs.Places.{grammar_table, start}
@@ -24,10 +22,6 @@ the_stack walk = reverse walk.open.items
 -- what is reached, where it may be
 abbrev pub only_if : {A : Type 0} → Bool → A → Option A
 only_if goes reached = if goes then Some reached else None
-
--- what the bytes of a token are
-abbrev pub mark_in : List ℕ → Mark
-mark_in text = if bytes_eq text (codes "(") then Opens else (if bytes_eq text (codes ")") then Closes else Names (str_to_ascii_lowercase text))
 
 -- the first token that may not stand where it does, among those that are left
 abbrev pub fault_among : Role → List State → Tokens → Option Refusal

@@ -7,15 +7,14 @@ ghost use Rattle.p3_base.specs.declared.refusal.Side.TheVariants.{Written};
 ghost use Rattle.p3_tree.specs.PlanTexts as marks;
 ghost use Rattle.p3_tree.specs.Refusals.Places.{refusal_at};
 ghost use Rattle.p3_tree.specs.Sides.{byte_limit};
-ghost use Rattle.p3_lexer.specs.Lexing.{token_of};
+ghost use Rattle.p3_tree.specs.Tokens.{Open, Close, Word};
 ghost use Rattle.p3_places.specs.Machine.{step};
 ghost use Rattle.p3_places.specs.Places.{grammar_table, start};
-ghost use Rattle.p3_places.specs.Walks.{the_stack, only_if, mark_in, place_of, Begins, Passes};
+ghost use Rattle.p3_places.specs.Walks.{the_stack, only_if, place_of, Begins, Passes};
 
 use crate::state::{Place, Rest, Slot, State};
 use crate::step::{is_final, on_open, pass_list, pass_word};
 use p3_base::{Code, NoMemory, Pos, Refusal, Role};
-use p3_lexer::{is_close, is_open};
 use std::alloc::Global;
 
 /// The lists that are open, the innermost last. They stand in memory, so that a token moves no state.
@@ -79,21 +78,6 @@ impl Walk {
         pass_list(&mut self.open[count - 1], &last);
         true
     }
-
-    /// Passes a token, where it may stand here.
-    fn pass(&mut self, text: &[u8]) -> Result<bool, NoMemory>
-        ensures { IfOk result (λ goes.
-            only_if goes (the_stack self.new)
-            ≡ step grammar_table (the_stack self.old) (mark_in text.now)) }
-    {
-        if is_open(text) {
-            self.open_list()
-        } else if is_close(text) {
-            Ok(self.close_list())
-        } else {
-            Ok(self.pass_word(text))
-        }
-    }
 }
 
 /// Where the whole text of a file stands. A plan has no place here.
@@ -122,19 +106,47 @@ impl FaultSearch {
         Ok(FaultSearch { walk, found: None })
     }
 
-    /// Passes a token.
-    pub fn pass(&mut self, role: Role, offset: u32, text: &[u8]) -> Result<(), NoMemory>
-        requires short { length text.now ≤ byte_limit Written }
-        ensures passes { IfOk result (λ _.
-            Passes role self.old (token_of offset text.now) self.new) }
+    /// Passes a `(`.
+    pub fn pass_open(&mut self, role: Role, offset: u32) -> Result<(), NoMemory>
+        ensures passes { IfOk result (λ _. Passes role self.old (Open offset) self.new) }
     {
         match self.found {
             Some(_) => Ok(()),
             None => {
-                if !self.walk.pass(text)? {
-                    self.found = Some(fault_at(role, offset, text));
+                if !self.walk.open_list()? {
+                    self.found = Some(fault_at(role, offset, 1));
                 }
                 Ok(())
+            }
+        }
+    }
+
+    /// Passes a `)`.
+    pub fn pass_close(&mut self, role: Role, offset: u32)
+        ensures passes { Passes role self.old (Close offset) self.new }
+    {
+        match self.found {
+            Some(_) => {}
+            None => {
+                if !self.walk.close_list() {
+                    self.found = Some(fault_at(role, offset, 1));
+                }
+            }
+        }
+    }
+
+    /// Passes a word.
+    pub fn pass_word(&mut self, role: Role, offset: u32, text: &[u8])
+        requires short { length text.now ≤ byte_limit Written }
+        ensures passes { Passes role self.old
+            (Word offset (str_to_ascii_lowercase text.now)) self.new }
+    {
+        match self.found {
+            Some(_) => {}
+            None => {
+                if !self.walk.pass_word(text) {
+                    self.found = Some(fault_at(role, offset, text.len() as u32));
+                }
             }
         }
     }
@@ -148,13 +160,12 @@ impl FaultSearch {
 }
 
 /// The refusal of a token that may not stand where it does.
-fn fault_at(role: Role, offset: u32, text: &[u8]) -> Refusal
-    requires short { length text.now ≤ byte_limit Written }
-    ensures { result ≡ refusal_at Malformed role offset (length text.now) }
+fn fault_at(role: Role, offset: u32, len: u32) -> Refusal
+    ensures { result ≡ refusal_at Malformed role offset len }
 {
     Refusal {
         code: Code::Malformed,
         pos: Pos { role, offset },
-        len: text.len() as u32,
+        len,
     }
 }

@@ -12,10 +12,10 @@ use Rattle.p3_outline.proofs.build.build.Given as goal
 abbrev pub invariant-loop-word : goal.invariant-loop-word
 invariant-loop-word l = record {
   source : l.lexer.source ≡ l.text;
-  few : length l.building.nodes.items ≤ l.lexer.at;
-  goes : Goes l.limit l.text (left l.lexer) (the_built l.building);
-  numbers : numbers_from (side_of l.role) l.role l.number (left l.lexer) ≡ number_refusal l.role l.text;
-  faults : fault_left l.role l.faults (left l.lexer) ≡ fault_of l.role (place_of l.role) l.text;
+  few : length l.passed.building.nodes.items ≤ l.lexer.at;
+  goes : Goes l.limit l.text (left l.lexer) (the_built l.passed.building);
+  numbers : numbers_from (side_of l.role) l.role l.passed.number (left l.lexer) ≡ number_refusal l.role l.text;
+  faults : fault_left l.role l.passed.faults (left l.lexer) ≡ fault_of l.role (place_of l.role) l.text;
 }
 
 abbrev pub decreases-loop-word : goal.decreases-loop-word
