@@ -121,7 +121,9 @@ impl Passed {
         })
     }
 
-    /// Passes a token, and tells whether it may come next in one expression.
+    /// Passes a token, and tells whether it may come next in one expression. It is called for each
+    /// token, at one place.
+    #[inline(always)]
     #[tactic(auto, using(crate::proofs::BuildLemmas::lowered_length, crate::proofs::NumberLemmas::none_open, crate::proofs::NumberLemmas::none_close))]
     fn pass(&mut self, role: Role, limit: usize, offset: u32, text: &[u8]) -> Result<bool, NoMemory>
         requires few { length self.old.building.nodes.items ≤ byte_limit Written }
