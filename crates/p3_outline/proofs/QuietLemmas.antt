@@ -1,10 +1,11 @@
 -- Lists whose words show nothing.
-use Rattle.std.proofs.Common.{◌≡◌, ◌∙◌, refl, sym, ap, ℕ, zero, suc, Bool, true, false, ◌||◌, ◌&&◌, not, List, [], ◌∷◌, ◌++◌, take, drop, length, Option, Some, None}
+use Rattle.std.proofs.Common.{◌≡◌, ◌∙◌, refl, sym, ap, ℕ, zero, suc, ◌+◌, ◌≤◌, Bool, true, false, ◌||◌, ◌&&◌, not, List, [], ◌∷◌, ◌++◌, take, drop, length, Option, Some, None, arith}
 use Rattle.std.specs.Prelude.{codes}
 use Rattle.std.specs.List.{list_all}
 use Rattle.std.specs.Str.{str_to_ascii_lowercase}
 use Rattle.std.proofs.lemmas.Bool.{and_parts}
-use Rattle.p3_tree.specs.Names.{Name, has_name}
+use Rattle.std.proofs.lemmas.List.{length-drop, length-take-le}
+use Rattle.p3_tree.specs.Names.{Name, same_name, has_name, total_cost}
 use Rattle.p3_tree.specs.Refusals.Constructs.{word_when, shown_by}
 use Rattle.p3_tree.specs.declared.expression.Expression.{Expression}
 use Rattle.p3_tree.specs.declared.expression.Expression.TheVariants as expression
@@ -13,12 +14,33 @@ use Rattle.p3_outline.specs.declared.constructs.Around.{Around}
 use Rattle.p3_outline.specs.declared.view.Node.{Node}
 use Rattle.p3_outline.specs.declared.view.Node.TheVariants as node
 use Rattle.p3_outline.specs.Nodes.{slice_of, decoded, expressions_in, expression_in, elements}
-use Rattle.p3_outline.specs.Constructs.{is_dull, is_dull_node, the_around, least_with, constructs_in, constructs_below, total_time, IsQuiet}
+use Rattle.p3_outline.specs.Constructs.{is_showing_length, is_showing, is_dull, is_dull_length, is_dull_node, the_around, least_with, constructs_in, constructs_below, total_time, IsQuiet}
+use Rattle.p3_outline.proofs.BuildLemmas.{lowered_length}
 use Rattle.p3_outline.proofs.NodeLemmas.{elements_of_list}
 use Rattle.p3_outline.proofs.ConstructLemmas.{not_called, none_shown, shown_as, word_shows, list_shows}
 
 abbrev shows : Name → Bool
 shows word = not (is_dull word)
+
+-- ---- words that show nothing by their length
+
+no_length : (behind : ℕ) → is_dull_length (suc behind) ≡ true → is_showing_length behind ≡ false
+no_length zero is = absurd cc
+no_length (suc zero) is = absurd cc
+no_length (suc (suc zero)) is = refl
+no_length (suc (suc (suc zero))) is = refl
+no_length (suc (suc (suc (suc zero)))) is = refl
+no_length (suc (suc (suc (suc (suc n))))) is = absurd (grind arith)
+
+dull_by : (word : Name) (len : ℕ) → length word ≡ len → is_dull_length len ≡ true → is_dull word ≡ true
+dull_by [] len has is = absurd (let none = ap is_dull_length has ∙ is in cc)
+dull_by (byte ∷ bytes) len has is =
+    ap (λ b. not (b && is_showing byte (length bytes)) || same_name (byte ∷ bytes) total_cost) (no_length (length bytes) (ap is_dull_length has ∙ is))
+
+pub inside_dull : (text : List ℕ) (at len : ℕ) → is_dull_length len ≡ true → at + len ≤ length text → is_dull (str_to_ascii_lowercase (slice_of text at len)) ≡ true
+inside_dull text at len is inside =
+    dull_by (str_to_ascii_lowercase (slice_of text at len)) len
+    (lowered_length (slice_of text at len) ∙ length-take-le len (drop at text) (omega (arith, inside, length-drop at text))) is
 
 -- ---- a word
 

@@ -76,6 +76,10 @@ may_show (byte ∷ bytes) = is_showing_length (length bytes) && is_showing byte 
 abbrev pub is_dull : Name → Bool
 is_dull word = not (may_show word) || same_name word total_cost
 
+-- a word of so many bytes is dull
+abbrev pub is_dull_length : ℕ → Bool
+is_dull_length len = len == 3 || len == 4 || len == 5
+
 abbrev pub is_dull_node : List ℕ → Node → Bool
 is_dull_node text (node.Word at len) = is_dull (str_to_ascii_lowercase (slice_of text at len))
 is_dull_node text (node.List at below) = true

@@ -9,8 +9,8 @@ ghost use Rattle.p3_tree.specs.Names.{same_name};
 ghost use Rattle.p3_tree.specs.Grammar.Words.{word_place};
 ghost use Rattle.p3_tree.specs.Refusals.Constructs.{left_out, word_when, head_of, is_number_or_list, second_is_number, other_increase, not_a_number, constructs};
 ghost use Rattle.p3_tree.specs.Refusals.Texts.{construct_in};
-ghost use Rattle.p3_outline.specs.Nodes.{expression_of, expressions_of, elements};
-ghost use Rattle.p3_outline.specs.Constructs.{the_word, least_with, declaring, conditions, is_some_of, begins_as_left_out, is_telling_byte, is_telling_length, may_tell, is_plain, is_showing_length, is_showing, may_show, is_dull, is_dull_node, the_around, with_head, with_no_head, IsQuiet, FindsShown, FindsBelow, FindsIn, head_shown, behind_shown, place_shown};
+ghost use Rattle.p3_outline.specs.Nodes.{slice_of, expression_of, expressions_of, elements};
+ghost use Rattle.p3_outline.specs.Constructs.{the_word, least_with, declaring, conditions, is_some_of, begins_as_left_out, is_telling_byte, is_telling_length, may_tell, is_plain, is_showing_length, is_showing, may_show, is_dull, is_dull_length, is_dull_node, the_around, with_head, with_no_head, IsQuiet, FindsShown, FindsBelow, FindsIn, head_shown, behind_shown, place_shown};
 
 use crate::numbers::is_decimal;
 use crate::view::{Node, Parts, View, slice_of};
@@ -364,6 +364,8 @@ fn is_plain(around: Around, head: TextWord<'_>) -> bool
     !around.metric && !may_tell(head.text)
 }
 
+// ---- words that show nothing
+
 fn is_showing_length(behind: usize) -> bool
     ensures { result ≡ is_showing_length behind }
 {
@@ -405,11 +407,29 @@ fn is_dull(word: &[u8]) -> bool
     !may_show(word) || is(word, b"total-cost")
 }
 
+/// Whether a word stands in the text whole, and its length tells that it shows nothing.
+fn has_dull_length(text: &[u8], at: u32, len: u32) -> bool
+    ensures { result ≡ true → is_dull (str_to_ascii_lowercase (slice_of text.now at len)) ≡ true }
+{
+    if !is_dull_length(len) {
+        return false;
+    }
+    at as usize + len as usize <= text.len()
+}
+
+fn is_dull_length(len: u32) -> bool
+    ensures { result ≡ is_dull_length len }
+{
+    matches!(len, 3 | 4 | 5)
+}
+
 fn is_dull_node(text: &[u8], node: Node) -> bool
     ensures { result ≡ is_dull_node text.now node }
 {
     match node {
-        Node::Word { at, len } => is_dull(slice_of(text, at as usize, len as usize)),
+        Node::Word { at, len } => {
+            has_dull_length(text, at, len) || is_dull(slice_of(text, at as usize, len as usize))
+        }
         Node::List { .. } => true,
     }
 }
