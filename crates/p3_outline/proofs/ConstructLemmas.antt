@@ -23,7 +23,7 @@ use Rattle.p3_tree.specs.declared.term.Ref.{Ref}
 use Rattle.p3_outline.specs.declared.constructs.Around.{Around}
 use Rattle.p3_outline.specs.declared.constructs.Found.{Found}
 use Rattle.p3_outline.specs.Nodes.{elements}
-use Rattle.p3_outline.specs.Constructs.{the_found, sooner, least_with, is_some_of, begins_as_left_out, may_tell, is_plain, declaring, conditions, the_around, with_head, with_no_head, Finds, IsQuiet, either_shown, increase_shown, other_shown, number_shown, timed_shown, compared_shown, metric_shown, head_shown, behind_shown, place_shown, constructs_in, total_time, behind_head, constructs_below}
+use Rattle.p3_outline.specs.Constructs.{the_found, sooner, least_with, is_some_of, begins_as_left_out, may_tell, is_plain, declaring, conditions, the_around, with_head, with_no_head, Finds, either_shown, increase_shown, other_shown, number_shown, timed_shown, compared_shown, metric_shown, head_shown, behind_shown, place_shown, constructs_in, total_time, behind_head, constructs_below}
 
 -- ---- words
 
@@ -51,7 +51,7 @@ none_of test word fails (name ∷ names) all =
     by false same passes = refl
 
 -- nor is it any one of them
-not_called : (test : Name → Bool) (word : Name) → test word ≡ false → (name : Name) → test name ≡ true → same_name word name ≡ false
+pub not_called : (test : Name → Bool) (word : Name) → test word ≡ false → (name : Name) → test name ≡ true → same_name word name ≡ false
 not_called test word fails name passes = by (same_name word name) refl
   where
     by : (b : Bool) → same_name word name ≡ b → b ≡ false
@@ -140,6 +140,35 @@ shown_finds around least first second last head behind by_head behind_it by_plac
 
 -- ---- heads that show nothing
 
+-- a head that fails a test shows nothing outside the metric, where each word passes that shows something there
+module _ (test : Name → Bool) (around : Around) (head : Ref) (no_metric : around.metric ≡ false) (fails : test head.name ≡ false)
+    (left : list_all test left_out ≡ true) (either : test (codes "either") ≡ true) (increase : test (codes "increase") ≡ true)
+    (functions : test (codes ":functions") ≡ true) (at : test (codes "at") ≡ true) (equal : test (codes "=") ≡ true) where
+  is_no : (name : Name) → test name ≡ true → same_name head.name name ≡ false
+  is_no name passes = not_called test head.name fails name passes
+
+  none_by_head : head_shown around head ≡ []
+  none_by_head =
+      ap (λ b. word_when b head ++ either_shown around head ++ increase_shown around head) (none_of test head.name fails left_out left)
+      ∙ ap (λ b. word_when (b && around.declares) head ++ increase_shown around head) (is_no (codes "either") either)
+      ∙ ap (λ b. word_when (b && around.conditional) head) (is_no (codes "increase") increase)
+
+  none_behind : (behind : List Expression) → behind_shown head behind ≡ []
+  none_behind behind =
+      ap (λ b. (if b then other_increase behind else []) ++ number_shown head behind) (is_no (codes "increase") increase)
+      ∙ ap (λ b. if b then not_a_number false behind else []) (is_no (codes ":functions") functions)
+
+  none_by_place : (behind : List Expression) → place_shown around head behind ≡ []
+  none_by_place behind =
+      ap (λ b. word_when (b && around.is_right_in_init && second_is_number behind) head ++ compared_shown around head behind ++ metric_shown around head) (is_no (codes "at") at)
+      ∙ ap (λ b. word_when (b && not around.initial && list_any is_number_or_list behind) head ++ metric_shown around head) (is_no (codes "=") equal)
+      ∙ ap (λ b. word_when (b && is_name head.name && not (is_word_called head (codes "is-violated")) && not (is_word_called head total_cost)) head) no_metric
+
+  pub none_shown : (behind : List Expression) → head_shown around head ++ behind_shown head behind ++ place_shown around head behind ≡ []
+  none_shown behind =
+      ap (λ ws. ws ++ behind_shown head behind ++ place_shown around head behind) none_by_head
+      ∙ ap (λ ws. ws ++ place_shown around head behind) (none_behind behind) ∙ none_by_place behind
+
 module _ (around : Around) (head : Ref) (plain : is_plain around head ≡ true) where
   both_false : (a b : Bool) → (not a && not b) ≡ true → (a ≡ false) × (b ≡ false)
   both_false true b is = absurd cc
@@ -158,34 +187,12 @@ module _ (around : Around) (head : Ref) (plain : is_plain around head ≡ true) 
   is_none : (names : List Name) → list_all may_tell names ≡ true → is_some_of names head.name ≡ false
   is_none names all = none_of may_tell head.name tells_nothing names all
 
-  none_by_head : head_shown around head ≡ []
-  none_by_head =
-      ap (λ b. word_when b head ++ either_shown around head ++ increase_shown around head) (is_none left_out refl)
-      ∙ ap (λ b. word_when (b && around.declares) head ++ increase_shown around head) (is_not (codes "either") refl)
-      ∙ ap (λ b. word_when (b && around.conditional) head) (is_not (codes "increase") refl)
-
-  none_behind : (behind : List Expression) → behind_shown head behind ≡ []
-  none_behind behind =
-      ap (λ b. (if b then other_increase behind else []) ++ number_shown head behind) (is_not (codes "increase") refl)
-      ∙ ap (λ b. if b then not_a_number false behind else []) (is_not (codes ":functions") refl)
-
-  none_by_place : (behind : List Expression) → place_shown around head behind ≡ []
-  none_by_place behind =
-      ap (λ b. word_when (b && around.is_right_in_init && second_is_number behind) head ++ compared_shown around head behind ++ metric_shown around head) (is_not (codes "at") refl)
-      ∙ ap (λ b. word_when (b && not around.initial && list_any is_number_or_list behind) head ++ metric_shown around head) (is_not (codes "=") refl)
-      ∙ ap (λ b. word_when (b && is_name head.name && not (is_word_called head (codes "is-violated")) && not (is_word_called head total_cost)) head) no_metric
-
-  none_shown : (behind : List Expression) → head_shown around head ++ behind_shown head behind ++ place_shown around head behind ≡ []
-  none_shown behind =
-      ap (λ ws. ws ++ behind_shown head behind ++ place_shown around head behind) none_by_head
-      ∙ ap (λ ws. ws ++ place_shown around head behind) (none_behind behind) ∙ none_by_place behind
-
   nothing_shown : (least : Option Found) (behind : List Expression) → Finds around least (λ names innermost. shown_by names innermost head behind) least
   nothing_shown least behind names innermost place =
       sym (ap (least_with least) (
       shown_as names innermost head behind
       ∙ ap (λ (x : Around). head_shown x head ++ behind_shown head behind ++ place_shown x head behind) (sym place)
-      ∙ none_shown behind
+      ∙ none_shown may_tell around head no_metric tells_nothing refl refl refl refl refl refl behind
       ))
 
   same_around : with_no_head around ≡ with_head head.name around
@@ -275,8 +282,3 @@ module _ (around inner : Around) (least last : Option Found) (first : Expression
       by_all names None (within ∙ ap with_no_head place ∙ no_head_around names innermost)
       ∙ ap (λ parts. least_with least (constructs_in names None parts)) is
       ∙ ap (λ o. least_with least (behind_head names innermost first rest o)) at ∙ ap (λ parts. least_with least (constructs_below names innermost parts)) (sym is)
-
--- A LIST of one word that shows nothing
-pub alone_quiet : (around : Around) (first : Expression) (rest parts : List Expression) (head : Ref) → parts ≡ first ∷ rest → rest ≡ [] → Some head ≡ word_place first → is_plain around head ≡ true → IsQuiet around parts
-alone_quiet around first rest parts head is none at plain least =
-    below_plain around (with_no_head around) least least first [] parts (is ∙ ap (λ others. first ∷ others) none) head at (sym plain) refl (λ names innermost place. refl)

@@ -4,5 +4,6 @@ pub mod SoundLemmas
 pub mod BuildLemmas
 pub mod NumberLemmas
 pub mod ConstructLemmas
+pub mod QuietLemmas
 pub mod FirstLemmas
 pub mod PlaceLemmas

@@ -66,7 +66,7 @@ expressions_items : {n : Count} (row : Row_of-Expression n) → expressions row 
 expressions_items end_of-Expression = refl
 expressions_items (more_of-Expression part rest) = ap (λ es. part ∷ es) (expressions_items rest)
 
-elements_of_list : (at : ℕ) (parts : List Expression) → elements (expression.Group at parts) ≡ parts
+pub elements_of_list : (at : ℕ) (parts : List Expression) → elements (expression.Group at parts) ≡ parts
 elements_of_list at parts = expressions_items (hidden-the_row-Expression-0 parts) ∙ items_hidden-the_row-Expression-0 parts
 
 -- the view of a list

@@ -1,5 +1,5 @@
 -- The first construct that is left out by name, looked for from the outside in.
-use Rattle.std.specs.Prelude.{◌≡◌, ℕ, ◌==◌, nat_lt, Bool, false, not, ◌&&◌, ◌||◌, List, [], ◌∷◌, ◌++◌, map, flat_map, length, codes, if◌then◌else◌, Option, Some, None}
+use Rattle.std.specs.Prelude.{◌≡◌, ℕ, ◌==◌, nat_lt, Bool, true, false, not, ◌&&◌, ◌||◌, List, [], ◌∷◌, ◌++◌, map, flat_map, length, codes, if◌then◌else◌, Option, Some, None}
 use Rattle.std.specs.List.{list_any}
 use Rattle.std.specs.Option.{option_map_or}
 use Rattle.std.specs.Str.{str_to_ascii_lowercase}
@@ -12,6 +12,9 @@ use Rattle.p3_tree.specs.declared.term.Ref.{Ref}
 use Rattle.p3_outline.specs.declared.constructs.Around.{Around}
 use Rattle.p3_outline.specs.declared.constructs.Found.{Found}
 use Rattle.p3_outline.specs.declared.constructs.TextWord.{TextWord}
+use Rattle.p3_outline.specs.declared.view.Node.{Node}
+use Rattle.p3_outline.specs.declared.view.Node.TheVariants as node
+use Rattle.p3_outline.specs.Nodes.{slice_of}
 
 abbrev pub the_word : TextWord → Ref
 the_word word = record { name = str_to_ascii_lowercase word.text.now; at = word.at }
@@ -47,6 +50,39 @@ may_tell (byte ∷ bytes) = byte == 58 || (is_telling_byte byte && is_telling_le
 
 abbrev pub is_plain : Around → Ref → Bool
 is_plain around head = not around.metric && not (may_tell head.name)
+
+-- ---- words that show nothing
+
+-- how many bytes may follow the first one of a word that shows something outside the metric, or of `:metric`
+abbrev pub is_showing_length : ℕ → Bool
+is_showing_length behind = behind == 0 || behind == 1 || behind == 5 || behind == 6 || behind == 7 || behind == 9 || behind == 10 || behind == 12 || behind == 15
+
+-- how it may begin where so many follow
+abbrev pub is_showing : ℕ → ℕ → Bool
+is_showing byte behind =
+    byte == 58
+    || (behind == 0 && (byte == 47 || byte == 60 || byte == 61 || byte == 62))
+    || (behind == 1 && (byte == 97 || byte == 60 || byte == 62))
+    || (behind == 5 && (byte == 97 || byte == 101 || byte == 119))
+    || (behind == 7 && (byte == 100 || byte == 105 || byte == 115))
+    || (behind == 9 && (byte == 104 || byte == 115 || byte == 116))
+    || (behind == 10 && byte == 104)
+    || (behind == 12 && byte == 97)
+
+abbrev pub may_show : Name → Bool
+may_show [] = false
+may_show (byte ∷ bytes) = is_showing_length (length bytes) && is_showing byte (length bytes)
+
+abbrev pub is_dull : Name → Bool
+is_dull word = not (may_show word) || same_name word total_cost
+
+-- a word of so many bytes is dull
+abbrev pub is_dull_length : ℕ → Bool
+is_dull_length len = len == 3 || len == 4 || len == 5
+
+abbrev pub is_dull_node : List ℕ → Node → Bool
+is_dull_node text (node.Word at len) = is_dull (str_to_ascii_lowercase (slice_of text at len))
+is_dull_node text (node.List at below) = true
 
 -- ---- the lists around
 

@@ -1,7 +1,7 @@
 //! Constructs that are left out by name, wherever they stand.
 
 ghost use Rattle.std.specs.Prelude.{◌≡◌, ◌<◌, ◌^◌, ◌&&◌, length, true, false, if◌then◌else◌, [], Some, None, IfSome};
-ghost use Rattle.std.specs.List.{list_any};
+ghost use Rattle.std.specs.List.{list_all, list_any};
 ghost use Rattle.std.specs.Option.{option_map};
 ghost use Rattle.std.specs.Str.{str_to_ascii_lowercase};
 ghost use Rattle.p3_base.specs.Words.{is_name};
@@ -9,11 +9,11 @@ ghost use Rattle.p3_tree.specs.Names.{same_name};
 ghost use Rattle.p3_tree.specs.Grammar.Words.{word_place};
 ghost use Rattle.p3_tree.specs.Refusals.Constructs.{left_out, word_when, head_of, is_number_or_list, second_is_number, other_increase, not_a_number, constructs};
 ghost use Rattle.p3_tree.specs.Refusals.Texts.{construct_in};
-ghost use Rattle.p3_outline.specs.Nodes.{expression_of, expressions_of, elements};
-ghost use Rattle.p3_outline.specs.Constructs.{the_word, least_with, declaring, conditions, is_some_of, begins_as_left_out, is_telling_byte, is_telling_length, may_tell, is_plain, the_around, with_head, with_no_head, IsQuiet, FindsShown, FindsBelow, FindsIn, head_shown, behind_shown, place_shown};
+ghost use Rattle.p3_outline.specs.Nodes.{slice_of, expression_of, expressions_of, elements};
+ghost use Rattle.p3_outline.specs.Constructs.{the_word, least_with, declaring, conditions, is_some_of, begins_as_left_out, is_telling_byte, is_telling_length, may_tell, is_plain, is_showing_length, is_showing, may_show, is_dull, is_dull_length, is_dull_node, the_around, with_head, with_no_head, IsQuiet, FindsShown, FindsBelow, FindsIn, head_shown, behind_shown, place_shown};
 
 use crate::numbers::is_decimal;
-use crate::view::{Parts, View};
+use crate::view::{Node, Parts, View, slice_of};
 use p3_base::{Code, Pos, Refusal, Role};
 
 /// A word as it stands in the text.
@@ -364,21 +364,96 @@ fn is_plain(around: Around, head: TextWord<'_>) -> bool
     !around.metric && !may_tell(head.text)
 }
 
-/// Whether a list is one word that shows nothing.
+// ---- words that show nothing
+
+fn is_showing_length(behind: usize) -> bool
+    ensures { result ≡ is_showing_length behind }
+{
+    matches!(behind, 0 | 1 | 5 | 6 | 7 | 9 | 10 | 12 | 15)
+}
+
+/// Whether a word that shows something may begin so, and have so many bytes behind.
+fn is_showing(byte: u8, behind: usize) -> bool
+    ensures { result ≡ is_showing byte behind }
+{
+    byte == b':'
+        || behind == 0 && matches!(byte, b'/' | b'<' | b'=' | b'>')
+        || behind == 1 && matches!(byte, b'a' | b'<' | b'>')
+        || behind == 5 && matches!(byte, b'a' | b'e' | b'w')
+        || behind == 7 && matches!(byte, b'd' | b'i' | b's')
+        || behind == 9 && matches!(byte, b'h' | b's' | b't')
+        || behind == 10 && byte == b'h'
+        || behind == 12 && byte == b'a'
+}
+
+/// Whether a word may be one that shows something outside the metric, or `:metric`. Its length and
+/// its first byte tell it.
+#[tactic(auto, using(crate::proofs::BuildLemmas::lowered_length))]
+fn may_show(word: &[u8]) -> bool
+    ensures { result ≡ may_show (str_to_ascii_lowercase word.now) }
+{
+    match word {
+        [] => false,
+        [first, behind @ ..] => {
+            is_showing_length(behind.len()) && is_showing(first.to_ascii_lowercase(), behind.len())
+        }
+    }
+}
+
+/// Whether a word shows nothing outside the metric, wherever it stands.
+fn is_dull(word: &[u8]) -> bool
+    ensures { result ≡ is_dull (str_to_ascii_lowercase word.now) }
+{
+    !may_show(word) || is(word, b"total-cost")
+}
+
+/// Whether a word stands in the text whole, and its length tells that it shows nothing.
+fn has_dull_length(text: &[u8], at: u32, len: u32) -> bool
+    ensures { result ≡ true → is_dull (str_to_ascii_lowercase (slice_of text.now at len)) ≡ true }
+{
+    if !is_dull_length(len) {
+        return false;
+    }
+    at as usize + len as usize <= text.len()
+}
+
+fn is_dull_length(len: u32) -> bool
+    ensures { result ≡ is_dull_length len }
+{
+    matches!(len, 3 | 4 | 5)
+}
+
+fn is_dull_node(text: &[u8], node: Node) -> bool
+    ensures { result ≡ is_dull_node text.now node }
+{
+    match node {
+        Node::Word { at, len } => {
+            has_dull_length(text, at, len) || is_dull(slice_of(text, at as usize, len as usize))
+        }
+        Node::List { .. } => true,
+    }
+}
+
+fn are_dull(text: &[u8], nodes: &[Node]) -> bool
+    ensures { result ≡ list_all (is_dull_node text.now) nodes.now }
+{
+    for node in nodes {
+        if !is_dull_node(text, *node) {
+            return false;
+        }
+    }
+    true
+}
+
+/// Whether a list is short, and all words in it show nothing. A long one is looked at part by part.
 fn is_quiet(around: Around, list: View<'_, '_>) -> bool
     ensures { result ≡ true → IsQuiet around (elements (expression_of list.entry)) }
 {
-    let mut behind = list.parts();
-    let Some(first) = behind.next() else {
-        return false;
-    };
-    if behind.node_count() != 0 {
+    if around.metric {
         return false;
     }
-    match word_of(first) {
-        Some(head) => is_plain(around, head),
-        None => false,
-    }
+    let nodes = list.nodes_below();
+    nodes.len() <= 40 && are_dull(list.text(), nodes)
 }
 
 // ---- the whole

@@ -53,7 +53,7 @@ pub struct Parts<'o, 'a> {
 }
 
 /// The bytes at an offset, as far as the text goes.
-fn slice_of<'a>(text: &'a [u8], at: usize, len: usize) -> &'a [u8]
+pub(crate) fn slice_of<'a>(text: &'a [u8], at: usize, len: usize) -> &'a [u8]
     ensures { result.now ≡ slice_of text.now at len }
 {
     if at > text.len() {
@@ -180,6 +180,20 @@ impl<'o, 'a> View<'o, 'a> {
             Node::Word { at, len } => Some(slice_of(self.text, at as usize, len as usize)),
             Node::List { .. } => None,
         }
+    }
+
+    /// The text that is shown.
+    pub(crate) fn text(&self) -> &'a [u8]
+        ensures { result.now ≡ self.now.text.now }
+    {
+        self.text
+    }
+
+    /// The nodes below a list.
+    pub(crate) fn nodes_below(&self) -> &'o [Node]
+        ensures { result.now ≡ self.now.below.now }
+    {
+        self.below
     }
 
     /// The elements of a list, from the first. A word has none.
