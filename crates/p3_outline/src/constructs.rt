@@ -16,6 +16,10 @@ use crate::numbers::is_decimal;
 use crate::view::{Node, Parts, View, slice_of};
 use p3_base::{Code, Pos, Refusal, Role};
 
+/// How many nodes a list may have that is looked at in one pass of them, so that no node is looked at
+/// more often.
+const SHORT: usize = 40;
+
 /// A word as it stands in the text.
 #[derive(Clone, Copy)]
 struct TextWord<'a> {
@@ -453,7 +457,7 @@ fn is_quiet(around: Around, list: View<'_, '_>) -> bool
         return false;
     }
     let nodes = list.nodes_below();
-    nodes.len() <= 40 && are_dull(list.text(), nodes)
+    nodes.len() <= SHORT && are_dull(list.text(), nodes)
 }
 
 // ---- the whole

@@ -4,8 +4,8 @@ use Rattle.p3_outline.specs.Constructs.{is_dull_node}
 use Rattle.p3_outline.proofs.QuietLemmas.{dull_quiet}
 use Rattle.p3_outline.proofs.constructs.is_quiet.Goals as goal
 
-pub returns-then-nodes-le40 : goal.returns-then-nodes-le40
-returns-then-nodes-le40 c = λ dull.
+pub returns-then-nodes-le-SHORT : goal.returns-then-nodes-le-SHORT
+returns-then-nodes-le-SHORT c = λ dull.
     let list = c.args.list in
     let nodes = c.nodes_below-nodes.result.now in
     let of_text = ap (λ text. list_all (is_dull_node text) nodes) c.text.ensures in
