@@ -46,11 +46,20 @@ forall_listed (e ∷ []) = refl
 forall_listed (e ∷ d ∷ []) = through (variables_place e) (formula_place d) formula.Forall
 forall_listed (e ∷ d ∷ c ∷ list) = refl
 
+-- the first part of a list that begins with a word is that word
+by_head : (parts : List Expression)
+    → (headed (λ (part : Expression). part) parts >>= λ list. choose list.0.name formula_forms (λ behind. atom_form (listed formula_place parts)) (listed formula_place list.1))
+    ≡ headed (λ (part : Expression). part) parts >>= λ list. formula_of list.0 list.1
+by_head [] = refl
+by_head (expression.Word at text ∷ parts) = refl
+by_head (Group' at shape row ∷ parts) = refl
+
 -- the formula of an expression is that of its list, by the first word
-pub formula_of_list : (e : Expression) → formula_place e ≡ parts_place e >>= λ parts. headed (λ (part : Expression). part) parts >>= λ list. formula_of list.0.name parts list.1
+pub formula_of_list : (e : Expression) → formula_place e ≡ parts_place e >>= λ parts. headed (λ (part : Expression). part) parts >>= λ list. formula_of list.0 list.1
 unfolding formula_place
 formula_of_list (expression.Word at text) = refl
 formula_of_list (Group' at shape row) =
     let parts : List Expression = expressions row in
     ap formula_in (row_listed (λ word. None) (λ list parts. formula_in parts) row)
     ∙ headed_listed formula_place parts (λ list. choose list.0.name formula_forms (λ behind. atom_form (listed formula_place parts)) list.1)
+    ∙ by_head parts

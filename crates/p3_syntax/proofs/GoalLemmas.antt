@@ -10,7 +10,8 @@ use Rattle.p3_tree.specs.declared.formula.Formula.{Formula}
 use Rattle.p3_tree.specs.declared.goal.PreGoal.{PreGoal}
 use Rattle.p3_tree.specs.declared.goal.PreGoal.TheVariants as goal
 use Rattle.p3_tree.specs.declared.term.Ref.{Ref}
-use Rattle.p3_syntax.specs.Trees.{listed, goal_of}
+use Rattle.p3_syntax.specs.Trees.{listed, formula_of, goal_of}
+use Rattle.p3_syntax.proofs.FormulaLemmas.{formula_of_list}
 use Rattle.p3_syntax.proofs.TreeLemmas.{raws_listed, row_listed, headed_listed}
 
 -- what is preferred is read behind its name
@@ -52,11 +53,22 @@ pub preference_listed : (head : Ref) (list : List Expression)
 unfolding soft
 preference_listed head list = (λ i. preferred formula_place (raws_listed goal_place list i) >>= λ found. Some (soft head found.0 found.1)) ∙ preferred_named formula_place list (soft head)
 
+-- a formula that is a goal, by the first word of its list
+by_head : (e : Expression) (parts : List Expression) → (formula_place e ≡ headed (λ (part : Expression). part) parts >>= λ list. formula_of list.0 list.1)
+    → (headed (λ (part : Expression). part) parts >>= λ list. choose list.0.name goal_forms (λ head behind. plain_form e) list.0 (listed goal_place list.1))
+    ≡ headed (λ (part : Expression). part) parts >>= λ list. goal_of list.0 list.1
+by_head e [] is = refl
+by_head e (Group' at shape row ∷ parts) is = refl
+by_head e (expression.Word at text ∷ parts) is =
+    let head : Ref = record { name = text; at = at } in
+    ap (λ plain. choose text goal_forms (λ word others. plain >>= λ tree. Some (goal.Plain tree)) head (listed goal_place parts)) is
+
 -- the goal of an expression is that of its list, by the first word
-pub goal_of_list : (e : Expression) → goal_place e ≡ parts_place e >>= λ parts. headed (λ (part : Expression). part) parts >>= λ list. goal_of e list.0 list.1
+pub goal_of_list : (e : Expression) → goal_place e ≡ parts_place e >>= λ parts. headed (λ (part : Expression). part) parts >>= λ list. goal_of list.0 list.1
 unfolding goal_place
 goal_of_list (expression.Word at text) = refl
 goal_of_list (Group' at shape row) =
     let e : Expression = Group' at shape row in
     ap (goal_in e) (row_listed (λ word. None) goal_in row)
     ∙ headed_listed goal_place (expressions row) (λ list. choose list.0.name goal_forms (λ head behind. plain_form e) list.0 list.1)
+    ∙ by_head e (expressions row) (formula_of_list e)

@@ -1,14 +1,16 @@
 -- Effects where an increase may stand, or may not.
-use Rattle.std.specs.Prelude.{ℕ, Bool, false, List, map, Option, None}
-use Rattle.std.specs.Str.{str_to_ascii_lowercase}
-use Rattle.p3_tree.specs.Names.{Name}
+use Rattle.std.specs.Prelude.{Bool, false, List, map, Option, None}
+use Rattle.p3_tree.specs.declared.term.Ref.{Ref}
 use Rattle.p3_tree.specs.Grammar.Words.{ListPart, descend, all_trees, choose}
+use Rattle.p3_tree.specs.Grammar.Formulas.{AtomText}
 use Rattle.p3_tree.specs.Grammar.Effects.{Found, effect_in, effect_forms, add_form}
 use Rattle.p3_tree.specs.declared.expression.Expression.{Expression}
 use Rattle.p3_tree.specs.declared.effect.Effect.{Effect}
 use Rattle.p3_outline.specs.declared.view.Parts.{Parts}
 use Rattle.p3_outline.specs.Nodes.{expressions_of}
-use Rattle.p3_syntax.specs.Trees.{listed}
+use Rattle.p3_syntax.specs.declared.tree.words.TextWord.{TextWord}
+use Rattle.p3_syntax.specs.declared.tree.effects.AtomParts.{AtomParts}
+use Rattle.p3_syntax.specs.Trees.{the_word, listed, with_head}
 
 -- what the place of effects finds
 unfoldable pub effect_found : Expression → Found
@@ -28,9 +30,16 @@ effect_form form parts = form (listed effect_found (expressions_of parts))
 abbrev pub effects_at : Parts → Bool → Option (List Effect)
 effects_at parts = trees_of (listed effect_found (expressions_of parts))
 
--- the effect of a list of these parts, by its first word and the parts behind it
-abbrev pub effect_of : Name → List Expression → List Expression → Found
-effect_of word parts behind = choose word effect_forms (λ behind. add_form (listed effect_found parts)) (listed effect_found behind)
+abbrev pub the_atom : AtomParts → AtomText
+the_atom atom = record { pred = atom.pred; args = atom.args }
 
-abbrev pub effect_by : List ℕ → Parts → Parts → Found
-effect_by word parts behind = effect_of (str_to_ascii_lowercase word) (expressions_of parts) (expressions_of behind)
+-- the atom with this first word, which becomes true
+abbrev pub add_by : Ref → Parts → Found
+add_by head behind = add_form (listed effect_found (with_head head (expressions_of behind)))
+
+-- the effect of a list by its first word and the parts behind it
+abbrev pub effect_of : Ref → List Expression → Found
+effect_of head behind = choose head.name effect_forms (λ others. add_form (listed effect_found (with_head head behind))) (listed effect_found behind)
+
+abbrev pub effect_by : TextWord → Parts → Found
+effect_by word behind = effect_of (the_word word) (expressions_of behind)

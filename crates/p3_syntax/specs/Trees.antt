@@ -1,17 +1,17 @@
 -- What words and parts of views stand for.
-use Rattle.std.specs.Prelude.{◌≡◌, ℕ, ◌+◌, ◌-◌, ◌*◌, ◌^◌, ◌<◌, ◌++◌, Bool, true, false, not, ◌&&◌, if◌then◌else◌, List, [], length, map, codes, Option, None}
+use Rattle.std.specs.Prelude.{◌≡◌, ℕ, ◌+◌, ◌-◌, ◌*◌, ◌^◌, ◌<◌, ◌++◌, Bool, true, false, not, ◌&&◌, if◌then◌else◌, List, [], ◌∷◌, length, map, codes, Option, Some, None}
 use Rattle.std.specs.Str.{str_to_ascii_lowercase}
-use Rattle.p3_tree.specs.Grammar.Words.{ListPart, Place, choose}
-use Rattle.p3_tree.specs.Grammar.Formulas.{AtomText, formula_place, formula_forms, atom_form}
-use Rattle.p3_tree.specs.Grammar.Goals.{goal_place, goal_forms, plain_form, each_form}
+use Rattle.p3_tree.specs.Grammar.Words.{◌>>=◌, ListPart, Place, choose}
+use Rattle.p3_tree.specs.Grammar.Formulas.{formula_place, formula_forms, atom_form}
+use Rattle.p3_tree.specs.Grammar.Goals.{goal_place, goal_forms, each_form}
 use Rattle.p3_tree.specs.Grammar.Constraints.{modal_forms, inner_forms, inner_place, constraint_place, single_form}
 use Rattle.p3_tree.specs.Grammar.Constraints as constraint
 use Rattle.p3_tree.specs.declared.formula.Formula.{Formula}
 use Rattle.p3_tree.specs.declared.constraint.Modal.{Modal}
 use Rattle.p3_tree.specs.declared.constraint.Constraint.{Constraint}
 use Rattle.p3_tree.specs.declared.goal.PreGoal.{PreGoal}
+use Rattle.p3_tree.specs.declared.goal.PreGoal.TheVariants.{Plain}
 use Rattle.p3_syntax.specs.declared.tree.goals.NamedBody.{NamedBody}
-use Rattle.p3_syntax.specs.declared.tree.formulas.AtomParts.{AtomParts}
 use Rattle.p3_tree.specs.declared.expression.Expression.{Expression, Word, Group'}
 use Rattle.p3_tree.specs.declared.term.Ref.{Ref}
 use Rattle.p3_tree.specs.declared.effect.Numeral.{Numeral}
@@ -27,6 +27,9 @@ use Rattle.p3_outline.specs.Nodes.{expression_of, expressions_of}
 
 abbrev pub the_word : TextWord → Ref
 the_word word = record { name = str_to_ascii_lowercase word.text.now; at = word.at }
+
+abbrev pub expression_at : TextWord → Expression
+expression_at word = Word word.at (str_to_ascii_lowercase word.text.now)
 
 -- neither reserved nor `total-cost`
 abbrev pub is_free : Name → Bool
@@ -76,19 +79,24 @@ HasRoomAt (Group' at shape parts) = Unit {0}
 
 -- ---- formulas
 
-abbrev pub the_atom : AtomParts → AtomText
-the_atom atom = record { pred = atom.pred; args = atom.args }
-
 -- what a form makes of parts
 abbrev pub form_at : (List (ListPart (Option Formula)) → Option Formula) → Parts → Option Formula
 form_at form parts = form (listed formula_place (expressions_of parts))
 
--- the formula of a list with this first word
-abbrev pub formula_of : Name → List Expression → List Expression → Option Formula
-formula_of word parts behind = choose word formula_forms (λ behind. atom_form (listed formula_place parts)) (listed formula_place behind)
+-- the parts of a list with this first word
+abbrev pub with_head : Ref → List Expression → List Expression
+with_head head behind = Word head.at head.name ∷ behind
 
-abbrev pub formula_by : List ℕ → Parts → Parts → Option Formula
-formula_by word parts behind = formula_of (str_to_ascii_lowercase word) (expressions_of parts) (expressions_of behind)
+-- the atom with this first word
+abbrev pub atom_by : Ref → Parts → Option Formula
+atom_by head behind = atom_form (listed formula_place (with_head head (expressions_of behind)))
+
+-- the formula of a list with this first word
+abbrev pub formula_of : Ref → List Expression → Option Formula
+formula_of head behind = choose head.name formula_forms (λ others. atom_form (listed formula_place (with_head head behind))) (listed formula_place behind)
+
+abbrev pub formula_by : TextWord → Parts → Option Formula
+formula_by word behind = formula_of (the_word word) (expressions_of behind)
 
 -- ---- goals
 
@@ -102,12 +110,16 @@ the_named found = (found.name, expression_of found.body)
 abbrev pub each_goal : Parts → Option PreGoal
 each_goal behind = each_form any_word (listed goal_place (expressions_of behind))
 
--- the goal of a list with this first word
-abbrev pub goal_of : Expression → Ref → List Expression → Option PreGoal
-goal_of e head behind = choose head.name goal_forms (λ head behind. plain_form e) head (listed goal_place behind)
+-- the formula of a list with this first word, as a goal
+abbrev pub plain_of : Ref → List Expression → Option PreGoal
+plain_of head behind = formula_of head behind >>= λ tree. Some (Plain tree)
 
-abbrev pub goal_by : View → TextWord → Parts → Option PreGoal
-goal_by view word behind = goal_of (expression_of view) (the_word word) (expressions_of behind)
+-- the goal of a list with this first word
+abbrev pub goal_of : Ref → List Expression → Option PreGoal
+goal_of head behind = choose head.name goal_forms (λ word others. plain_of head behind) head (listed goal_place behind)
+
+abbrev pub goal_by : TextWord → Parts → Option PreGoal
+goal_by word behind = goal_of (the_word word) (expressions_of behind)
 
 -- ---- constraints
 

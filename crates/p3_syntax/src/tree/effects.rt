@@ -1,21 +1,22 @@
 //! Effects.
 
-ghost use Rattle.p3_tree.specs.Grammar.Effects.{function_value_in, amount_place, total_cost_place, each_form, when_form, delete_form, increase_form, add_form, effect_place, effect_or_empty_place};
+ghost use Rattle.p3_tree.specs.Grammar.Effects.{function_value_in, amount_place, total_cost_place, each_form, when_form, delete_form, increase_form, effect_place, effect_or_empty_place};
+ghost use Rattle.p3_tree.specs.Grammar.Formulas.{atom_in};
 ghost use Rattle.p3_outline.specs.Nodes.{expression_of, expressions_of};
 ghost use Rattle.p3_syntax.specs.Reading.{Gives};
 ghost use Rattle.p3_syntax.specs.Trees.{the_word};
-ghost use Rattle.p3_syntax.specs.Effects.{no_increase, effect_found, effect_form, effects_at, effect_by};
+ghost use Rattle.p3_syntax.specs.Effects.{no_increase, effect_found, effect_form, effects_at, the_atom, add_by, effect_by};
 
 use crate::error::Fault;
-use crate::tree::formulas::{AtomParts, atom, formula};
-use crate::tree::lists::{terms, variables};
+use crate::tree::formulas::formula;
+use crate::tree::lists::{room_for, terms, variables};
 use crate::tree::numerals::numeral;
 use crate::tree::parts::{headed, only, pair, parts};
 use crate::tree::tests::is;
-use crate::tree::words::{TextWord, function, keyword};
+use crate::tree::words::{TextWord, function, keyword, predicate, predicate_word};
 use p3_base::{Boxed, List};
 use p3_outline::{Parts, View};
-use p3_tree::{Amount, Effect};
+use p3_tree::{Amount, Effect, Ref, Term};
 use std::alloc::Global;
 
 /// The value of a function other than the total cost.
@@ -53,6 +54,27 @@ fn total_cost<'a>(view: View<'_, 'a>) -> Result<TextWord<'a>, Fault>
     keyword(only(parts(view)?)?, b"total-cost")
 }
 
+/// A predicate at arguments.
+#[derive(Drop)]
+pub struct AtomParts {
+    /// The predicate.
+    pub pred: Ref,
+    /// The arguments.
+    pub args: List<Term>,
+}
+
+/// Reads an atom from its parts.
+fn atom(alloc: Global, mut parts: Parts<'_, '_>) -> Result<AtomParts, Fault>
+    ensures { Gives the_atom result (atom_in (expressions_of parts.entry)) }
+{
+    let Some(first) = parts.next() else {
+        return Err(Fault::Malformed);
+    };
+    let pred = predicate(alloc, first)?;
+    let args = terms(alloc, parts)?;
+    Ok(AtomParts { pred, args })
+}
+
 /// `(not (` name term* `))`.
 #[tactic(auto, using(crate::proofs::TreeLemmas::raws_listed))]
 fn delete_form(alloc: Global, behind: Parts<'_, '_>) -> Result<Effect, Fault>
@@ -78,10 +100,12 @@ fn increase_form(alloc: Global, free: bool, behind: Parts<'_, '_>) -> Result<Eff
 
 /// `(` name term* `)`.
 #[tactic(auto, using(crate::proofs::TreeLemmas::raws_listed))]
-fn add_form(alloc: Global, parts: Parts<'_, '_>) -> Result<Effect, Fault>
-    ensures { Gives (λ effect. effect) result (effect_form add_form parts.entry no_increase) }
+fn add_form(alloc: Global, word: TextWord<'_>, behind: Parts<'_, '_>) -> Result<Effect, Fault>
+    ensures { Gives (λ effect. effect) result
+        (add_by (the_word word.entry) behind.entry no_increase) }
 {
-    let AtomParts { pred, args } = atom(alloc, parts)?;
+    let pred = predicate_word(alloc, word)?;
+    let args = terms(alloc, behind)?;
     Ok(Effect::Add { pred, args })
 }
 
@@ -91,7 +115,7 @@ fn effects(alloc: Global, free: bool, parts: Parts<'_, '_>) -> Result<List<Effec
     ensures { Gives (λ effects. effects) result (effects_at parts.entry free) }
 {
     let mut left = parts;
-    let mut found = List::new(alloc);
+    let mut found = room_for(alloc, parts)?;
     while let Some(view) = left.next() {
         found.push(effect_at(alloc, free, view)?)?;
     }
@@ -128,12 +152,12 @@ fn when_form(alloc: Global, behind: Parts<'_, '_>) -> Result<Effect, Fault>
 fn by_word(
     alloc: Global,
     free: bool,
-    word: &[u8],
-    parts: Parts<'_, '_>,
+    head: TextWord<'_>,
     behind: Parts<'_, '_>,
 ) -> Result<Effect, Fault>
-    ensures { Gives (λ effect. effect) result (effect_by word.now parts.entry behind.entry free) }
+    ensures { Gives (λ effect. effect) result (effect_by head.entry behind.entry free) }
 {
+    let word = head.text;
     if is(word, b"and") {
         Ok(Effect::All(effects(alloc, free, behind)?))
     } else if is(word, b"forall") {
@@ -145,7 +169,7 @@ fn by_word(
     } else if is(word, b"increase") {
         increase_form(alloc, free, behind)
     } else {
-        add_form(alloc, parts)
+        add_form(alloc, head, behind)
     }
 }
 
@@ -155,9 +179,8 @@ fn by_word(
 fn effect_at(alloc: Global, free: bool, view: View<'_, '_>) -> Result<Effect, Fault>
     ensures { Gives (λ effect. effect) result (effect_found (expression_of view.entry) free) }
 {
-    let parts = parts(view)?;
-    let list = headed(parts)?;
-    by_word(alloc, free, list.word.text, parts, list.behind)
+    let list = headed(parts(view)?)?;
+    by_word(alloc, free, list.word, list.behind)
 }
 
 /// An effect.

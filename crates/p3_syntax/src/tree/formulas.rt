@@ -2,48 +2,28 @@
 
 ghost use Rattle.std.specs.Prelude.{◌≡◌};
 ghost use Rattle.p3_tree.specs.Grammar.Words.{each_at};
-ghost use Rattle.p3_tree.specs.Grammar.Formulas.{atom_in, formula_place, not_form, imply_form, exists_form, forall_form, equal_form, atom_form};
+ghost use Rattle.p3_tree.specs.Grammar.Formulas.{formula_place, not_form, imply_form, exists_form, forall_form, equal_form};
 ghost use Rattle.p3_outline.specs.Nodes.{expression_of, expressions_of};
 ghost use Rattle.p3_syntax.specs.Reading.{Gives};
-ghost use Rattle.p3_syntax.specs.Trees.{form_at, formula_by, the_atom};
+ghost use Rattle.p3_syntax.specs.Trees.{the_word, form_at, atom_by, formula_by};
 ghost use Rattle.p3_syntax.specs.Formulas.{two_formulas};
 
 use crate::error::Fault;
-use crate::tree::lists::{fitted, room, term, terms, variables};
+use crate::tree::lists::{room_for, term, terms, variables};
 use crate::tree::parts::{headed, only, pair, parts};
 use crate::tree::tests::is;
-use crate::tree::words::predicate;
+use crate::tree::words::{TextWord, predicate_word};
 use p3_base::{Boxed, List};
 use p3_outline::{Parts, View};
-use p3_tree::{Formula, Ref, Term};
+use p3_tree::Formula;
 use std::alloc::Global;
 
-/// A predicate at arguments.
-#[derive(Drop)]
-pub struct AtomParts {
-    /// The predicate.
-    pub pred: Ref,
-    /// The arguments.
-    pub args: List<Term>,
-}
-
-/// An atom, from its parts.
-pub fn atom(alloc: Global, mut parts: Parts<'_, '_>) -> Result<AtomParts, Fault>
-    ensures { Gives the_atom result (atom_in (expressions_of parts.entry)) }
-{
-    let Some(first) = parts.next() else {
-        return Err(Fault::Malformed);
-    };
-    let pred = predicate(alloc, first)?;
-    let args = terms(alloc, parts)?;
-    Ok(AtomParts { pred, args })
-}
-
 #[tactic(auto, using(crate::proofs::TreeLemmas::raws_listed))]
-fn atom_form(alloc: Global, parts: Parts<'_, '_>) -> Result<Formula, Fault>
-    ensures { Gives (λ tree. tree) result (form_at atom_form parts.entry) }
+fn atom_form(alloc: Global, word: TextWord<'_>, behind: Parts<'_, '_>) -> Result<Formula, Fault>
+    ensures { Gives (λ tree. tree) result (atom_by (the_word word.entry) behind.entry) }
 {
-    let AtomParts { pred, args } = atom(alloc, parts)?;
+    let pred = predicate_word(alloc, word)?;
+    let args = terms(alloc, behind)?;
     Ok(Formula::Atom { pred, args })
 }
 
@@ -63,11 +43,11 @@ fn formulas(alloc: Global, parts: Parts<'_, '_>) -> Result<List<Formula>, Fault>
     ensures { Gives (λ trees. trees) result (each_at formula_place (expressions_of parts.entry)) }
 {
     let mut left = parts;
-    let mut found = room(alloc, 2)?;
+    let mut found = room_for(alloc, parts)?;
     while let Some(view) = left.next() {
         found.push(formula(alloc, view)?)?;
     }
-    Ok(fitted(found))
+    Ok(found)
 }
 
 #[cycle(formula)]
@@ -115,14 +95,14 @@ fn forall_form(alloc: Global, behind: Parts<'_, '_>) -> Result<Formula, Fault>
 /// The formula of a list by its first word.
 #[cycle(formula)]
 #[tactic(auto, using(crate::proofs::TreeLemmas::trees_listed))]
-fn formula_by(
+pub fn formula_by(
     alloc: Global,
-    word: &[u8],
-    parts: Parts<'_, '_>,
+    head: TextWord<'_>,
     behind: Parts<'_, '_>,
 ) -> Result<Formula, Fault>
-    ensures { Gives (λ tree. tree) result (formula_by word.now parts.entry behind.entry) }
+    ensures { Gives (λ tree. tree) result (formula_by head.entry behind.entry) }
 {
+    let word = head.text;
     if is(word, b"and") {
         Ok(Formula::And(formulas(alloc, behind)?))
     } else if is(word, b"or") {
@@ -138,7 +118,7 @@ fn formula_by(
     } else if is(word, b"=") {
         equal_form(alloc, behind)
     } else {
-        atom_form(alloc, parts)
+        atom_form(alloc, head, behind)
     }
 }
 
@@ -148,9 +128,8 @@ fn formula_by(
 pub fn formula(alloc: Global, view: View<'_, '_>) -> Result<Formula, Fault>
     ensures { Gives (λ tree. tree) result (formula_place (expression_of view.entry)) }
 {
-    let parts = parts(view)?;
-    let list = headed(parts)?;
-    formula_by(alloc, list.word.text, parts, list.behind)
+    let list = headed(parts(view)?)?;
+    formula_by(alloc, list.word, list.behind)
 }
 
 /// The two formulas of parts.

@@ -8,8 +8,8 @@ ghost use Rattle.p3_syntax.specs.Reading.{Gives};
 ghost use Rattle.p3_syntax.specs.Trees.{each_goal, goal_by, the_named};
 
 use crate::error::Fault;
-use crate::tree::formulas::formula;
-use crate::tree::lists::{fitted, room, variables};
+use crate::tree::formulas::{formula, formula_by};
+use crate::tree::lists::{room_for, variables};
 use crate::tree::parts::{headed, pair, parts};
 use crate::tree::tests::is;
 use crate::tree::words::{TextWord, name};
@@ -57,11 +57,11 @@ fn goals(alloc: Global, parts: Parts<'_, '_>) -> Result<List<PreGoal>, Fault>
     ensures { Gives (λ trees. trees) result (each_at goal_place (expressions_of parts.entry)) }
 {
     let mut left = parts;
-    let mut found = room(alloc, 2)?;
+    let mut found = room_for(alloc, parts)?;
     while let Some(view) = left.next() {
         found.push(goal(alloc, view)?)?;
     }
-    Ok(fitted(found))
+    Ok(found)
 }
 
 #[inline(never)]
@@ -79,13 +79,8 @@ fn each_form(alloc: Global, behind: Parts<'_, '_>) -> Result<PreGoal, Fault>
 /// The goal of a list by its first word.
 #[cycle(goal)]
 #[tactic(auto, using(crate::proofs::TreeLemmas::trees_listed, crate::proofs::GoalLemmas::preference_listed))]
-fn goal_by(
-    alloc: Global,
-    view: View<'_, '_>,
-    word: TextWord<'_>,
-    behind: Parts<'_, '_>,
-) -> Result<PreGoal, Fault>
-    ensures { Gives (λ tree. tree) result (goal_by view.entry word.entry behind.entry) }
+fn goal_by(alloc: Global, word: TextWord<'_>, behind: Parts<'_, '_>) -> Result<PreGoal, Fault>
+    ensures { Gives (λ tree. tree) result (goal_by word.entry behind.entry) }
 {
     if is(word.text, b"and") {
         Ok(PreGoal::Both(goals(alloc, behind)?))
@@ -101,7 +96,7 @@ fn goal_by(
         };
         Ok(PreGoal::Soft(Boxed::new(alloc, pref)?))
     } else {
-        Ok(PreGoal::Plain(formula(alloc, view)?))
+        Ok(PreGoal::Plain(formula_by(alloc, word, behind)?))
     }
 }
 
@@ -112,7 +107,7 @@ pub fn goal(alloc: Global, view: View<'_, '_>) -> Result<PreGoal, Fault>
     ensures { Gives (λ tree. tree) result (goal_place (expression_of view.entry)) }
 {
     let list = headed(parts(view)?)?;
-    goal_by(alloc, view, list.word, list.behind)
+    goal_by(alloc, list.word, list.behind)
 }
 
 /// A precondition or goal, where an empty list means that nothing is asked.

@@ -1,6 +1,6 @@
 //! Terms, types, and lists of typed names.
 
-ghost use Rattle.std.specs.Prelude.{◌≡◌, [], IfOk};
+ghost use Rattle.std.specs.Prelude.{◌≡◌, [], length, IfOk};
 ghost use Rattle.p3_tree.specs.Grammar.Words.{each_at, name_place, variable_place};
 ghost use Rattle.p3_tree.specs.Grammar.Lists.{term_place, object_place, type_place, one_type_place, variables_in, variables_place, objects_in, either_in};
 ghost use Rattle.p3_outline.specs.Nodes.{expression_of, expressions_of};
@@ -31,24 +31,46 @@ pub fn term(alloc: Global, view: View<'_, '_>) -> Result<Term, Fault>
     }
 }
 
-/// The same items, in no more room than they take.
-pub fn fitted<T>(list: List<T>) -> List<T>
-    ensures { result ≡ list }
+/// Counts parts.
+fn count(parts: Parts<'_, '_>) -> usize
+    ensures { result ≡ length (expressions_of parts.entry) }
 {
-    let mut items = list.into_items();
-    items.shrink_to_fit();
-    List::from(items)
+    let mut left = parts;
+    let mut count = 0;
+    while let Some(_) = left.next() {
+        count += 1;
+    }
+    count
+}
+
+/// Makes room for as many items as the parts, and puts none there yet.
+pub fn room_for<T>(alloc: Global, parts: Parts<'_, '_>) -> Result<List<T>, NoMemory>
+    ensures { IfOk result (λ list. list ≡ []) }
+{
+    room(alloc, count(parts))
 }
 
 /// No item yet, and room for so many.
-pub fn room<T>(alloc: Global, count: usize) -> Result<List<T>, NoMemory>
+fn room<T>(alloc: Global, count: usize) -> Result<List<T>, NoMemory>
     ensures { IfOk result (λ list. list ≡ []) }
 {
     Ok(List::from(Vec::with_capacity(alloc, count)?))
 }
 
-/// The terms of parts.
+/// Reads the terms of parts, of which most lists have none.
 pub fn terms(alloc: Global, parts: Parts<'_, '_>) -> Result<List<Term>, Fault>
+    ensures { Gives (λ terms. terms) result (each_at term_place (expressions_of parts.entry)) }
+{
+    let mut behind = parts;
+    match behind.next() {
+        None => Ok(List::new(alloc)),
+        Some(_) => each_term(alloc, parts),
+    }
+}
+
+/// Reads each of the terms of parts.
+#[inline(never)]
+fn each_term(alloc: Global, parts: Parts<'_, '_>) -> Result<List<Term>, Fault>
     ensures { Gives (λ terms. terms) result (each_at term_place (expressions_of parts.entry)) }
 {
     let mut left = parts;

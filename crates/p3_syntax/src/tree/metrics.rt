@@ -7,7 +7,7 @@ ghost use Rattle.p3_syntax.specs.Trees.{listed};
 ghost use Rattle.p3_syntax.specs.Metrics.{num_at, violated_at, nums_at};
 
 use crate::error::Fault;
-use crate::tree::lists::{fitted, room};
+use crate::tree::lists::room_for;
 use crate::tree::numerals::numeral;
 use crate::tree::parts::{HeadedParts, headed, only, pair};
 use crate::tree::tests::is;
@@ -59,11 +59,11 @@ fn nums(alloc: Global, parts: Parts<'_, '_>) -> Result<List<Num>, Fault>
     ensures { Gives (λ nums. nums) result (nums_at parts.entry) }
 {
     let mut left = parts;
-    let mut found = room(alloc, 2)?;
+    let mut found = room_for(alloc, parts)?;
     while let Some(view) = left.next() {
         found.push(num(alloc, view)?)?;
     }
-    Ok(fitted(found))
+    Ok(found)
 }
 
 /// `(-` num `)` or `(-` num num `)`.

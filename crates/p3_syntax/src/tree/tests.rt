@@ -2,17 +2,33 @@
 
 ghost use Rattle.std.specs.Prelude.{◌≡◌, take, drop, not, ◌&&◌};
 ghost use Rattle.std.specs.Str.{str_to_ascii_lowercase};
+ghost use Rattle.std.specs.Char.{eq_ignore_ascii_case};
 ghost use Rattle.p3_base.specs.Words.{is_name, is_variable, is_predicate_name, is_function_name, reserved_words, has_name};
 ghost use Rattle.p3_tree.specs.Names.{same_name};
 ghost use Rattle.p3_syntax.specs.Trees.{is_free};
 
+/// Tells whether two bytes are alike, but for the case of letters. Most that are alike are the same.
+fn are_alike(byte: u8, other: u8) -> bool
+    ensures { result ≡ eq_ignore_ascii_case other byte }
+{
+    byte == other || other.eq_ignore_ascii_case(&byte)
+}
+
 /// Whether a word is the text, which has no capital letter.
-#[tactic(auto, using(p3_places::proofs::WordLemmas::same_lowered))]
+#[tactic(auto, using(crate::proofs::WordLemmas::one_more, crate::proofs::WordLemmas::unlike, crate::proofs::WordLemmas::all_alike))]
 pub fn is(word: &[u8], text: &[u8]) -> bool
     requires { str_to_ascii_lowercase text.now ≡ text.now }
     ensures { result ≡ same_name text.now (str_to_ascii_lowercase word.now) }
 {
-    word.eq_ignore_ascii_case(text)
+    if word.len() != text.len() {
+        return false;
+    }
+    for i in 0..text.len() {
+        if !are_alike(word[i], text[i]) {
+            return false;
+        }
+    }
+    true
 }
 
 /// Whether a word is a name.

@@ -5,7 +5,7 @@ ghost use Rattle.std.specs.Str.{str_to_ascii_lowercase};
 ghost use Rattle.p3_tree.specs.Grammar.Words.{word_place, name_place, variable_place, function_place, predicate_place, is_word};
 ghost use Rattle.p3_outline.specs.Nodes.{expression_of};
 ghost use Rattle.p3_syntax.specs.Reading.{Gives};
-ghost use Rattle.p3_syntax.specs.Trees.{the_word};
+ghost use Rattle.p3_syntax.specs.Trees.{the_word, expression_at};
 
 use crate::error::Fault;
 use crate::tree::tests::{is, is_function_name, is_name, is_predicate_name, is_variable};
@@ -95,14 +95,20 @@ pub fn function(alloc: Global, view: View<'_, '_>) -> Result<Ref, Fault>
     }
 }
 
-/// The name of a predicate.
-pub fn predicate(alloc: Global, view: View<'_, '_>) -> Result<Ref, Fault>
-    ensures { Gives (λ name. name) result (predicate_place (expression_of view.entry)) }
+/// Reads the name of a predicate that a word is.
+pub fn predicate_word(alloc: Global, word: TextWord<'_>) -> Result<Ref, Fault>
+    ensures { Gives (λ name. name) result (predicate_place (expression_at word.entry)) }
 {
-    let word = word(view)?;
     if is_predicate_name(word.text) {
         Ok(copied(alloc, word)?)
     } else {
         Err(Fault::Malformed)
     }
+}
+
+/// The name of a predicate.
+pub fn predicate(alloc: Global, view: View<'_, '_>) -> Result<Ref, Fault>
+    ensures { Gives (λ name. name) result (predicate_place (expression_of view.entry)) }
+{
+    predicate_word(alloc, word(view)?)
 }

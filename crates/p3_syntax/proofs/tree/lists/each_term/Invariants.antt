@@ -2,7 +2,7 @@ use Rattle.std.proofs.Common.{◌≡◌, ◌++◌, length, Some}
 use Rattle.p3_tree.specs.Grammar.Words.{◌>>=◌, each_at}
 use Rattle.p3_tree.specs.Grammar.Lists.{term_place}
 use Rattle.p3_outline.specs.Nodes.{expressions_of}
-use Rattle.p3_syntax.proofs.tree.lists.terms.Given as goal
+use Rattle.p3_syntax.proofs.tree.lists.each_term.Given as goal
 
 -- what is found and what is left make up the whole
 abbrev pub invariant-loop-view : goal.invariant-loop-view
