@@ -1,7 +1,7 @@
 """Families of tasks and plans: steps, effects, constraints, preferences, metrics, plans, large and deep goals."""
 import random
 
-from hostile.texts import FAMILIES, NO_GOAL, ONE_ATOM, domain, each, family, numbered, problem
+from hostile.texts import FAMILIES, NO_GOAL, ONE_ACTION, ONE_ATOM, domain, each, family, numbered, problem
 
 
 # Actions, steps.
@@ -38,6 +38,15 @@ def reach_chain_backwards(n):
             *['(:action a%d :precondition (p%d) :effect (p%d))' % (i, n - i - 1, n - i) for i in range(n)]
         ),
         p=problem('(:init (p0))', '(:goal (p1))'),
+    )
+
+
+@family([25000, 50000, 100000, 200000])
+def lists_scanned_in_vain(n):
+    """Short lists in one another, of which the last word alone may be a construct that is left out."""
+    return dict(
+        d=domain(ONE_ATOM, ONE_ACTION),
+        p=problem('(:init)', '(:goal (and ' + each('(p ' * 19 + '=' + ')' * 19, n) + '))'),
     )
 
 
