@@ -76,7 +76,7 @@ negated_nodes (Not' shape (more_of-Form part rest)) = omega arith
 negated_nodes (And' shape parts) = let h = nodes-Not (And' shape parts) in omega arith
 negated_nodes (Or' shape parts) = let h = nodes-Not (Or' shape parts) in omega arith
 
-joined_nodes : (every : Bool) (parts : List Form) → nodes (joined every parts) ≤ 1 + sum_by nodes parts
+pub joined_nodes : (every : Bool) (parts : List Form) → nodes (joined every parts) ≤ 1 + sum_by nodes parts
 unfolding nodes
 joined_nodes true [] = omega arith
 joined_nodes false [] = omega arith
@@ -85,11 +85,11 @@ joined_nodes true (part ∷ other ∷ parts) = let h = nodes-And (part ∷ other
 joined_nodes false (part ∷ other ∷ parts) = let h = nodes-Or (part ∷ other ∷ parts) in omega arith
 
 -- one more part is kept, or skipped
-more_nodes : (kept : List Form) (part : Form) (rest : List Form) (total : ℕ)
+pub more_nodes : (kept : List Form) (part : Form) (rest : List Form) (total : ℕ)
     → total ≤ 1 + (sum_by nodes (kept ++ part ∷ []) + sum_by nodes rest) → total ≤ 1 + (sum_by nodes kept + sum_by nodes (part ∷ rest))
 more_nodes kept part rest total h = let p = sum_by_push nodes kept part in let q = sum_by-cons nodes part rest in omega arith
 
-skip_nodes : (kept : List Form) (part : Form) (rest : List Form) (total : ℕ)
+pub skip_nodes : (kept : List Form) (part : Form) (rest : List Form) (total : ℕ)
     → total ≤ 1 + (sum_by nodes kept + sum_by nodes rest) → total ≤ 1 + (sum_by nodes kept + sum_by nodes (part ∷ rest))
 skip_nodes kept part rest total h = let q = sum_by-cons nodes part rest in omega arith
 

@@ -3,6 +3,10 @@ pub mod SimplifiedLemmas
 pub mod TruthLaws
 pub mod AtomLaws
 pub mod AtomLists
+pub mod LiteralLaws
+pub mod SettledTruth
+pub mod SettledLaws
+pub mod TrimmedLaws
 pub mod TidyLaws
 pub mod Worked
 pub mod NextLaws
@@ -12,6 +16,7 @@ pub mod SameLemmas
 pub mod LossLaws
 pub mod ReadAtoms
 pub mod WatchedLaws
+pub mod LastingLaws
 pub mod KeptLaws
 pub mod WorkedOperators
 pub mod NodeLemmas

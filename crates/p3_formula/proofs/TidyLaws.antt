@@ -88,7 +88,7 @@ negation : (form : Form) → is_tidy_part form ≡ true → (look form).negation
 unfolding look hidden-the_row-Form-0 hidden
 negation form fits positive = and_from (look form).fits (not (look form).negation) fits (ap not positive)
 
-negated_tidy : (form : Form) → is_tidy form ≡ true → is_tidy (negated form) ≡ true
+pub negated_tidy : (form : Form) → is_tidy form ≡ true → is_tidy (negated form) ≡ true
 unfolding look
 negated_tidy True h = refl
 negated_tidy False h = refl

@@ -8,6 +8,7 @@ pub mod Constructors
 pub mod Guards
 pub mod Modals
 pub mod Kept
+pub mod Lasting
 pub mod Weighted
 pub mod Targets
 pub mod Tidy
@@ -16,4 +17,7 @@ pub mod Simplified
 pub mod Nodes
 pub mod Conditions
 pub mod AtomLists
+pub mod Literals
+pub mod Settled
+pub mod Trimmed
 pub mod Unconditional

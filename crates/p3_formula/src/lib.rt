@@ -9,15 +9,19 @@ mod copy;
 mod evaluation;
 mod form;
 mod guards;
+mod known;
 mod laws;
+mod literals;
 mod modal;
 mod node;
 mod same;
+mod settled;
 mod simpler;
 mod table;
 mod target;
 mod task;
 mod tidy;
+mod trimmed;
 
 pub use atoms::is_free_of;
 pub use bits::Bits;
@@ -25,13 +29,18 @@ pub use copy::{change_copied, copied, effects_copied, fitted};
 pub use evaluation::eval;
 pub use form::{Change, Effects, Form};
 pub use guards::{guarded, guarding, turned};
+pub use known::Known;
 pub use laws::{
-    alike_changes_make_the_same_state, copies_count_as_their_step, states_agree_after_changes,
+    alike_changes_make_the_same_state, broken_constraints_stay_broken, copies_count_as_their_step,
+    states_agree_after_changes,
 };
+pub use literals::{Literal, fixed_by};
 pub use modal::{Forms, GroundModal, GroundPref, GroundSoft};
 pub use node::Node;
 pub use same::same_form;
+pub use settled::{simplified_under, simplify_under};
 pub use simpler::{negate, push_spread, simplify, tidied};
 pub use table::Table;
 pub use target::{Target, TargetAction, Weights};
 pub use task::{GroundStep, GroundTask};
+pub use trimmed::effects_trimmed;

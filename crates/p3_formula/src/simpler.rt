@@ -51,7 +51,7 @@ pub fn tidied(alloc: Global, form: Form) -> Result<Form, NoMemory>
 
 /// The opposite, with no negation of a constant or of a negation.
 #[tactic(auto, using(crate::proofs::SimplifiedLemmas::negated_laws))]
-fn negated(alloc: Global, form: Form) -> Result<Form, NoMemory>
+pub(crate) fn negated(alloc: Global, form: Form) -> Result<Form, NoMemory>
     ensures { IfOk result (λ opposite. opposite ≡ made.negated form) }
 {
     match form {
@@ -65,14 +65,14 @@ fn negated(alloc: Global, form: Form) -> Result<Form, NoMemory>
 }
 
 /// The constant of that value.
-fn constant(value: bool) -> Form
+pub(crate) fn constant(value: bool) -> Form
     ensures { result ≡ made.constant value }
 {
     if value { Form::True } else { Form::False }
 }
 
 /// Whether the form is the constant of that value.
-fn is_value(form: &Form, value: bool) -> bool
+pub(crate) fn is_value(form: &Form, value: bool) -> bool
     ensures { result ≡ made.is_value value form.now }
 {
     match form {
@@ -83,7 +83,7 @@ fn is_value(form: &Form, value: bool) -> bool
 }
 
 /// The conjunction of the parts, or else their disjunction, where there are two or more.
-fn joined(mut parts: Vec<Form>, every: bool) -> Form
+pub(crate) fn joined(mut parts: Vec<Form>, every: bool) -> Form
     ensures { result ≡ made.joined every parts.items }
 {
     if parts.len() > 1 {
@@ -108,7 +108,7 @@ fn together(parts: List<Form>, every: bool) -> Form
 }
 
 /// The parts stand behind the others.
-fn push_all(kept: &mut Vec<Form>, parts: List<Form>) -> Result<(), NoMemory>
+pub(crate) fn push_all(kept: &mut Vec<Form>, parts: List<Form>) -> Result<(), NoMemory>
     ensures { OnOk result (kept.new.items ≡ kept.old.items ++ parts) }
 {
     let mut parts = parts.into_items();
@@ -117,7 +117,7 @@ fn push_all(kept: &mut Vec<Form>, parts: List<Form>) -> Result<(), NoMemory>
 }
 
 /// The part stands behind the others.
-fn push_one(kept: &mut Vec<Form>, part: Form) -> Result<(), NoMemory>
+pub(crate) fn push_one(kept: &mut Vec<Form>, part: Form) -> Result<(), NoMemory>
     ensures { OnOk result (kept.new.items ≡ kept.old.items ++ part ∷ []) }
 {
     kept.push(part)?;

@@ -1,0 +1,92 @@
+//! What is known of atoms.
+
+ghost use Rattle.std.specs.Prelude.{◌≡◌, ◌++◌, ◌∷◌, [], None, true, IfOk, OnOk, IsTrue};
+ghost use Rattle.std.specs.List.{list_all};
+ghost use Rattle.p3_formula.specs.Forms.{State, truth};
+ghost use Rattle.p3_formula.specs.Literals.{fixed, is_met, said_of, with_all, with_one};
+
+use crate::Form;
+use crate::literals::{Literal, fixed_by};
+use indexmap::IndexMap;
+use p3_base::NoMemory;
+use std::alloc::Global;
+use std::marker::Model;
+
+/// Literals of different atoms.
+#[derive(Drop)]
+pub struct Known {
+    bits: IndexMap<usize, bool>,
+}
+
+impl Model for Known {
+    ghost use Rattle.std.specs.Prelude.{List};
+    ghost use Rattle.p3_formula.specs.Literals.{literals_of};
+    ghost use Rattle.p3_formula.specs.declared.literals.Literal.{Literal};
+
+    ghost Value = { List Literal };
+
+    ghost view = { λ known. literals_of known.bits.entries };
+}
+
+impl Known {
+    /// Nothing is known.
+    pub fn new(alloc: Global) -> Known
+        ensures { result ≡ [] }
+    {
+        Known {
+            bits: IndexMap::new(alloc),
+        }
+    }
+
+    /// What is known where the form holds: its atoms that are joined by conjunctions alone, also under
+    /// the negation of disjunctions. Of an atom that stands there twice it is what is said first.
+    #[tactic(auto, using(crate::proofs::LiteralLaws::known_law))]
+    pub fn where_holds(alloc: Global, form: &Form) -> Result<Known, NoMemory>
+        ensures value { IfOk result (λ known. known ≡ with_all [] (fixed form.now true)) }
+        ensures law { IfOk result (λ known. (state : State) → IsTrue (truth state form.now)
+            → IsTrue (list_all (is_met state) known)) }
+    {
+        let literals = fixed_by(alloc, form)?;
+        let mut known = Known::new(alloc);
+        known.note_all(&literals)?;
+        Ok(known)
+    }
+
+    /// The literals are known too, each where nothing is of its atom.
+    pub fn note_all(&mut self, literals: &[Literal]) -> Result<(), NoMemory>
+        ensures { OnOk result (self.new ≡ with_all self.old literals.now) }
+    {
+        for literal in literals {
+            self.note_once(*literal)?;
+        }
+        Ok(())
+    }
+
+    /// What is known of the atom.
+    #[tactic(auto, using(crate::proofs::LiteralLaws::said_entry))]
+    pub fn of(&self, atom: usize) -> Option<bool>
+        ensures { result ≡ said_of self.now atom }
+    {
+        self.bits.get(&atom).copied()
+    }
+
+    /// The literal is known too, where nothing is of its atom.
+    pub fn note_once(&mut self, literal: Literal) -> Result<(), NoMemory>
+        ensures { OnOk result (self.new ≡ with_one self.old literal) }
+    {
+        if self.of(literal.atom).is_some() {
+            return Ok(());
+        }
+        self.note(literal)
+    }
+
+    /// The literal is known too.
+    #[tactic(auto, using(crate::proofs::LiteralLaws::note_laws))]
+    pub(crate) fn note(&mut self, literal: Literal) -> Result<(), NoMemory>
+        requires { said_of self.old literal.atom ≡ None }
+        ensures { OnOk result (self.new ≡ self.old ++ literal ∷ []) }
+    {
+        self.bits.insert(literal.atom, literal.holds)?;
+        Ok(())
+    }
+}
