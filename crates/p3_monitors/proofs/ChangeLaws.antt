@@ -6,7 +6,7 @@ use Rattle.std.proofs.lemmas.Bool.Decides.{nat_tests}
 use Rattle.std.proofs.Math.Bool.{not-not}
 use Rattle.std.proofs.lemmas.List.{length-append}
 use Rattle.std.proofs.lemmas.List.Folds.{list_any-append}
-use Rattle.p3_formula.specs.Forms.{State, is_set, truth, has_atoms}
+use Rattle.p3_formula.specs.Forms.{State, is_set, truth, has_atoms, IsBelow}
 use Rattle.p3_formula.specs.GroundPlans.{last_of}
 use Rattle.p3_formula.specs.Next.{is_set_after, after}
 use Rattle.p3_formula.specs.declared.form.Change.{Change}
@@ -14,6 +14,7 @@ use Rattle.p3_formula.specs.declared.form.Form.{Form}
 use Rattle.p3_formula.specs.declared.modal.GroundModal.{GroundModal}
 use Rattle.p3_formula.proofs.NextLaws.{length-after, is_set-after, is_set-beyond, is_set_after-front, is_set_after-back, truth-agree}
 use Rattle.p3_regress.specs.Regressed.{IsTrueBefore}
+use Rattle.p3_regress.specs.Turned.{IsTurnBefore}
 use Rattle.p3_formula.specs.Kept.{is_own, atom_count, watched, AreAt, Kept}
 use Rattle.p3_formula.specs.Modals.{is_read, IsModalBelow, Agree}
 use Rattle.p3_monitors.specs.KeepsOn.{HasNone, AreOwn, AreOthers, KeepsOn}
@@ -112,13 +113,24 @@ module _ {base : ℕ} {modal : GroundModal} {step effects : List Change} (stage 
     pub truth_now : truth stage.state form ≡ truth (last_of stage.W) form
     truth_now = truth-agree stage.state (last_of stage.W) (is_read modal) stage.kept.carries.agrees form reads
 
-    -- and after it, as its regressed form tells before it
+    within : IsBelow (length stage.state) form
+    within = let room = inside in has_more (is_read modal) (λ atom. nat_lt atom (length stage.state)) (λ atom read. let lt = read_below base modal stage.below atom read in lt-ltb atom (length stage.state) (omega arith)) form reads
+
+    -- and after it
+    later : truth (after stage.state step) form ≡ truth stage.next form
+    later = truth-agree (after stage.state step) reached (is_read modal) (λ atom read. sym (read_after atom read)) form reads ∙ truth-agree reached stage.next (is_read modal) stage.agree form reads
+
+    -- so its regressed form tells before the step
     pub truth_later : (before : Form) → IsTrueBefore step form before → truth stage.state before ≡ truth stage.next form
-    truth_later before regressed =
-        let room = inside in
-        regressed stage.state (has_more (is_read modal) (λ atom. nat_lt atom (length stage.state)) (λ atom read. let lt = read_below base modal stage.below atom read in lt-ltb atom (length stage.state) (omega arith)) form reads)
-        ∙ truth-agree (after stage.state step) reached (is_read modal) (λ atom read. sym (read_after atom read)) form reads
-        ∙ truth-agree reached stage.next (is_read modal) stage.agree form reads
+    truth_later before regressed = regressed stage.state within ∙ later
+
+    -- where the form is not yet turned, what tells of its turns tells so too, and it tells of no turn that is none
+    module _ (up : Bool) (before : Form) (turned : IsTurnBefore up step form before) where
+      pub turned_later : truth (last_of stage.W) form ≡ not up → truth stage.state before ≡ truth stage.next form
+      turned_later now = turned.turns stage.state within (truth_now ∙ now) ∙ later
+
+      pub turned_only : truth stage.next form ≡ not up → truth stage.state before ≡ not up
+      turned_only reached_it = turned.only stage.state within (later ∙ reached_it)
 
   -- with the right bits, the monitor is kept
   keeps : AreAt base (watched (stage.W ++ stage.next ∷ []) modal) reached → Kept base modal (stage.W ++ stage.next ∷ []) reached

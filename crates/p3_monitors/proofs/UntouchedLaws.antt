@@ -20,6 +20,7 @@ use Rattle.p3_monitors.specs.KeepsOn.{HasNone, KeepsOn}
 use Rattle.p3_monitors.specs.Riders.{RidesUntouched}
 use Rattle.p3_formula.proofs.ReadAtoms.{reads, has_more}
 use Rattle.p3_formula.proofs.WatchedLaws.{length-watched, last-next, each-next, some-next, came-next, awaited-next, early-next}
+use Rattle.p3_monitors.proofs.LastLaws.{ended}
 use Rattle.p3_monitors.proofs.ChangeLaws.{Stage, reached, own_after, truth_now, truth_later, keeps_on, none_named}
 
 -- ---- one state more in which each form is as in the last
@@ -94,19 +95,6 @@ module _ (V : List State) (s next : State) where
       let e = same f both.0 in
       let d = same g (and_parts _ _ both.1).0 in
       λ i. some-still g d i ∷ early-still f g e d i ∷ []
-
--- a list that is not empty has a last item
-record Ended (W : List State) : Type 0 where
-  front : List State
-  last : State
-  is : W ≡ front ++ last ∷ []
-
-ended : (W : List State) → 1 ≤ length W → Ended W
-ended [] some = absurd (omega (arith, some))
-ended (s ∷ []) some = record { front = []; last = s; is = refl }
-ended (s ∷ t ∷ W) some =
-    let rest = ended (t ∷ W) (omega arith) in
-    record { front = s ∷ rest.front; last = rest.last; is = ap (λ list. s ∷ list) rest.is }
 
 -- ---- the monitor's atoms
 

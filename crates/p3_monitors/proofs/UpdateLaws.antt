@@ -2,14 +2,15 @@
 use Rattle.std.proofs.Common.{◌≡◌, ◌∙◌, ℕ, ◌+◌, ◌≤◌, ◌<◌, ◌==◌, Bool, true, false, not, ◌&&◌, ◌||◌, List, [], ◌∷◌, length, sum_by, Result, refl, sym, ap, subst, arith}
 use Rattle.std.specs.Prelude.{IfOk}
 use Rattle.std.specs.List.{list_all}
-use Rattle.std.proofs.lemmas.Bool.{and_parts, and_from}
+use Rattle.std.proofs.lemmas.Bool.{and_parts, and_from, not-true}
 use Rattle.std.proofs.lemmas.Bool.Decides.{nat_tests}
 use Rattle.std.proofs.lemmas.List.Sums.{sum_by-cons}
 use Rattle.std.proofs.lemmas.Result.{IfOk-weaker}
-use Rattle.std.proofs.Math.Bool.{or-false, not-not}
+use Rattle.std.proofs.Math.Bool.{and-false, or-false, or-true, not-not}
 use Rattle.p3_formula.specs.Forms.{State, is_set, truth, has_atoms, nodes}
-use Rattle.p3_base.specs.Trajectories.{each, came_back, is_awaited, came_early}
+use Rattle.p3_base.specs.Trajectories.{each, some, came_back, is_awaited, came_early}
 use Rattle.p3_formula.specs.GroundSat.{holds_at}
+use Rattle.p3_formula.specs.GroundPlans.{last_of}
 use Rattle.p3_formula.specs.Constructors.{both}
 use Rattle.p3_formula.specs.Next.{is_set_after}
 use Rattle.p3_formula.specs.declared.form.Change.{Change}
@@ -20,14 +21,16 @@ use Rattle.p3_formula.specs.declared.modal.GroundModal.TheVariants as modal
 use Rattle.p3_formula.proofs.FormLemmas.{truth-Atom, truth-Not, truth-both, has_atoms-Atom, has_atoms-Not, has_atoms-both, nodes-Atom, nodes-Not, nodes-both}
 use Rattle.p3_formula.proofs.NextLaws.{is_set_after-front, is_set_after-back}
 use Rattle.p3_regress.specs.Regressed.{growth}
+use Rattle.p3_regress.proofs.TurnedLaws.{growth-both, growth-Not}
 use Rattle.p3_formula.specs.Kept.{is_own}
 use Rattle.p3_formula.specs.Modals.{forms_of, is_read, IsModalBelow}
 use Rattle.p3_monitors.specs.KeepsOn.{AreOwn, condition_nodes}
-use Rattle.p3_monitors.specs.Updates.{IsRegressed, IsUpdate, change, joint, joint_behind, ceased, always, sometime, at_most_once, sometime_after, sometime_before}
+use Rattle.p3_monitors.specs.Updates.{IsTurned, IsUpdate, change, awaits, joint, joint_behind, ceased, always, sometime, at_most_once, sometime_after, sometime_before}
 use Rattle.p3_formula.proofs.ReadAtoms.{same_number, reads}
 use Rattle.p3_formula.proofs.WatchedLaws.{each-next, some-next, came-next, awaited-next, early-next}
 use Rattle.p3_monitors.proofs.JointLaws.{truth-joint, truth-behind, has_atoms-joint, has_atoms-behind, nodes-joint, nodes-behind}
-use Rattle.p3_monitors.proofs.ChangeLaws.{own_from, own_after, truth_now, truth_later, keeps_on, set_by, cleared_by}
+use Rattle.p3_monitors.proofs.ChangeLaws.{own_from, own_after, truth_now, turned_later, turned_only, keeps_on, set_by, cleared_by}
+use Rattle.p3_monitors.proofs.LastLaws.{each_last, some_last, awaited_last, unawaited_last, early_last}
 
 module _ {A : Type 0} (size : A → ℕ) where
   one_sum : (one : A) → sum_by size (one ∷ []) ≡ size one
@@ -83,16 +86,32 @@ module _ (state : State) (base : ℕ) (first second : Form) where
 both_own : (base : ℕ) (first second : Form) (modal : GroundModal) → is_own base modal base ≡ true → is_own base modal (base + 1) ≡ true → AreOwn base modal (change true base first ∷ change true (base + 1) second ∷ [])
 both_own base first second modal h k = and_from (is_own base modal base) _ h (and_from (is_own base modal (base + 1)) true k refl)
 
+-- what is told matters only where the old bit leaves it open
+agree_and : (old later next : Bool) → (old ≡ true → later ≡ next) → (old && later) ≡ (old && next)
+agree_and true later next h = h refl
+agree_and false later next h = refl
+
+agree_or : (old later next : Bool) → (old ≡ false → later ≡ next) → (old || later) ≡ (old || next)
+agree_or true later next h = refl
+agree_or false later next h = h refl
+
+agree_back : (held was later next : Bool) → (was ≡ false → later ≡ next) → ((held && not was) && later) ≡ ((held && not was) && next)
+agree_back held was later next h = agree_and (held && not was) later next (λ ceased. h (not-true was (and_parts held (not was) ceased).1))
+
+agree_early : (early held later next : Bool) → (early ≡ false → held ≡ false → later ≡ next) → (early || (later && not held)) ≡ (early || (next && not held))
+agree_early true held later next h = refl
+agree_early false true later next h = and-false later ∙ sym (and-false next)
+agree_early false false later next h = ap (λ b. b && true) (h refl refl)
+
 -- waiting goes on where the answer does not come, and begins so
-awaiting : (old now answer : Bool) → (now && not answer || (old && not answer)) ≡ ((old || now) && not answer)
-awaiting true true true = refl
-awaiting true true false = refl
-awaiting true false true = refl
-awaiting true false false = refl
-awaiting false true true = refl
-awaiting false true false = refl
-awaiting false false true = refl
-awaiting false false false = refl
+awaiting : (old met awaited first second : Bool) → (old ≡ true → met ≡ second) → (old ≡ false → awaited ≡ (first && not second)) → ((first && not second) ≡ false → awaited ≡ false)
+    → (awaited || (old && not met)) ≡ ((old || first) && not second)
+awaiting true met awaited first true answers begins only = λ i. only (and-false first) i || not (answers refl i)
+awaiting true met awaited first false answers begins only = ap (λ b. awaited || not b) (answers refl) ∙ or-true awaited
+awaiting false met awaited first second answers begins only = or-false awaited ∙ begins refl
+
+truth-awaits : (state : State) (f g : Form) → truth state (awaits f g) ≡ (truth state f && not (truth state g))
+truth-awaits state f g = truth-both state f (Not g) ∙ ap (λ b. truth state f && b) (truth-Not state g)
 
 module _ (base : ℕ) (step : List Change) where
   pub at_end_update : (f : Form) → IsModalBelow base (modal.AtEnd f) → IsUpdate base (modal.AtEnd f) step []
@@ -104,19 +123,21 @@ module _ (base : ℕ) (step : List Change) where
     size = omega arith;
   }
 
-  module _ (f later : Form) (made : IsRegressed step f later) where
+  module _ (f later : Form) where
     -- a constraint of one form
     module _ (operator : GroundModal) (one : forms_of operator ≡ f ∷ []) where
       reads_it : has_atoms (is_read operator) f ≡ true
       reads_it = (and_parts _ _ (sym (ap (list_all (has_atoms (is_read operator))) one) ∙ reads operator)).0
 
-    pub always_update : IsModalBelow base (modal.Always f) → IsUpdate base (modal.Always f) step (always base later)
-    always_update below = record {
+    pub always_update : IsTurned false step f later → IsModalBelow base (modal.Always f) → IsUpdate base (modal.Always f) step (always base later)
+    always_update made below = record {
       kept = keeps_on base (modal.Always f) step (always base later) below mine (λ stage. (
         own_after stage base (at_base base) (in_one base)
             ∙ cleared_by stage.state base (Not later)
             ∙ (λ i. stage.kept.carries.stand.0 i && not (truth-Not stage.state later i))
-            ∙ ap (λ b. each (length stage.W) (holds_at stage.W f) && b) (not-not (truth stage.state later) ∙ truth_later stage f (reads_it (modal.Always f) refl) later made.truth)
+            ∙ ap (λ b. each (length stage.W) (holds_at stage.W f) && b) (not-not (truth stage.state later))
+            ∙ agree_and (each (length stage.W) (holds_at stage.W f)) (truth stage.state later) (truth stage.next f)
+            (λ held. turned_later stage f (reads_it (modal.Always f) refl) false later made.truth (each_last stage.W stage.kept.visited f held))
             ∙ sym (each-next stage.W stage.next f),
         tt,
       ));
@@ -128,12 +149,14 @@ module _ (base : ℕ) (step : List Change) where
       mine : AreOwn base (modal.Always f) (always base later)
       mine = and_from (is_own base (modal.Always f) base) true (own_from base (modal.Always f) base (at_base base) (in_one base)) refl
 
-    pub sometime_update : IsModalBelow base (modal.Sometime f) → IsUpdate base (modal.Sometime f) step (sometime base later)
-    sometime_update below = record {
+    pub sometime_update : IsTurned true step f later → IsModalBelow base (modal.Sometime f) → IsUpdate base (modal.Sometime f) step (sometime base later)
+    sometime_update made below = record {
       kept = keeps_on base (modal.Sometime f) step (sometime base later) below mine (λ stage. (
         own_after stage base (at_base base) (in_one base)
             ∙ set_by stage.state base later
-            ∙ (λ i. stage.kept.carries.stand.0 i || truth_later stage f (reads_it (modal.Sometime f) refl) later made.truth i)
+            ∙ (λ i. stage.kept.carries.stand.0 i || truth stage.state later)
+            ∙ agree_or (some (length stage.W) (holds_at stage.W f)) (truth stage.state later) (truth stage.next f)
+            (λ none. turned_later stage f (reads_it (modal.Sometime f) refl) true later made.truth (some_last stage.W stage.kept.visited f none))
             ∙ sym (some-next stage.W stage.next f),
         tt,
       ));
@@ -145,20 +168,23 @@ module _ (base : ℕ) (step : List Change) where
       mine : AreOwn base (modal.Sometime f) (sometime base later)
       mine = and_from (is_own base (modal.Sometime f) base) true (own_from base (modal.Sometime f) base (at_base base) (in_one base)) refl
 
-    pub at_most_once_update : IsModalBelow base (modal.AtMostOnce f) → IsUpdate base (modal.AtMostOnce f) step (at_most_once base f later)
-    at_most_once_update below = record {
+    pub at_most_once_update : IsTurned true step f later → IsModalBelow base (modal.AtMostOnce f) → IsUpdate base (modal.AtMostOnce f) step (at_most_once base f later)
+    at_most_once_update made below = record {
       kept = keeps_on base (modal.AtMostOnce f) step (at_most_once base f later) below mine (λ stage.
-          let comes = truth_later stage f (reads_it (modal.AtMostOnce f) refl) later made.truth in
-          let was = truth_now stage f (reads_it (modal.AtMostOnce f) refl) in (
+          let comes = turned_later stage f (reads_it (modal.AtMostOnce f) refl) true later made.truth in
+          let was = truth_now stage f (reads_it (modal.AtMostOnce f) refl) in
+          let held = some (length stage.W) (holds_at stage.W f) in (
             own_after stage base (at_base base) (in_two base)
                 ∙ first_set stage.state base later back
-                ∙ (λ i. stage.kept.carries.stand.0 i || comes i)
+                ∙ (λ i. stage.kept.carries.stand.0 i || truth stage.state later)
+                ∙ agree_or held (truth stage.state later) (truth stage.next f) (λ none. comes (some_last stage.W stage.kept.visited f none))
                 ∙ sym (some-next stage.W stage.next f),
             (
               own_after stage (base + 1) (past_base base) (next_in_two base)
                   ∙ second_set stage.state base later back
                   ∙ (λ i. stage.kept.carries.stand.1.0 i || back_truth stage.state i)
-                  ∙ (λ i. came_back (length stage.W) (holds_at stage.W f) || ((stage.kept.carries.stand.0 i && not (was i)) && comes i))
+                  ∙ (λ i. came_back (length stage.W) (holds_at stage.W f) || ((stage.kept.carries.stand.0 i && not (was i)) && truth stage.state later))
+                  ∙ ap (λ b. came_back (length stage.W) (holds_at stage.W f) || b) (agree_back held (truth (last_of stage.W) f) (truth stage.state later) (truth stage.next f) comes)
                   ∙ sym (came-next stage.W stage.next f),
               tt,
             ),
@@ -184,53 +210,67 @@ module _ (base : ℕ) (step : List Change) where
       back_truth : (state : State) → truth state back ≡ ((is_set state base && not (truth state f)) && truth state later)
       back_truth state = truth-behind state (both (Atom base) (Not f)) later ∙ ap (λ b. b && truth state later) (truth-both state (Atom base) (Not f) ∙ (λ i. truth-Atom state base i && truth-Not state f i))
 
-  module _ (f g later answer : Form) (made : IsRegressed step f later) (other_made : IsRegressed step g answer) where
+  module _ (f g : Form) where
     -- a constraint of two forms
     module _ (operator : GroundModal) (two : forms_of operator ≡ f ∷ g ∷ []) where
       reads_both : (has_atoms (is_read operator) f ≡ true) × (has_atoms (is_read operator) g ≡ true)
       reads_both = let parts = and_parts _ _ (sym (ap (list_all (has_atoms (is_read operator))) two) ∙ reads operator) in (parts.0, (and_parts _ _ parts.1).0)
 
-    pub sometime_after_update : IsModalBelow base (modal.SometimeAfter f g) → IsUpdate base (modal.SometimeAfter f g) step (sometime_after base later answer)
-    sometime_after_update below = record {
-      kept = keeps_on base (modal.SometimeAfter f g) step (sometime_after base later answer) below mine (λ stage.
-          let comes = truth_later stage f (reads_both (modal.SometimeAfter f g) refl).0 later made.truth in
-          let answers = truth_later stage g (reads_both (modal.SometimeAfter f g) refl).1 answer other_made.truth in (
+    has_atoms-awaits : (allowed : ℕ → Bool) → has_atoms allowed f ≡ true → has_atoms allowed g ≡ true → has_atoms allowed (awaits f g) ≡ true
+    has_atoms-awaits allowed first second = has_atoms-both allowed f (Not g) first (has_atoms-Not allowed g ∙ second)
+
+    pub sometime_after_update : (met awaited : Form) → IsTurned true step g met → IsTurned true step (awaits f g) awaited
+        → IsModalBelow base (modal.SometimeAfter f g) → IsUpdate base (modal.SometimeAfter f g) step (sometime_after base met awaited)
+    sometime_after_update met awaited made other_made below = record {
+      kept = keeps_on base (modal.SometimeAfter f g) step (sometime_after base met awaited) below mine (λ stage.
+          let both_read = reads_both (modal.SometimeAfter f g) refl in
+          let answers = turned_later stage g both_read.1 true met made.truth in
+          let open_read = has_atoms-awaits (is_read (modal.SometimeAfter f g)) both_read.0 both_read.1 in
+          let begins = turned_later stage (awaits f g) open_read true awaited other_made.truth in
+          let only = turned_only stage (awaits f g) open_read true awaited other_made.truth in (
             own_after stage base (at_base base) (in_one base)
-                ∙ switched_by stage.state base answer (joint later (Not answer))
-                ∙ (λ i. truth-joint stage.state later (Not answer) i || (stage.kept.carries.stand.0 i && not (answers i)))
-                ∙ (λ i. (comes i && (truth-Not stage.state answer ∙ ap not answers) i) || (is_awaited (length stage.W) (holds_at stage.W f) (holds_at stage.W g) && not (truth stage.next g)))
-                ∙ awaiting (is_awaited (length stage.W) (holds_at stage.W f) (holds_at stage.W g)) (truth stage.next f) (truth stage.next g)
+                ∙ switched_by stage.state base met awaited
+                ∙ (λ i. truth stage.state awaited || (stage.kept.carries.stand.0 i && not (truth stage.state met)))
+                ∙ awaiting (is_awaited (length stage.W) (holds_at stage.W f) (holds_at stage.W g)) (truth stage.state met) (truth stage.state awaited) (truth stage.next f) (truth stage.next g)
+                (λ waits. answers (awaited_last stage.W stage.kept.visited f g waits))
+                (λ none. begins (truth-awaits (last_of stage.W) f g ∙ unawaited_last stage.W stage.kept.visited f g none) ∙ truth-awaits stage.next f g)
+                (λ none. only (truth-awaits stage.next f g ∙ none))
                 ∙ sym (awaited-next stage.W stage.next f g),
             tt,
           ));
       own = mine;
       atoms = λ allowed of own conds.
           let parts = and_parts (has_atoms allowed f) _ of in
-          let first = made.atoms allowed parts.0 conds in
-          let second = other_made.atoms allowed (and_parts _ _ parts.1).0 conds in
-          and_from (has_atoms allowed answer) _ second (and_from (has_atoms allowed (joint later (Not answer))) true (has_atoms-joint allowed later (Not answer) first (has_atoms-Not allowed answer ∙ second)) refl);
+          let second = (and_parts (has_atoms allowed g) true parts.1).0 in
+          and_from (has_atoms allowed met) _ (made.atoms allowed second conds)
+          (and_from (has_atoms allowed awaited) true (other_made.atoms allowed (has_atoms-awaits allowed parts.0 second) conds) refl);
       few = omega arith;
-      size = let b = nodes-joint later (Not answer) in let n = nodes-Not answer in let c : condition_nodes (sometime_after base later answer) ≡ nodes answer + nodes (joint later (Not answer)) = two_sum (λ c. nodes c.cond) (change false base answer) (change true base (joint later (Not answer))) in let m = two_sum nodes f g in let s = made.size in let o = other_made.size in let h = two_sum (growth step) f g in omega arith;
+      size = let b = nodes-both f (Not g) in let n = nodes-Not g in let p = growth-both step f (Not g) in let q = growth-Not step g in let c : condition_nodes (sometime_after base met awaited) ≡ nodes met + nodes awaited = two_sum (λ c. nodes c.cond) (change false base met) (change true base awaited) in let m = two_sum nodes f g in let s = made.size in let o = other_made.size in let h = two_sum (growth step) f g in omega arith;
     } where
-      mine : AreOwn base (modal.SometimeAfter f g) (sometime_after base later answer)
+      mine : AreOwn base (modal.SometimeAfter f g) (sometime_after base met awaited)
       mine =
           let h = own_from base (modal.SometimeAfter f g) base (at_base base) (in_one base) in
           and_from (is_own base (modal.SometimeAfter f g) base) _ h (and_from (is_own base (modal.SometimeAfter f g) base) true h refl)
 
-    pub sometime_before_update : IsModalBelow base (modal.SometimeBefore f g) → IsUpdate base (modal.SometimeBefore f g) step (sometime_before base later answer)
-    sometime_before_update below = record {
+    pub sometime_before_update : (later answer : Form) → IsTurned true step f later → IsTurned true step g answer → IsModalBelow base (modal.SometimeBefore f g)
+        → IsUpdate base (modal.SometimeBefore f g) step (sometime_before base later answer)
+    sometime_before_update later answer made other_made below = record {
       kept = keeps_on base (modal.SometimeBefore f g) step (sometime_before base later answer) below mine (λ stage.
-          let comes = truth_later stage f (reads_both (modal.SometimeBefore f g) refl).0 later made.truth in
-          let answers = truth_later stage g (reads_both (modal.SometimeBefore f g) refl).1 answer other_made.truth in (
+          let comes = turned_later stage f (reads_both (modal.SometimeBefore f g) refl).0 true later made.truth in
+          let answers = turned_later stage g (reads_both (modal.SometimeBefore f g) refl).1 true answer other_made.truth in
+          let held = some (length stage.W) (holds_at stage.W g) in
+          let early = came_early (length stage.W) (holds_at stage.W f) (holds_at stage.W g) in (
             own_after stage base (at_base base) (in_two base)
                 ∙ first_set stage.state base answer soon
-                ∙ (λ i. stage.kept.carries.stand.0 i || answers i)
+                ∙ (λ i. stage.kept.carries.stand.0 i || truth stage.state answer)
+                ∙ agree_or held (truth stage.state answer) (truth stage.next g) (λ none. answers (some_last stage.W stage.kept.visited g none))
                 ∙ sym (some-next stage.W stage.next g),
             (
               own_after stage (base + 1) (past_base base) (next_in_two base)
                   ∙ second_set stage.state base answer soon
                   ∙ (λ i. stage.kept.carries.stand.1.0 i || soon_truth stage.state i)
-                  ∙ (λ i. came_early (length stage.W) (holds_at stage.W f) (holds_at stage.W g) || (comes i && not (stage.kept.carries.stand.0 i)))
+                  ∙ (λ i. early || (truth stage.state later && not (stage.kept.carries.stand.0 i)))
+                  ∙ agree_early early held (truth stage.state later) (truth stage.next f) (λ none unheld. comes (early_last stage.W stage.kept.visited f g none unheld))
                   ∙ sym (early-next stage.W stage.next f g),
               tt,
             ),

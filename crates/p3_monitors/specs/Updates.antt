@@ -1,4 +1,4 @@
--- The changes that a monitor makes, from the forms as they will be after the step.
+-- The changes that a monitor makes, from the forms that tell of turns by the step.
 use Rattle.std.specs.Prelude.{ℕ, ◌+◌, ◌≤◌, Bool, true, false, List, [], ◌∷◌, length, if◌then◌else◌}
 use Rattle.p3_formula.specs.Constructors.{both}
 use Rattle.p3_formula.specs.Forms.{nodes}
@@ -8,7 +8,8 @@ use Rattle.p3_formula.specs.Simplified.{is_value}
 use Rattle.p3_formula.specs.declared.form.Form.TheVariants.{False, Atom, Not}
 use Rattle.p3_formula.specs.declared.modal.GroundModal.{GroundModal}
 use Rattle.p3_formula.specs.declared.modal.GroundModal.TheVariants as modal
-use Rattle.p3_regress.specs.Regressed.{IsTrueBefore, HasAtomsOfBoth, growth}
+use Rattle.p3_regress.specs.Regressed.{HasAtomsOfBoth, growth}
+use Rattle.p3_regress.specs.Turned.{IsTurnBefore}
 use Rattle.p3_formula.specs.Kept.{is_own}
 use Rattle.p3_monitors.specs.KeepsOn.{HasNone, AreOwn, KeepsOn, HasConditions, condition_nodes, most_nodes}
 
@@ -37,8 +38,12 @@ sometime base later = change true base later ∷ []
 abbrev pub at_most_once : ℕ → Form → Form → List Change
 at_most_once base now later = change true base later ∷ change true (base + 1) (joint_behind (ceased base now) later) ∷ []
 
+-- the first holds, and the second does not
+abbrev pub awaits : Form → Form → Form
+awaits first second = both first (Not second)
+
 abbrev pub sometime_after : ℕ → Form → Form → List Change
-sometime_after base first second = change false base second ∷ change true base (joint first (Not second)) ∷ []
+sometime_after base met awaited = change false base met ∷ change true base awaited ∷ []
 
 abbrev pub sometime_before : ℕ → Form → Form → List Change
 sometime_before base first second = change true base second ∷ change true (base + 1) (joint first (Not (Atom base))) ∷ []
@@ -52,9 +57,9 @@ accept_form base (modal.AtMostOnce f) = Not (Atom (base + 1))
 accept_form base (modal.SometimeAfter f g) = Not (Atom base)
 accept_form base (modal.SometimeBefore f g) = Not (Atom (base + 1))
 
--- the form before a step in place of one after it: what it says, the atoms that it reads, and its size
-pub record IsRegressed (step : List Change) (form before : Form) : Type 0 where
-  pub truth : IsTrueBefore step form before
+-- the form before a step that tells of the turns of one after it: what it says, the atoms that it reads, and its size
+pub record IsTurned (up : Bool) (step : List Change) (form before : Form) : Type 0 where
+  pub truth : IsTurnBefore up step form before
   pub atoms : HasAtomsOfBoth step form before
   pub size : nodes before ≤ nodes form + growth step form
 

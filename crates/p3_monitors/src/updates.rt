@@ -111,20 +111,26 @@ pub(crate) fn at_most_once(
     two(alloc, held, back)
 }
 
-/// The second form is awaited: no more where it holds after the step, and else from where the
-/// first holds.
+/// The first form holds, and the second does not.
+pub(crate) fn awaits(alloc: Global, first: &Form, second: &Form) -> Result<Form, NoMemory>
+    ensures { IfOk result (λ form. form ≡ made.awaits first.now second.now) }
+{
+    let unmet = Form::negation(alloc, copied(alloc, second)?)?;
+    Form::both(alloc, copied(alloc, first)?, unmet)
+}
+
+/// The second form is awaited: no more where the step makes it hold, and else from where the step
+/// makes the first hold without it.
 pub(crate) fn sometime_after(
     alloc: Global,
     base: usize,
-    first: Form,
-    second: Form,
+    met: Form,
+    awaited: Form,
 ) -> Result<Effects, NoMemory>
-    ensures { IfOk result (λ effects. effects ≡ made.sometime_after base first second) }
+    ensures { IfOk result (λ effects. effects ≡ made.sometime_after base met awaited) }
 {
-    let met = change(copied(alloc, &second)?, base, false);
-    let unmet = Form::negation(alloc, second)?;
-    let awaited = change(joint(alloc, first, unmet)?, base, true);
-    two(alloc, met, awaited)
+    let met = change(met, base, false);
+    two(alloc, met, change(awaited, base, true))
 }
 
 /// The second form has held in some state; and the first came too early: so it does where it holds

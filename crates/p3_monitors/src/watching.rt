@@ -1,17 +1,17 @@
 //! Monitors, and what rides on a step for them.
 
-ghost use Rattle.std.specs.Prelude.{◌≡◌, ◌≤◌, ◌+◌, ◌*◌, ◌-◌, ◌^◌, ℕ, Bool, List, length, IfOk, false, ◌++◌};
+ghost use Rattle.std.specs.Prelude.{◌≡◌, ◌≤◌, ◌+◌, ◌*◌, ◌-◌, ◌^◌, ℕ, Bool, List, length, IfOk, true, false, ◌++◌};
 ghost use Rattle.p3_formula.specs.Forms.{State, truth, is_set};
 ghost use Rattle.p3_formula.specs.Next.{after};
 ghost use Rattle.p3_formula.specs.declared.form.Change.{Change};
 ghost use Rattle.p3_formula.specs.Kept.{atom_count, accepts, is_own};
 ghost use Rattle.p3_formula.specs.Modals.{IsModalBelow, modal_nodes, touches};
 ghost use Rattle.p3_monitors.specs.KeepsOn.{HasNone, KeepsOn, AreOwn, HasConditions, HasAccept, condition_nodes, LeavesOthers, most_nodes};
-ghost use Rattle.p3_monitors.specs.Updates.{IsRegressed, IsUpdate};
+ghost use Rattle.p3_monitors.specs.Updates.{IsTurned, IsUpdate, awaits};
 ghost use Rattle.p3_regress.specs.Memory.{Extends};
 
 use crate::reading::reads;
-use crate::updates::{always, at_most_once, sometime, sometime_after, sometime_before};
+use crate::updates::{always, at_most_once, awaits, sometime, sometime_after, sometime_before};
 use p3_base::{List, NoMemory};
 use p3_formula::{Effects, Form, GroundModal, Table};
 use p3_regress::Regressed;
@@ -108,43 +108,61 @@ fn updates(
 {
     match modal {
         GroundModal::AtEnd(_) => Ok(List::new(alloc)),
-        GroundModal::Always(form) => always(alloc, base, before(alloc, regressed, form)?),
-        GroundModal::Sometime(form) => sometime(alloc, base, before(alloc, regressed, form)?),
+        GroundModal::Always(form) => always(alloc, base, turned(alloc, regressed, form, false)?),
+        GroundModal::Sometime(form) => sometime(alloc, base, turned(alloc, regressed, form, true)?),
         GroundModal::AtMostOnce(form) => {
-            at_most_once(alloc, base, form, before(alloc, regressed, form)?)
+            at_most_once(alloc, base, form, turned(alloc, regressed, form, true)?)
         }
         GroundModal::SometimeAfter(first, second) => {
-            let (first, second) = both_before(alloc, regressed, first, second)?;
-            sometime_after(alloc, base, first, second)
+            let (met, awaited) = met_and_awaited(alloc, regressed, first, second)?;
+            sometime_after(alloc, base, met, awaited)
         }
         GroundModal::SometimeBefore(first, second) => {
-            let (first, second) = both_before(alloc, regressed, first, second)?;
+            let (first, second) = both_turned(alloc, regressed, first, second)?;
             sometime_before(alloc, base, first, second)
         }
     }
 }
 
-/// The form before the step in place of this one after it.
-fn before(alloc: Global, regressed: &mut Regressed, form: &Form) -> Result<Form, NoMemory>
-    ensures made { IfOk result (IsRegressed regressed.old.effects form.now) }
+/// The form that tells before the step where it turns this one true, or else false. What the
+/// monitor's atoms say of the state before accounts for where it does not.
+fn turned(alloc: Global, regressed: &mut Regressed, form: &Form, up: bool) -> Result<Form, NoMemory>
+    ensures made { IfOk result (IsTurned up regressed.old.effects form.now) }
     ensures extends { Extends regressed.old regressed.new }
 {
-    regressed.form(alloc, form)
+    regressed.turned(alloc, form, up)
 }
 
-/// The forms before the step in place of these after it.
+/// The forms that tell before the step where it turns these true.
 #[tactic(auto, using(p3_regress::proofs::MemoryLemmas::extends_trans))]
-fn both_before(
+fn both_turned(
     alloc: Global,
     regressed: &mut Regressed,
     first: &Form,
     second: &Form,
 ) -> Result<(Form, Form), NoMemory>
-    ensures first { IfOk result (λ both. IsRegressed regressed.old.effects first.now both.0) }
-    ensures second { IfOk result (λ both. IsRegressed regressed.old.effects second.now both.1) }
+    ensures first { IfOk result (λ both. IsTurned true regressed.old.effects first.now both.0) }
+    ensures second { IfOk result (λ both. IsTurned true regressed.old.effects second.now both.1) }
     ensures extends { Extends regressed.old regressed.new }
 {
-    let first = before(alloc, regressed, first)?;
-    let second = before(alloc, regressed, second)?;
+    let first = turned(alloc, regressed, first, true)?;
+    let second = turned(alloc, regressed, second, true)?;
     Ok((first, second))
+}
+
+/// The forms that tell before the step where it makes the second hold, and where it makes the first
+/// hold without the second.
+fn met_and_awaited(
+    alloc: Global,
+    regressed: &mut Regressed,
+    first: &Form,
+    second: &Form,
+) -> Result<(Form, Form), NoMemory>
+    ensures met { IfOk result (λ both. IsTurned true regressed.old.effects second.now both.0) }
+    ensures awaited { IfOk result (λ both.
+        IsTurned true regressed.old.effects (awaits first.now second.now) both.1) }
+    ensures extends { Extends regressed.old regressed.new }
+{
+    let unmet = awaits(alloc, first, second)?;
+    both_turned(alloc, regressed, second, &unmet)
 }

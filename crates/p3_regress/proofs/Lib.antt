@@ -4,3 +4,4 @@ pub mod AtomAfter
 pub mod RegressedLaws
 pub mod SortedLemmas
 pub mod MemoryLemmas
+pub mod TurnedLaws

@@ -117,7 +117,7 @@ module _ (effects sorted : List Change) (same : IsPermutation effects sorted) wh
   growth_alike (layer.And parts) = refl
   growth_alike (layer.Or parts) = refl
 
-  growth_same : (form : Form) → growth effects form ≡ growth sorted form
+  pub growth_same : (form : Form) → growth effects form ≡ growth sorted form
   unfolding growth
   growth_same form = λ i. fold_form (λ x. growth_alike x i) form
 

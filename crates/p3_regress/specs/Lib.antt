@@ -1,3 +1,4 @@
 pub mod Regressed
 pub mod Sorted
 pub mod Memory
+pub mod Turned

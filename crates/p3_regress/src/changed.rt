@@ -108,7 +108,7 @@ fn changed(
 }
 
 /// Whether some change sets the atom, or else whether some clears it.
-fn is_named(changes: &[&Change], atom: usize, add: bool) -> bool
+pub(crate) fn is_named(changes: &[&Change], atom: usize, add: bool) -> bool
     ensures { result ≡ list_any (made.is_of add atom) (lent changes.now) }
 {
     for change in changes {

@@ -5,5 +5,6 @@ mod changed;
 mod memory;
 mod regression;
 mod sorted;
+mod turning;
 
 pub use regression::{Regressed, regress};

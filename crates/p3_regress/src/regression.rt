@@ -1,16 +1,19 @@
 //! Forms before a step in place of forms after it.
 
-ghost use Rattle.std.specs.Prelude.{◌≡◌, ◌≤◌, ◌<◌, ◌+◌, ℕ, length, map, [], Some, None, Ok, All, IfOk};
+ghost use Rattle.std.specs.Prelude.{◌≡◌, ◌≤◌, ◌<◌, ◌+◌, ℕ, not, false, length, map, [], Some, None, Ok, All, IfOk};
 ghost use Rattle.p3_formula.specs.Forms.{nodes};
 ghost use Rattle.p3_formula.specs.Nodes.{IsNodeBelow, form_of, node_form};
+ghost use Rattle.p3_formula.specs.Simplified.{constant};
 ghost use Rattle.p3_regress.specs.Memory.{answer_of, answer_in, IsRight, Continues, IsNumberBefore, Extends, AnswersAgain};
 ghost use Rattle.p3_regress.specs.Regressed.{IsTrueBefore, IsUntouched, HasAtomsOfBoth, growth};
 ghost use Rattle.p3_regress.specs.Regressed as made;
 ghost use Rattle.p3_regress.specs.Sorted.{lent, IsRising};
+ghost use Rattle.p3_regress.specs.Turned.{may_turn, IsTurnBefore, IsNarrowed};
 
 use crate::changed::atom_after;
 use crate::memory::Memory;
 use crate::sorted::{by_atom, changes_of};
+use crate::turning::{may_turn, narrowed};
 use p3_base::{List, NoMemory};
 use p3_formula::{Change, Effects, Form, Node, Table};
 use std::alloc::Global;
@@ -98,6 +101,36 @@ impl<'e> Regressed<'e> {
             Form::Atom(atom) => self.atom_form(alloc, *atom),
             form => self.form_by_nodes(alloc, form),
         }
+    }
+
+    /// Whether the step may turn the form true, or else false. It takes no memory.
+    pub fn may_turn(&self, form: &Form, up: bool) -> bool
+        ensures { result ≡ may_turn self.now.effects up form.now }
+    {
+        may_turn(&self.changes, form, up)
+    }
+
+    /// The form that tells before the step where it turns this one true, or else false, in each
+    /// state that has this one's atoms. It is a constant where the step cannot.
+    pub fn turned(&mut self, alloc: Global, form: &Form, up: bool) -> Result<Form, NoMemory>
+        ensures truth { IfOk result (λ before. IsTurnBefore up self.old.effects form.now before) }
+        ensures still { may_turn self.old.effects up form.now ≡ false
+            → IfOk result (λ before. before ≡ constant (not up)) }
+        ensures size { IfOk result (λ before.
+            nodes before ≤ nodes form.now + growth self.old.effects form.now) }
+        ensures atoms { IfOk result (λ before. HasAtomsOfBoth self.old.effects form.now before) }
+        // Nodes, effects and answers that are there stay.
+        ensures extends { Extends self.old self.new }
+    {
+        let part = self.narrowed(alloc, form, up)?;
+        self.form(alloc, &part)
+    }
+
+    /// What of the form to look at after the step, where it is not yet turned.
+    fn narrowed(&self, alloc: Global, form: &Form, up: bool) -> Result<Form, NoMemory>
+        ensures { IfOk result (IsNarrowed up self.now.effects form.now) }
+    {
+        narrowed(alloc, &self.changes, form, up)
     }
 
     /// The form that holds before the step exactly where an atom is set after it. It takes no node.

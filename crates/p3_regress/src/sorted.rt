@@ -1,8 +1,9 @@
 //! Changes by rising atom.
 
-ghost use Rattle.std.specs.Prelude.{◌≡◌, IfOk};
+ghost use Rattle.std.specs.Prelude.{◌≡◌, Bool, IfOk};
+ghost use Rattle.std.specs.List.{list_any};
 ghost use Rattle.std.specs.List.Sorted.{IsPermutation};
-ghost use Rattle.p3_regress.specs.Regressed.{atom_after};
+ghost use Rattle.p3_regress.specs.Regressed.{atom_after, is_of};
 ghost use Rattle.p3_regress.specs.Sorted.{lent, IsRising};
 
 use p3_base::NoMemory;
@@ -33,7 +34,9 @@ pub(crate) fn by_atom<'e>(alloc: Global, changes: &'e [Change]) -> Result<Vec<&'
 /// The changes of the atom, found by halving.
 pub(crate) fn changes_of<'a, 'e>(changes: &'a [&'e Change], atom: usize) -> &'a [&'e Change]
     requires { IsRising changes.now }
-    ensures { atom_after (lent result.now) atom ≡ atom_after (lent changes.now) atom }
+    ensures after { atom_after (lent result.now) atom ≡ atom_after (lent changes.now) atom }
+    ensures named { (add : Bool) → list_any (is_of add atom) (lent result.now)
+        ≡ list_any (is_of add atom) (lent changes.now) }
 {
     let start = changes.partition_point(|change| change.atom < atom);
     let rest = &changes[start..];

@@ -76,7 +76,7 @@ pub node_before-returns-in_ok-form-in-Atom-clause-stands : goal.node_before-retu
 node_before-returns-in_ok-form-in-Atom-clause-stands t c =
     let changes = lent c.args.changes.now in
     IfOk-weaker c.of.result _ _
-    (λ before is. is ∙ c.in_ok-form-in-Atom.ensures ∙ c.changes_of.ensures ∙ sym (ap (λ node. made.regressed changes (node_form (form_of c.args.memory.now.table) node)) c.in-Atom.is ∙ regressed-Atom changes c.in-Atom.atom))
+    (λ before is. is ∙ c.in_ok-form-in-Atom.ensures ∙ c.changes_of.ensures.after ∙ sym (ap (λ node. made.regressed changes (node_form (form_of c.args.memory.now.table) node)) c.in-Atom.is ∙ regressed-Atom changes c.in-Atom.atom))
     c.of.ensures.stands
 
 pub node_before-returns-in_ok-part-in-Not-clause-stands : goal.node_before-returns-in_ok-part-in-Not-clause-stands

@@ -13,7 +13,7 @@ use Rattle.p3_regress.proofs.regression.Regressed.atom_form.Goals as goal
 made : (c : goal.After-atom_after) → IfOk c.atom_after.result (λ before. before ≡ regressed (lent c.self.inside.changes.items) (Atom c.args.atom))
 made c =
     IfOk-weaker c.atom_after.result _ _
-    (λ before is. is ∙ c.changes_of.ensures ∙ (λ i. atom_after (lent (c.deref.ensures.value i)) c.args.atom) ∙ sym (regressed-Atom (lent c.self.inside.changes.items) c.args.atom))
+    (λ before is. is ∙ c.changes_of.ensures.after ∙ (λ i. atom_after (lent (c.deref.ensures.value i)) c.args.atom) ∙ sym (regressed-Atom (lent c.self.inside.changes.items) c.args.atom))
     c.atom_after.ensures
 
 pub returns-clause-truth : goal.returns-clause-truth
