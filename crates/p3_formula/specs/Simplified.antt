@@ -1,10 +1,8 @@
 -- What negating and simplifying make of a form, from what they make of its parts.
 use Rattle.std.specs.Prelude.{Bool, true, false, not, if◌then◌else◌, List, [], ◌∷◌, ◌++◌}
 use mathlib.Core.Former.{Count, one_more}
-use Rattle.p3_formula.specs.Folds.{fold_form}
 use Rattle.p3_formula.specs.declared.form.Form.{Form, Row_of-Form, more_of-Form, items-the_row-Form}
 use Rattle.p3_formula.specs.declared.form.Form.TheVariants.{True, False, Atom, Not, And, Or, Not', And', Or'}
-use Rattle.p3_formula.specs.declared.form.Form.TheOpen as layer
 
 abbrev pub one_part : {n : Count} → Row_of-Form (one_more n) → Form
 one_part (more_of-Form part rest) = part
@@ -41,16 +39,6 @@ joined every [] = constant every
 joined every (part ∷ []) = part
 joined every (part ∷ other ∷ parts) = together every (part ∷ other ∷ parts)
 
--- the parts kept so far, and one more where it is not that constant
-abbrev pub kept_with : Bool → List Form → Form → List Form
-kept_with value kept part = if is_value value part then kept else (kept ++ part ∷ [])
-
--- the parts kept so far and those to come, without the constants
-abbrev pub junction : Bool → List Form → List Form → Form
-junction every kept [] = joined every kept
-junction every kept (part ∷ rest) =
-    if is_value (not every) part then constant (not every) else junction every (kept_with every kept part) rest
-
 -- what a part of a conjunction consists of: its own parts, where it is one, and nothing where it always holds
 abbrev pub spread : Form → List Form
 spread True = []
@@ -63,14 +51,3 @@ spread (Or' shape parts) = Or' shape parts ∷ []
 -- the conjunction of the parts kept and of one more, behind them
 abbrev pub with_last : List Form → Form → Form
 with_last kept part = if is_value false part then False else joined true (kept ++ spread part)
-
-abbrev pub simplified_layer : layer.Form-F Form → Form
-simplified_layer layer.True = True
-simplified_layer layer.False = False
-simplified_layer (layer.Atom atom) = Atom atom
-simplified_layer (layer.Not part) = negated part
-simplified_layer (layer.And parts) = junction true [] parts
-simplified_layer (layer.Or parts) = junction false [] parts
-
-unfoldable pub simplified : Form → Form
-simplified form = fold_form simplified_layer form

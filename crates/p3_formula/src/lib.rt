@@ -20,7 +20,6 @@ mod simpler;
 mod table;
 mod target;
 mod task;
-mod tidy;
 mod trimmed;
 
 pub use atoms::is_free_of;

@@ -1,13 +1,14 @@
 //! Negated and simplified forms.
 
-ghost use Rattle.std.specs.Prelude.{◌≡◌, ◌≤◌, ◌+◌, ◌++◌, ◌∷◌, IfOk, OnOk, IsTrue, true, [], length, map};
+ghost use Rattle.std.specs.Prelude.{◌≡◌, ◌≤◌, ◌+◌, ◌++◌, ◌∷◌, IfOk, OnOk, IsTrue, [], map};
 ghost use Rattle.p3_formula.specs.Forms.{HasAtomsOf, HasSameTruth, IsOpposite, nodes};
 ghost use Rattle.p3_formula.specs.Tidy.{is_tidy};
 ghost use Rattle.p3_formula.specs.Simplified as made;
 
 use crate::Form;
 use crate::copy::copied;
-use crate::tidy::is_tidy;
+use crate::known::Known;
+use crate::settled::simplified_under;
 use p3_base::{List, NoMemory};
 use std::alloc::Global;
 
@@ -34,8 +35,7 @@ pub fn simplify(alloc: Global, form: &Form) -> Result<Form, NoMemory>
     tidied(alloc, copied(alloc, form)?)
 }
 
-/// Makes what `simplify` makes of a form. A tidy form stays as it is.
-#[tactic(auto, using(crate::proofs::TruthLaws::simplified_truth, crate::proofs::AtomLaws::simplified_atoms, crate::proofs::AtomLaws::simplified_nodes, crate::proofs::TidyLaws::simplified_tidy, crate::proofs::SimplifiedLemmas::simplified_laws))]
+/// Makes what `simplify` makes of a form, which it takes.
 pub fn tidied(alloc: Global, form: Form) -> Result<Form, NoMemory>
     ensures truth { IfOk result (λ simple. HasSameTruth simple form) }
     ensures tidy { IfOk result (λ simple. IsTrue (is_tidy simple)) }
@@ -43,10 +43,7 @@ pub fn tidied(alloc: Global, form: Form) -> Result<Form, NoMemory>
     ensures atoms { IfOk result (λ simple. HasAtomsOf simple form) }
     ensures stays { form ≡ Form.True → IfOk result (λ simple. simple ≡ Form.True) }
 {
-    if is_tidy(&form) {
-        return Ok(form);
-    }
-    simplified(alloc, form)
+    simplified_under(alloc, form, &Known::new(alloc))
 }
 
 /// The opposite, with no negation of a constant or of a negation.
@@ -149,92 +146,4 @@ pub(crate) fn with_last(kept: Vec<Form>, part: Form) -> Result<Form, NoMemory>
     }
     push_spread(&mut kept, part)?;
     Ok(joined(kept, true))
-}
-
-/// The part stands behind the others, where it is not that constant.
-fn push_unless(kept: &mut Vec<Form>, part: Form, value: bool) -> Result<(), NoMemory>
-    ensures { OnOk result (kept.new.items ≡ made.kept_with value kept.old.items part) }
-{
-    if is_value(&part, value) {
-        drop(part);
-        return Ok(());
-    }
-    kept.push(part)?;
-    Ok(())
-}
-
-/// Whether the form is an atom, whose negation stays as it is.
-#[tactic(auto, using(crate::proofs::SimplifiedLemmas::simplified_laws))]
-fn is_atom(form: &Form) -> bool
-    ensures { IsTrue result → made.negated (made.simplified form.now) ≡ Form.Not form.now }
-{
-    match form {
-        Form::Atom(_) => true,
-        Form::True | Form::False | Form::Not(_) | Form::And(_) | Form::Or(_) => false,
-    }
-}
-
-/// The form without constants, superfluous connectives and double negations.
-#[cycle(simplify)]
-#[tactic(auto, using(crate::proofs::SimplifiedLemmas::simplified_laws))]
-fn simplified(alloc: Global, form: Form) -> Result<Form, NoMemory>
-    ensures { IfOk result (λ simple. simple ≡ made.simplified form) }
-{
-    match form {
-        Form::True => Ok(Form::True),
-        Form::False => Ok(Form::False),
-        Form::Atom(atom) => Ok(Form::Atom(atom)),
-        Form::Not(part) => {
-            if is_atom(part.get()) {
-                return Ok(Form::Not(part));
-            }
-            negated(alloc, simplified(alloc, part.into_inner())?)
-        }
-        Form::And(parts) => junction(alloc, parts.into_items(), true),
-        Form::Or(parts) => junction(alloc, parts.into_items(), false),
-    }
-}
-
-/// The conjunction of the parts, or else their disjunction, each of them simplified.
-#[cycle(simplify)]
-fn junction(alloc: Global, parts: Vec<Form>, every: bool) -> Result<Form, NoMemory>
-    ensures { IfOk result (λ simple.
-        simple ≡ made.junction every [] (map made.simplified parts.items)) }
-{
-    if parts.len() == 2 {
-        return pair(alloc, parts, every);
-    }
-    let mut kept = Vec::with_capacity(alloc, parts.len())?;
-    for part in parts {
-        let part = simplified(alloc, part)?;
-        if is_value(&part, !every) {
-            return Ok(constant(!every));
-        }
-        push_unless(&mut kept, part, every)?;
-    }
-    Ok(joined(kept, every))
-}
-
-/// The conjunction of two parts, or else their disjunction, in the place where they stood.
-#[cycle(simplify)]
-fn pair(alloc: Global, parts: Vec<Form>, every: bool) -> Result<Form, NoMemory>
-    requires { length parts.items ≡ 2 }
-    ensures { IfOk result (λ simple.
-        simple ≡ made.junction every [] (map made.simplified parts.items)) }
-{
-    let mut kept = parts;
-    let (Some(second), Some(first)) = (kept.pop(), kept.pop()) else {
-        return Ok(constant(every));
-    };
-    let first = simplified(alloc, first)?;
-    if is_value(&first, !every) {
-        return Ok(constant(!every));
-    }
-    let second = simplified(alloc, second)?;
-    if is_value(&second, !every) {
-        return Ok(constant(!every));
-    }
-    push_unless(&mut kept, first, every)?;
-    push_unless(&mut kept, second, every)?;
-    Ok(joined(kept, every))
 }
