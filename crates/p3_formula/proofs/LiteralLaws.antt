@@ -1,5 +1,5 @@
 -- The literals that a form fixes hold where it does.
-use Rattle.std.proofs.Common.{◌≡◌, ◌∙◌, ℕ, ◌==◌, Bool, true, false, not, ◌&&◌, ◌||◌, if◌then◌else◌, List, [], ◌∷◌, ◌++◌, map, Option, None, Some, is_some, cond, refl, sym, ap, true≢false}
+use Rattle.std.proofs.Common.{◌≡◌, ◌∙◌, ℕ, ◌==◌, Bool, true, false, not, ◌&&◌, ◌||◌, if◌then◌else◌, List, [], ◌∷◌, ◌++◌, map, Option, None, Some, is_some, cond, refl, sym, ap, append_assoc, true≢false}
 use Rattle.std.specs.Prelude.{nat_eq}
 use Rattle.std.specs.Map.{lookup}
 use Rattle.std.specs.List.{flat_map, list_any, list_all}
@@ -173,4 +173,41 @@ known_law form state is = all_met_once (is_met state) [] (fixed form true) refl 
 pub noted : (entries : List (ℕ × Bool)) (atom : ℕ) (holds : Bool) → said_of (literals_of entries) atom ≡ None → literals_of (insert_entry nat_eq entries atom holds) ≡ literals_of entries ++ literal atom holds ∷ []
 noted entries atom holds new = ap literals_of (insert_entry-absent nat_eq atom holds entries (absent_from_lookup (nat_eq atom) entries (sym (said_entry entries atom) ∙ new))) ∙ more_entries entries atom holds
 
-pub ruleset note_laws = (noted)
+-- ---- literals one behind another, the last of them in a map
+
+-- what is said first counts
+pub said_behind : (literals more : List Literal) (atom : ℕ) (bit : Bool) → said_of literals atom ≡ Some bit → said_of (literals ++ more) atom ≡ Some bit
+said_behind [] more atom bit said = absurd (none-some bit said)
+said_behind (one ∷ literals) more atom bit said = by (atom == one.atom) said (said_behind literals more atom bit) where
+  by : (b : Bool) → (if b then Some one.holds else said_of literals atom) ≡ Some bit → (said_of literals atom ≡ Some bit → said_of (literals ++ more) atom ≡ Some bit)
+      → (if b then Some one.holds else said_of (literals ++ more) atom) ≡ Some bit
+  by true here later = here
+  by false there later = later there
+
+pub said_only_behind : (literals more : List Literal) (atom : ℕ) → said_of literals atom ≡ None → said_of (literals ++ more) atom ≡ said_of more atom
+said_only_behind [] more atom none = refl
+said_only_behind (one ∷ literals) more atom none = by (atom == one.atom) none (said_only_behind literals more atom) where
+  by : (b : Bool) → (if b then Some one.holds else said_of literals atom) ≡ None → (said_of literals atom ≡ None → said_of (literals ++ more) atom ≡ said_of more atom)
+      → (if b then Some one.holds else said_of (literals ++ more) atom) ≡ said_of more atom
+  by true said later = absurd (none-some one.holds (sym said))
+  by false none later = later none
+
+pub in_map : (literals : List Literal) (entries : List (ℕ × Bool)) (atom : ℕ) → said_of literals atom ≡ None → said_of (literals ++ literals_of entries) atom ≡ lookup (λ one. nat_eq atom one) entries
+in_map literals entries atom none = said_only_behind literals (literals_of entries) atom none ∙ said_entry entries atom
+
+pub ruleset said_laws = (said_behind, in_map)
+
+none_behind : (literals more : List Literal) (atom : ℕ) → said_of (literals ++ more) atom ≡ None → said_of more atom ≡ None
+none_behind [] more atom none = none
+none_behind (one ∷ literals) more atom none = by (atom == one.atom) none (none_behind literals more atom) where
+  by : (b : Bool) → (if b then Some one.holds else said_of (literals ++ more) atom) ≡ None → (said_of (literals ++ more) atom ≡ None → said_of more atom ≡ None) → said_of more atom ≡ None
+  by true said later = absurd (none-some one.holds (sym said))
+  by false rest later = later rest
+
+pub noted_behind : (literals : List Literal) (entries : List (ℕ × Bool)) (atom : ℕ) (holds : Bool) → said_of (literals ++ literals_of entries) atom ≡ None
+    → literals ++ literals_of (insert_entry nat_eq entries atom holds) ≡ (literals ++ literals_of entries) ++ literal atom holds ∷ []
+noted_behind literals entries atom holds new =
+    ap (λ rest. literals ++ rest) (noted entries atom holds (none_behind literals (literals_of entries) atom new))
+    ∙ sym (append_assoc literals (literals_of entries) (literal atom holds ∷ []))
+
+pub ruleset note_laws = (append-nil, noted_behind)

@@ -12,20 +12,27 @@ use p3_base::NoMemory;
 use std::alloc::Global;
 use std::marker::Model;
 
-/// Literals of different atoms.
+/// How many literals are looked through before the others are looked up.
+const FEW: usize = 16;
+
+/// Literals of different atoms. A form fixes few of them mostly, and to look through these is quicker
+/// than to hash.
 #[derive(Drop)]
 pub struct Known {
-    bits: IndexMap<usize, bool>,
+    few: Vec<Literal>,
+    many: IndexMap<usize, bool>,
 }
 
 impl Model for Known {
-    ghost use Rattle.std.specs.Prelude.{List};
+    ghost use Rattle.std.specs.Prelude.{◌≡◌, ◌<◌, ◌++◌, List, [], length};
     ghost use Rattle.p3_formula.specs.Literals.{literals_of};
     ghost use Rattle.p3_formula.specs.declared.literals.Literal.{Literal};
 
     ghost Value = { List Literal };
 
-    ghost view = { λ known. literals_of known.bits.entries };
+    ghost view = { λ known. known.few.items ++ literals_of known.many.entries };
+
+    ghost invariant = { λ known. length known.few.items < 16 → known.many.entries ≡ [] };
 }
 
 impl Known {
@@ -34,7 +41,8 @@ impl Known {
         ensures { result ≡ [] }
     {
         Known {
-            bits: IndexMap::new(alloc),
+            few: Vec::new(alloc),
+            many: IndexMap::new(alloc),
         }
     }
 
@@ -63,11 +71,15 @@ impl Known {
     }
 
     /// What is known of the atom.
-    #[tactic(auto, using(crate::proofs::LiteralLaws::said_entry))]
+    #[tactic(auto, using(crate::proofs::LiteralLaws::said_laws))]
     pub fn of(&self, atom: usize) -> Option<bool>
         ensures { result ≡ said_of self.now atom }
     {
-        self.bits.get(&atom).copied()
+        match said_among(&self.few, atom) {
+            Some(holds) => Some(holds),
+            None if self.few.len() < FEW => None,
+            None => self.many.get(&atom).copied(),
+        }
     }
 
     /// The literal is known too, where nothing is of its atom.
@@ -86,7 +98,23 @@ impl Known {
         requires { said_of self.old literal.atom ≡ None }
         ensures { OnOk result (self.new ≡ self.old ++ literal ∷ []) }
     {
-        self.bits.insert(literal.atom, literal.holds)?;
+        if self.few.len() < FEW {
+            self.few.push(literal)?;
+            return Ok(());
+        }
+        self.many.insert(literal.atom, literal.holds)?;
         Ok(())
     }
+}
+
+/// What the literals say of the atom.
+fn said_among(literals: &[Literal], atom: usize) -> Option<bool>
+    ensures { result ≡ said_of literals.now atom }
+{
+    for literal in literals {
+        if literal.atom == atom {
+            return Some(literal.holds);
+        }
+    }
+    None
 }

@@ -16,6 +16,7 @@ mod modal;
 mod node;
 mod same;
 mod settled;
+mod simple;
 mod simpler;
 mod table;
 mod target;

@@ -4,7 +4,7 @@ ghost use Rattle.std.specs.Prelude.{◌≡◌, ◌≤◌, ◌++◌, ◌∷◌, �
 ghost use Rattle.std.specs.List.{flat_map, list_all};
 ghost use Rattle.p3_formula.specs.Forms.{State, truth, HasAtomsOf, nodes};
 ghost use Rattle.p3_formula.specs.Literals.{is_met, said_of};
-ghost use Rattle.p3_formula.specs.Simplified.{is_value as is_that};
+ghost use Rattle.p3_formula.specs.Simplified.{is_value as is_that, negated};
 ghost use Rattle.p3_formula.specs.Tidy.{is_tidy};
 ghost use Rattle.p3_formula.specs.Settled as made;
 
@@ -63,9 +63,26 @@ pub(crate) fn settled(
         Form::True => Ok(Form::True),
         Form::False => Ok(Form::False),
         Form::Atom(atom) => Ok(settled_atom(atom, said(known, own, atom))),
-        Form::Not(part) => negated(alloc, settled(alloc, part.into_inner(), known, own)?),
+        Form::Not(part) => {
+            if stays(part.get(), known, own) {
+                return Ok(Form::Not(part));
+            }
+            negated(alloc, settled(alloc, part.into_inner(), known, own)?)
+        }
         Form::And(parts) => gathered_parts(alloc, parts.into_items(), true, known, own),
         Form::Or(parts) => gathered_parts(alloc, parts.into_items(), false, known, own),
+    }
+}
+
+/// Whether the form is an atom of which nothing is known, whose negation stays as it is.
+#[tactic(auto, using(crate::proofs::SettledLaws::settled_laws))]
+fn stays(form: &Form, known: &Known, own: Option<Literal>) -> bool
+    ensures { IsTrue result
+        → negated (made.settled (made.also own (said_of known.now)) form.now) ≡ Form.Not form.now }
+{
+    match form {
+        Form::Atom(atom) => said(known, own, *atom).is_none(),
+        Form::True | Form::False | Form::Not(_) | Form::And(_) | Form::Or(_) => false,
     }
 }
 
@@ -222,7 +239,7 @@ fn says(said: Option<bool>, bit: bool) -> bool
 
 /// The literal that the form is, where it is one.
 #[tactic(auto, using(crate::proofs::SettledLaws::own_laws))]
-fn own_literal(form: &Form) -> Option<Literal>
+pub(crate) fn own_literal(form: &Form) -> Option<Literal>
     ensures { made.own_literal form.now ≡ made.listed result }
 {
     match form {

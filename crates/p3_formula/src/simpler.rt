@@ -9,6 +9,7 @@ use crate::Form;
 use crate::copy::copied;
 use crate::known::Known;
 use crate::settled::simplified_under;
+use crate::simple::is_simple;
 use p3_base::{List, NoMemory};
 use std::alloc::Global;
 
@@ -43,6 +44,9 @@ pub fn tidied(alloc: Global, form: Form) -> Result<Form, NoMemory>
     ensures atoms { IfOk result (λ simple. HasAtomsOf simple form) }
     ensures stays { form ≡ Form.True → IfOk result (λ simple. simple ≡ Form.True) }
 {
+    if is_simple(&form) {
+        return Ok(form);
+    }
     simplified_under(alloc, form, &Known::new(alloc))
 }
 
