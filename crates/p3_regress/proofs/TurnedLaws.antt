@@ -167,7 +167,7 @@ module _ (pick : Form → Bool) where
   less : (size : Form → ℕ) (parts : List Form) → sum_by size (filter pick parts) ≤ sum_by size parts
   less size parts = let h = sum_by-filter_both pick (λ part. not (pick part)) (λ part. refl) size parts in omega arith
 
-some_node : (form : Form) → 1 ≤ nodes form
+pub some_node : (form : Form) → 1 ≤ nodes form
 unfolding nodes
 some_node True = omega arith
 some_node False = omega arith
