@@ -66,9 +66,50 @@ pub others_stay : (base : ℕ) (modal : GroundModal) (step effects : List Change
     → is_set (after state (step ++ effects)) atom ≡ is_set (after state step) atom
 others_stay base modal step effects own state atom outside = unnamed_stays step effects state atom (own_named base modal atom effects own outside)
 
--- ---- a step with the changes of the monitor and others
+-- ---- a step at which the monitor is kept
 
 -- the monitor is kept before a step, and another state agrees with the one after it on the constraint
+pub record Transition (base : ℕ) (modal : GroundModal) (step : List Change) : Type 0 where
+  pub below : IsModalBelow base modal
+  pub W : List State
+  pub state : State
+  pub next : State
+  pub kept : Kept base modal W state
+  pub agree : Agree modal (after state step) next
+
+module _ {base : ℕ} {modal : GroundModal} {step : List Change} (transition : Transition base modal step) where
+  inside : base + atom_count modal ≤ length transition.state
+  inside = let l = length-watched transition.W modal in let room = transition.kept.carries.room in omega arith
+
+  module _ (form : Form) (reads : has_atoms (is_read modal) form ≡ true) where
+    -- a form of the constraint, before the step
+    pub truth_now : truth transition.state form ≡ truth (last_of transition.W) form
+    truth_now = truth-agree transition.state (last_of transition.W) (is_read modal) transition.kept.carries.agrees form reads
+
+    within : IsBelow (length transition.state) form
+    within =
+        let room = inside in
+        has_more (is_read modal) (λ atom. nat_lt atom (length transition.state)) (λ atom read. let lt = read_below base modal transition.below atom read in lt-ltb atom (length transition.state) (omega arith)) form reads
+
+    -- and after it
+    later : truth (after transition.state step) form ≡ truth transition.next form
+    later = truth-agree (after transition.state step) transition.next (is_read modal) transition.agree form reads
+
+    -- so its regressed form tells before the step
+    pub truth_later : (before : Form) → IsTrueBefore step form before → truth transition.state before ≡ truth transition.next form
+    truth_later before regressed = regressed transition.state within ∙ later
+
+    -- where the form is not yet turned, what tells of its turns tells so too, and it tells of no turn that is none
+    module _ (up : Bool) (before : Form) (turned : IsTurnBefore up step form before) where
+      pub turned_later : truth (last_of transition.W) form ≡ not up → truth transition.state before ≡ truth transition.next form
+      turned_later now = turned.turns transition.state within (truth_now ∙ now) ∙ later
+
+      pub turned_only : truth transition.next form ≡ not up → truth transition.state before ≡ not up
+      turned_only reached_it = turned.only transition.state within (later ∙ reached_it)
+
+-- ---- a step with the changes of the monitor and others
+
+-- the same, where the changes of the monitor and of others are made with the step
 pub record Stage (base : ℕ) (modal : GroundModal) (step effects : List Change) : Type 0 where
   pub below : IsModalBelow base modal
   pub free : HasNone (is_own base modal) step
@@ -88,49 +129,35 @@ module _ {base : ℕ} {modal : GroundModal} {step effects : List Change} (stage 
   abbrev pub reached : State
   reached = after stage.state all_changes
 
-  inside : base + atom_count modal ≤ length stage.state
-  inside = let l = length-watched stage.W modal in let room = stage.kept.carries.room in omega arith
-
   -- an atom of the constraint is as after the step alone
-  read_after : (atom : ℕ) → is_read modal atom ≡ true → is_set reached atom ≡ is_set (after stage.state step) atom
+  pub read_after : (atom : ℕ) → is_read modal atom ≡ true → is_set reached atom ≡ is_set (after stage.state step) atom
   read_after atom read =
       let lt = read_below base modal stage.below atom read in
       unnamed_stays step (effects ++ stage.others) stage.state atom
       (list_any-append (λ change. change.atom == atom) effects stage.others
       ∙ or_from _ _ (own_named base modal atom effects stage.own (lower_outside base modal atom lt)) (none_named (is_read modal) atom stage.others stage.apart.read read))
 
+  abbrev pub transition : Transition base modal step
+  transition = record {
+    below = stage.below;
+    W = stage.W;
+    state = stage.state;
+    next = stage.next;
+    kept = stage.kept;
+    agree = λ atom read. sym (read_after atom read) ∙ stage.agree atom read;
+  }
+
+  has_room : base + atom_count modal ≤ length stage.state
+  has_room = inside transition
+
   -- an atom of the monitor is as after its changes alone
   pub own_after : (atom : ℕ) → base ≤ atom → atom < base + atom_count modal → is_set reached atom ≡ is_set_after stage.state effects atom
   own_after atom from lt =
-      let room = inside in
+      let room = has_room in
       let mine = own_from base modal atom from lt in
       is_set-after stage.state all_changes atom (omega arith)
       ∙ is_set_after-back stage.state step (effects ++ stage.others) atom (none_named (is_own base modal) atom step stage.free mine)
       ∙ is_set_after-front stage.state effects stage.others atom (none_named (is_own base modal) atom stage.others stage.apart.own mine)
-
-  module _ (form : Form) (reads : has_atoms (is_read modal) form ≡ true) where
-    -- a form of the constraint, before the step
-    pub truth_now : truth stage.state form ≡ truth (last_of stage.W) form
-    truth_now = truth-agree stage.state (last_of stage.W) (is_read modal) stage.kept.carries.agrees form reads
-
-    within : IsBelow (length stage.state) form
-    within = let room = inside in has_more (is_read modal) (λ atom. nat_lt atom (length stage.state)) (λ atom read. let lt = read_below base modal stage.below atom read in lt-ltb atom (length stage.state) (omega arith)) form reads
-
-    -- and after it
-    later : truth (after stage.state step) form ≡ truth stage.next form
-    later = truth-agree (after stage.state step) reached (is_read modal) (λ atom read. sym (read_after atom read)) form reads ∙ truth-agree reached stage.next (is_read modal) stage.agree form reads
-
-    -- so its regressed form tells before the step
-    pub truth_later : (before : Form) → IsTrueBefore step form before → truth stage.state before ≡ truth stage.next form
-    truth_later before regressed = regressed stage.state within ∙ later
-
-    -- where the form is not yet turned, what tells of its turns tells so too, and it tells of no turn that is none
-    module _ (up : Bool) (before : Form) (turned : IsTurnBefore up step form before) where
-      pub turned_later : truth (last_of stage.W) form ≡ not up → truth stage.state before ≡ truth stage.next form
-      turned_later now = turned.turns stage.state within (truth_now ∙ now) ∙ later
-
-      pub turned_only : truth stage.next form ≡ not up → truth stage.state before ≡ not up
-      turned_only reached_it = turned.only stage.state within (later ∙ reached_it)
 
   -- with the right bits, the monitor is kept
   keeps : AreAt base (watched (stage.W ++ stage.next ∷ []) modal) reached → Kept base modal (stage.W ++ stage.next ∷ []) reached
@@ -138,7 +165,7 @@ module _ {base : ℕ} {modal : GroundModal} {step effects : List Change} (stage 
     visited = let l = length-append stage.W (stage.next ∷ []) in omega arith;
     carries = record {
       agrees = λ atom read. stage.agree atom read ∙ ap (λ s. is_set s atom) (sym (last-next stage.W stage.next));
-      room = let l = length-watched (stage.W ++ stage.next ∷ []) modal in let a = length-after stage.state all_changes in let room = inside in omega arith;
+      room = let l = length-watched (stage.W ++ stage.next ∷ []) modal in let a = length-after stage.state all_changes in let room = has_room in omega arith;
       stand = bits;
     };
   }

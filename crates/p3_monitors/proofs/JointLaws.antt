@@ -1,11 +1,12 @@
--- What is joint holds where both do, has the atoms of both, and is no greater than a conjunction of both.
-use Rattle.std.proofs.Common.{◌≡◌, ℕ, ◌+◌, ◌≤◌, Bool, true, ◌&&◌, refl, sym, arith}
+-- What is joint holds where both do, has the atoms of both, and is no greater than a conjunction of both; what is made of it.
+use Rattle.std.proofs.Common.{◌≡◌, ◌∙◌, ℕ, ◌+◌, ◌≤◌, Bool, true, not, ◌&&◌, refl, sym, ap, arith}
 use Rattle.std.proofs.Math.Bool.{and-true, and-false}
-use Rattle.p3_formula.specs.Forms.{State, truth, has_atoms, nodes}
+use Rattle.p3_formula.specs.Forms.{State, is_set, truth, has_atoms, nodes}
 use Rattle.p3_formula.specs.declared.form.Form.{Form}
-use Rattle.p3_formula.specs.declared.form.Form.TheVariants.{True, False, Atom, Not', And', Or'}
-use Rattle.p3_formula.proofs.FormLemmas.{truth-both, has_atoms-both, nodes-both}
-use Rattle.p3_monitors.specs.Updates.{joint, joint_behind}
+use Rattle.p3_formula.specs.declared.form.Form.TheVariants.{True, False, Atom, Not, Not', And', Or'}
+use Rattle.p3_formula.proofs.FormLemmas.{truth-Atom, truth-Not, truth-both, has_atoms-Atom, has_atoms-Not, has_atoms-both, nodes-Atom, nodes-Not, nodes-both}
+use Rattle.p3_monitors.specs.Guards.{unless}
+use Rattle.p3_monitors.specs.Updates.{joint, joint_behind, ceased, back, early}
 
 module _ (state : State) where
   pub truth-joint : (first second : Form) → truth state (joint first second) ≡ (truth state first && truth state second)
@@ -62,3 +63,52 @@ nodes-behind first (Atom atom) = let h = nodes-both first (Atom atom) in omega (
 nodes-behind first (Not' shape part) = let h = nodes-both first (Not' shape part) in omega (arith, h)
 nodes-behind first (And' shape parts) = let h = nodes-both first (And' shape parts) in omega (arith, h)
 nodes-behind first (Or' shape parts) = let h = nodes-both first (Or' shape parts) in omega (arith, h)
+
+-- ---- what comes back, what comes early, and that it does not
+
+module _ (state : State) where
+  pub truth-back : (base : ℕ) (now later : Form) → truth state (back base now later) ≡ ((is_set state base && not (truth state now)) && truth state later)
+  truth-back base now later = truth-behind state (ceased base now) later ∙ ap (λ b. b && truth state later) (truth-both state (Atom base) (Not now) ∙ (λ i. truth-Atom state base i && truth-Not state now i))
+
+  pub truth-early : (base : ℕ) (first : Form) → truth state (early base first) ≡ (truth state first && not (is_set state base))
+  truth-early base first = truth-joint state first (Not (Atom base)) ∙ ap (λ b. truth state first && b) (truth-Not state (Atom base) ∙ ap not (truth-Atom state base))
+
+  pub truth-unless : (cond : Form) → truth state (unless cond) ≡ not (truth state cond)
+  unfolding truth
+  truth-unless True = truth-Not state True
+  truth-unless False = refl
+  truth-unless (Atom atom) = truth-Not state (Atom atom)
+  truth-unless (Not' shape part) = truth-Not state (Not' shape part)
+  truth-unless (And' shape parts) = truth-Not state (And' shape parts)
+  truth-unless (Or' shape parts) = truth-Not state (Or' shape parts)
+
+module _ (allowed : ℕ → Bool) where
+  pub has_atoms-back : (base : ℕ) (now later : Form) → allowed base ≡ true → has_atoms allowed now ≡ true → has_atoms allowed later ≡ true → has_atoms allowed (back base now later) ≡ true
+  has_atoms-back base now later own n l = has_atoms-behind allowed (ceased base now) later (has_atoms-both allowed (Atom base) (Not now) (has_atoms-Atom allowed base ∙ own) (has_atoms-Not allowed now ∙ n)) l
+
+  pub has_atoms-early : (base : ℕ) (first : Form) → allowed base ≡ true → has_atoms allowed first ≡ true → has_atoms allowed (early base first) ≡ true
+  has_atoms-early base first own f = has_atoms-joint allowed first (Not (Atom base)) f (has_atoms-Not allowed (Atom base) ∙ has_atoms-Atom allowed base ∙ own)
+
+  pub has_atoms-unless : (cond : Form) → has_atoms allowed cond ≡ true → has_atoms allowed (unless cond) ≡ true
+  unfolding has_atoms
+  has_atoms-unless True c = has_atoms-Not allowed True ∙ c
+  has_atoms-unless False c = refl
+  has_atoms-unless (Atom atom) c = has_atoms-Not allowed (Atom atom) ∙ c
+  has_atoms-unless (Not' shape part) c = has_atoms-Not allowed (Not' shape part) ∙ c
+  has_atoms-unless (And' shape parts) c = has_atoms-Not allowed (And' shape parts) ∙ c
+  has_atoms-unless (Or' shape parts) c = has_atoms-Not allowed (Or' shape parts) ∙ c
+
+pub nodes-back : (base : ℕ) (now later : Form) → nodes (back base now later) ≤ 4 + (nodes now + nodes later)
+nodes-back base now later = let b = nodes-behind (ceased base now) later in let i = nodes-both (Atom base) (Not now) in let a = nodes-Atom base in let n = nodes-Not now in omega arith
+
+pub nodes-early : (base : ℕ) (first : Form) → nodes (early base first) ≤ 3 + nodes first
+nodes-early base first = let b = nodes-joint first (Not (Atom base)) in let n = nodes-Not (Atom base) in let a = nodes-Atom base in omega arith
+
+pub nodes-unless : (cond : Form) → nodes (unless cond) ≤ 1 + nodes cond
+unfolding nodes
+nodes-unless True = let n = nodes-Not True in omega (arith, n)
+nodes-unless False = omega arith
+nodes-unless (Atom atom) = let n = nodes-Not (Atom atom) in omega (arith, n)
+nodes-unless (Not' shape part) = let n = nodes-Not (Not' shape part) in omega (arith, n)
+nodes-unless (And' shape parts) = let n = nodes-Not (And' shape parts) in omega (arith, n)
+nodes-unless (Or' shape parts) = let n = nodes-Not (Or' shape parts) in omega (arith, n)

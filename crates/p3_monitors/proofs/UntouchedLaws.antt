@@ -21,7 +21,7 @@ use Rattle.p3_monitors.specs.Riders.{RidesUntouched}
 use Rattle.p3_formula.proofs.ReadAtoms.{reads, has_more}
 use Rattle.p3_formula.proofs.WatchedLaws.{length-watched, last-next, each-next, some-next, came-next, awaited-next, early-next}
 use Rattle.p3_monitors.proofs.LastLaws.{ended}
-use Rattle.p3_monitors.proofs.ChangeLaws.{Stage, reached, own_after, truth_now, truth_later, keeps_on, none_named}
+use Rattle.p3_monitors.proofs.ChangeLaws.{Stage, reached, transition, own_after, truth_now, truth_later, keeps_on, none_named}
 
 -- ---- one state more in which each form is as in the last
 
@@ -109,7 +109,7 @@ module _ (base : ℕ) (modal : GroundModal) (step : List Change) (none : HasNone
       sym (truth-unchanged state step form (has_more (is_read modal) (λ atom. not (list_any (λ change. change.atom == atom) step)) (λ atom read. ap not (none_named (is_read modal) atom step none read)) form reads_it))
 
   same : (form : Form) → has_atoms (is_read modal) form ≡ true → truth stage.next form ≡ truth (last_of stage.W) form
-  same form reads_it = sym (truth_later stage form reads_it form (unchanged form reads_it)) ∙ truth_now stage form reads_it
+  same form reads_it = sym (truth_later (transition stage) form reads_it form (unchanged form reads_it)) ∙ truth_now (transition stage) form reads_it
 
   still : watched (stage.W ++ stage.next ∷ []) modal ≡ watched stage.W modal
   still =

@@ -1,5 +1,5 @@
 -- The changes of each operator's monitor are what they are to be.
-use Rattle.std.proofs.Common.{◌≡◌, ◌∙◌, ℕ, ◌+◌, ◌≤◌, ◌<◌, ◌==◌, Bool, true, false, not, ◌&&◌, ◌||◌, List, [], ◌∷◌, length, sum_by, Result, refl, sym, ap, subst, arith}
+use Rattle.std.proofs.Common.{◌≡◌, ◌∙◌, ℕ, ◌+◌, ◌≤◌, ◌<◌, ◌==◌, Bool, true, false, not, ◌&&◌, ◌||◌, List, [], ◌∷◌, ◌++◌, length, sum_by, Result, refl, sym, ap, subst, arith}
 use Rattle.std.specs.Prelude.{IfOk}
 use Rattle.std.specs.List.{list_all}
 use Rattle.std.proofs.lemmas.Bool.{and_parts, and_from, not-true}
@@ -11,35 +11,34 @@ use Rattle.p3_formula.specs.Forms.{State, is_set, truth, has_atoms, nodes}
 use Rattle.p3_base.specs.Trajectories.{each, some, came_back, is_awaited, came_early}
 use Rattle.p3_formula.specs.GroundSat.{holds_at}
 use Rattle.p3_formula.specs.GroundPlans.{last_of}
-use Rattle.p3_formula.specs.Constructors.{both}
 use Rattle.p3_formula.specs.Next.{is_set_after}
 use Rattle.p3_formula.specs.declared.form.Change.{Change}
 use Rattle.p3_formula.specs.declared.form.Form.{Form}
-use Rattle.p3_formula.specs.declared.form.Form.TheVariants.{Atom, Not}
+use Rattle.p3_formula.specs.declared.form.Form.TheVariants.{Not}
 use Rattle.p3_formula.specs.declared.modal.GroundModal.{GroundModal}
 use Rattle.p3_formula.specs.declared.modal.GroundModal.TheVariants as modal
-use Rattle.p3_formula.proofs.FormLemmas.{truth-Atom, truth-Not, truth-both, has_atoms-Atom, has_atoms-Not, has_atoms-both, nodes-Atom, nodes-Not, nodes-both}
+use Rattle.p3_formula.proofs.FormLemmas.{truth-Not, truth-both, has_atoms-Not, has_atoms-both, nodes-Not, nodes-both}
 use Rattle.p3_formula.proofs.NextLaws.{is_set_after-front, is_set_after-back}
 use Rattle.p3_regress.specs.Regressed.{growth}
 use Rattle.p3_regress.proofs.TurnedLaws.{growth-both, growth-Not}
 use Rattle.p3_formula.specs.Kept.{is_own}
 use Rattle.p3_formula.specs.Modals.{forms_of, is_read, IsModalBelow}
 use Rattle.p3_monitors.specs.KeepsOn.{AreOwn, condition_nodes}
-use Rattle.p3_monitors.specs.Updates.{IsTurned, IsUpdate, change, awaits, joint, joint_behind, ceased, always, sometime, at_most_once, sometime_after, sometime_before}
+use Rattle.p3_monitors.specs.Updates.{IsTurned, IsUpdate, change, awaits, back, early, always, sometime, at_most_once, sometime_after, sometime_before}
 use Rattle.p3_formula.proofs.ReadAtoms.{same_number, reads}
 use Rattle.p3_formula.proofs.WatchedLaws.{each-next, some-next, came-next, awaited-next, early-next}
-use Rattle.p3_monitors.proofs.JointLaws.{truth-joint, truth-behind, has_atoms-joint, has_atoms-behind, nodes-joint, nodes-behind}
-use Rattle.p3_monitors.proofs.ChangeLaws.{own_from, own_after, truth_now, turned_later, turned_only, keeps_on, set_by, cleared_by}
+use Rattle.p3_monitors.proofs.JointLaws.{truth-back, truth-early, has_atoms-back, has_atoms-early, nodes-back, nodes-early}
+use Rattle.p3_monitors.proofs.ChangeLaws.{Transition, own_from, own_after, transition, truth_now, turned_later, turned_only, keeps_on, set_by, cleared_by}
 use Rattle.p3_monitors.proofs.LastLaws.{each_last, some_last, awaited_last, unawaited_last, early_last}
 
 module _ {A : Type 0} (size : A → ℕ) where
-  one_sum : (one : A) → sum_by size (one ∷ []) ≡ size one
+  pub one_sum : (one : A) → sum_by size (one ∷ []) ≡ size one
   one_sum one = let h = sum_by-cons size one [] in omega arith
 
-  two_sum : (one other : A) → sum_by size (one ∷ other ∷ []) ≡ size one + size other
+  pub two_sum : (one other : A) → sum_by size (one ∷ other ∷ []) ≡ size one + size other
   two_sum one other = let h = sum_by-cons size one (other ∷ []) in let k = sum_by-cons size other [] in omega arith
 
-at_base : (base : ℕ) → base ≤ base
+pub at_base : (base : ℕ) → base ≤ base
 at_base base = omega arith
 
 past_base : (base : ℕ) → base ≤ base + 1
@@ -48,7 +47,7 @@ past_base base = omega arith
 in_one : (base : ℕ) → base < base + 1
 in_one base = omega arith
 
-in_two : (base : ℕ) → base < base + 2
+pub in_two : (base : ℕ) → base < base + 2
 in_two base = omega arith
 
 next_in_two : (base : ℕ) → base + 1 < base + 2
@@ -129,6 +128,14 @@ module _ (base : ℕ) (step : List Change) where
       reads_it : has_atoms (is_read operator) f ≡ true
       reads_it = (and_parts _ _ (sym (ap (list_all (has_atoms (is_read operator))) one) ∙ reads operator)).0
 
+    -- with what its atom says, what is told before the step says whether the form holds in each state, also in the next
+    pub each_told : IsTurned false step f later → (at : Transition base (modal.Always f) step)
+        → (each (length at.W) (holds_at at.W f) && truth at.state later) ≡ each (length (at.W ++ at.next ∷ [])) (holds_at (at.W ++ at.next ∷ []) f)
+    each_told made at =
+        agree_and (each (length at.W) (holds_at at.W f)) (truth at.state later) (truth at.next f)
+        (λ held. turned_later at f (reads_it (modal.Always f) refl) false later made.truth (each_last at.W at.kept.visited f held))
+        ∙ sym (each-next at.W at.next f)
+
     pub always_update : IsTurned false step f later → IsModalBelow base (modal.Always f) → IsUpdate base (modal.Always f) step (always base later)
     always_update made below = record {
       kept = keeps_on base (modal.Always f) step (always base later) below mine (λ stage. (
@@ -136,9 +143,7 @@ module _ (base : ℕ) (step : List Change) where
             ∙ cleared_by stage.state base (Not later)
             ∙ (λ i. stage.kept.carries.stand.0 i && not (truth-Not stage.state later i))
             ∙ ap (λ b. each (length stage.W) (holds_at stage.W f) && b) (not-not (truth stage.state later))
-            ∙ agree_and (each (length stage.W) (holds_at stage.W f)) (truth stage.state later) (truth stage.next f)
-            (λ held. turned_later stage f (reads_it (modal.Always f) refl) false later made.truth (each_last stage.W stage.kept.visited f held))
-            ∙ sym (each-next stage.W stage.next f),
+            ∙ each_told made (transition stage),
         tt,
       ));
       own = mine;
@@ -156,7 +161,7 @@ module _ (base : ℕ) (step : List Change) where
             ∙ set_by stage.state base later
             ∙ (λ i. stage.kept.carries.stand.0 i || truth stage.state later)
             ∙ agree_or (some (length stage.W) (holds_at stage.W f)) (truth stage.state later) (truth stage.next f)
-            (λ none. turned_later stage f (reads_it (modal.Sometime f) refl) true later made.truth (some_last stage.W stage.kept.visited f none))
+            (λ none. turned_later (transition stage) f (reads_it (modal.Sometime f) refl) true later made.truth (some_last stage.W stage.kept.visited f none))
             ∙ sym (some-next stage.W stage.next f),
         tt,
       ));
@@ -168,47 +173,48 @@ module _ (base : ℕ) (step : List Change) where
       mine : AreOwn base (modal.Sometime f) (sometime base later)
       mine = and_from (is_own base (modal.Sometime f) base) true (own_from base (modal.Sometime f) base (at_base base) (in_one base)) refl
 
+    -- and whether it came back
+    pub came_told : IsTurned true step f later → (at : Transition base (modal.AtMostOnce f) step)
+        → (came_back (length at.W) (holds_at at.W f) || truth at.state (back base f later)) ≡ came_back (length (at.W ++ at.next ∷ [])) (holds_at (at.W ++ at.next ∷ []) f)
+    came_told made at =
+        let reads = reads_it (modal.AtMostOnce f) refl in
+        let came = came_back (length at.W) (holds_at at.W f) in
+        (λ i. came || truth-back at.state base f later i)
+        ∙ (λ i. came || ((at.kept.carries.stand.0 i && not (truth_now at f reads i)) && truth at.state later))
+        ∙ ap (λ b. came || b) (agree_back (some (length at.W) (holds_at at.W f)) (truth (last_of at.W) f) (truth at.state later) (truth at.next f) (turned_later at f reads true later made.truth))
+        ∙ sym (came-next at.W at.next f)
+
     pub at_most_once_update : IsTurned true step f later → IsModalBelow base (modal.AtMostOnce f) → IsUpdate base (modal.AtMostOnce f) step (at_most_once base f later)
     at_most_once_update made below = record {
       kept = keeps_on base (modal.AtMostOnce f) step (at_most_once base f later) below mine (λ stage.
-          let comes = turned_later stage f (reads_it (modal.AtMostOnce f) refl) true later made.truth in
-          let was = truth_now stage f (reads_it (modal.AtMostOnce f) refl) in
+          let comes = turned_later (transition stage) f (reads_it (modal.AtMostOnce f) refl) true later made.truth in
           let held = some (length stage.W) (holds_at stage.W f) in (
             own_after stage base (at_base base) (in_two base)
-                ∙ first_set stage.state base later back
+                ∙ first_set stage.state base later (back base f later)
                 ∙ (λ i. stage.kept.carries.stand.0 i || truth stage.state later)
                 ∙ agree_or held (truth stage.state later) (truth stage.next f) (λ none. comes (some_last stage.W stage.kept.visited f none))
                 ∙ sym (some-next stage.W stage.next f),
             (
               own_after stage (base + 1) (past_base base) (next_in_two base)
-                  ∙ second_set stage.state base later back
-                  ∙ (λ i. stage.kept.carries.stand.1.0 i || back_truth stage.state i)
-                  ∙ (λ i. came_back (length stage.W) (holds_at stage.W f) || ((stage.kept.carries.stand.0 i && not (was i)) && truth stage.state later))
-                  ∙ ap (λ b. came_back (length stage.W) (holds_at stage.W f) || b) (agree_back held (truth (last_of stage.W) f) (truth stage.state later) (truth stage.next f) comes)
-                  ∙ sym (came-next stage.W stage.next f),
+                  ∙ second_set stage.state base later (back base f later)
+                  ∙ (λ i. stage.kept.carries.stand.1.0 i || truth stage.state (back base f later))
+                  ∙ came_told made (transition stage),
               tt,
             ),
           ));
       own = mine;
       atoms = λ allowed of own conds.
-          let now = made.atoms allowed (and_parts _ _ of).0 conds in
-          let held = has_atoms-Atom allowed base ∙ own base first_own in
-          and_from (has_atoms allowed later) _ now
-          (and_from (has_atoms allowed back) true (has_atoms-behind allowed _ later (has_atoms-both allowed (Atom base) (Not f) held (has_atoms-Not allowed f ∙ (and_parts _ _ of).0)) now) refl);
+          let it = (and_parts (has_atoms allowed f) _ of).0 in
+          let now = made.atoms allowed it conds in
+          and_from (has_atoms allowed later) _ now (and_from (has_atoms allowed (back base f later)) true (has_atoms-back allowed base f later (own base first_own) it now) refl);
       few = omega arith;
-      size = let b = nodes-behind (both (Atom base) (Not f)) later in let i = nodes-both (Atom base) (Not f) in let a = nodes-Atom base in let n = nodes-Not f in let c : condition_nodes (at_most_once base f later) ≡ nodes later + nodes back = two_sum (λ c. nodes c.cond) (change true base later) (change true (base + 1) back) in let m = one_sum nodes f in let s = made.size in let g = one_sum (growth step) f in omega arith;
+      size = let b = nodes-back base f later in let c : condition_nodes (at_most_once base f later) ≡ nodes later + nodes (back base f later) = two_sum (λ c. nodes c.cond) (change true base later) (change true (base + 1) (back base f later)) in let m = one_sum nodes f in let s = made.size in let g = one_sum (growth step) f in omega arith;
     } where
-      back : Form
-      back = joint_behind (ceased base f) later
-
       first_own : is_own base (modal.AtMostOnce f) base ≡ true
       first_own = own_from base (modal.AtMostOnce f) base (at_base base) (in_two base)
 
       mine : AreOwn base (modal.AtMostOnce f) (at_most_once base f later)
-      mine = both_own base later back (modal.AtMostOnce f) first_own (own_from base (modal.AtMostOnce f) (base + 1) (past_base base) (next_in_two base))
-
-      back_truth : (state : State) → truth state back ≡ ((is_set state base && not (truth state f)) && truth state later)
-      back_truth state = truth-behind state (both (Atom base) (Not f)) later ∙ ap (λ b. b && truth state later) (truth-both state (Atom base) (Not f) ∙ (λ i. truth-Atom state base i && truth-Not state f i))
+      mine = both_own base later (back base f later) (modal.AtMostOnce f) first_own (own_from base (modal.AtMostOnce f) (base + 1) (past_base base) (next_in_two base))
 
   module _ (f g : Form) where
     -- a constraint of two forms
@@ -224,10 +230,10 @@ module _ (base : ℕ) (step : List Change) where
     sometime_after_update met awaited made other_made below = record {
       kept = keeps_on base (modal.SometimeAfter f g) step (sometime_after base met awaited) below mine (λ stage.
           let both_read = reads_both (modal.SometimeAfter f g) refl in
-          let answers = turned_later stage g both_read.1 true met made.truth in
+          let answers = turned_later (transition stage) g both_read.1 true met made.truth in
           let open_read = has_atoms-awaits (is_read (modal.SometimeAfter f g)) both_read.0 both_read.1 in
-          let begins = turned_later stage (awaits f g) open_read true awaited other_made.truth in
-          let only = turned_only stage (awaits f g) open_read true awaited other_made.truth in (
+          let begins = turned_later (transition stage) (awaits f g) open_read true awaited other_made.truth in
+          let only = turned_only (transition stage) (awaits f g) open_read true awaited other_made.truth in (
             own_after stage base (at_base base) (in_one base)
                 ∙ switched_by stage.state base met awaited
                 ∙ (λ i. truth stage.state awaited || (stage.kept.carries.stand.0 i && not (truth stage.state met)))
@@ -252,26 +258,33 @@ module _ (base : ℕ) (step : List Change) where
           let h = own_from base (modal.SometimeAfter f g) base (at_base base) (in_one base) in
           and_from (is_own base (modal.SometimeAfter f g) base) _ h (and_from (is_own base (modal.SometimeAfter f g) base) true h refl)
 
+    -- with what its atoms say, what is told before the step says whether the first came too early, also in the next state
+    pub early_told : (later : Form) → IsTurned true step f later → (at : Transition base (modal.SometimeBefore f g) step)
+        → (came_early (length at.W) (holds_at at.W f) (holds_at at.W g) || truth at.state (early base later)) ≡ came_early (length (at.W ++ at.next ∷ [])) (holds_at (at.W ++ at.next ∷ []) f) (holds_at (at.W ++ at.next ∷ []) g)
+    early_told later made at =
+        let came = came_early (length at.W) (holds_at at.W f) (holds_at at.W g) in
+        (λ i. came || truth-early at.state base later i)
+        ∙ (λ i. came || (truth at.state later && not (at.kept.carries.stand.0 i)))
+        ∙ agree_early came (some (length at.W) (holds_at at.W g)) (truth at.state later) (truth at.next f)
+        (λ none unheld. turned_later at f (reads_both (modal.SometimeBefore f g) refl).0 true later made.truth (early_last at.W at.kept.visited f g none unheld))
+        ∙ sym (early-next at.W at.next f g)
+
     pub sometime_before_update : (later answer : Form) → IsTurned true step f later → IsTurned true step g answer → IsModalBelow base (modal.SometimeBefore f g)
         → IsUpdate base (modal.SometimeBefore f g) step (sometime_before base later answer)
     sometime_before_update later answer made other_made below = record {
       kept = keeps_on base (modal.SometimeBefore f g) step (sometime_before base later answer) below mine (λ stage.
-          let comes = turned_later stage f (reads_both (modal.SometimeBefore f g) refl).0 true later made.truth in
-          let answers = turned_later stage g (reads_both (modal.SometimeBefore f g) refl).1 true answer other_made.truth in
-          let held = some (length stage.W) (holds_at stage.W g) in
-          let early = came_early (length stage.W) (holds_at stage.W f) (holds_at stage.W g) in (
+          let answers = turned_later (transition stage) g (reads_both (modal.SometimeBefore f g) refl).1 true answer other_made.truth in
+          let held = some (length stage.W) (holds_at stage.W g) in (
             own_after stage base (at_base base) (in_two base)
-                ∙ first_set stage.state base answer soon
+                ∙ first_set stage.state base answer (early base later)
                 ∙ (λ i. stage.kept.carries.stand.0 i || truth stage.state answer)
                 ∙ agree_or held (truth stage.state answer) (truth stage.next g) (λ none. answers (some_last stage.W stage.kept.visited g none))
                 ∙ sym (some-next stage.W stage.next g),
             (
               own_after stage (base + 1) (past_base base) (next_in_two base)
-                  ∙ second_set stage.state base answer soon
-                  ∙ (λ i. stage.kept.carries.stand.1.0 i || soon_truth stage.state i)
-                  ∙ (λ i. early || (truth stage.state later && not (stage.kept.carries.stand.0 i)))
-                  ∙ agree_early early held (truth stage.state later) (truth stage.next f) (λ none unheld. comes (early_last stage.W stage.kept.visited f g none unheld))
-                  ∙ sym (early-next stage.W stage.next f g),
+                  ∙ second_set stage.state base answer (early base later)
+                  ∙ (λ i. stage.kept.carries.stand.1.0 i || truth stage.state (early base later))
+                  ∙ early_told later made (transition stage),
               tt,
             ),
           ));
@@ -280,22 +293,15 @@ module _ (base : ℕ) (step : List Change) where
           let parts = and_parts (has_atoms allowed f) _ of in
           let first = made.atoms allowed parts.0 conds in
           let second = other_made.atoms allowed (and_parts _ _ parts.1).0 conds in
-          let held = has_atoms-Not allowed (Atom base) ∙ has_atoms-Atom allowed base ∙ own base first_own in
-          and_from (has_atoms allowed answer) _ second (and_from (has_atoms allowed soon) true (has_atoms-joint allowed later (Not (Atom base)) first held) refl);
+          and_from (has_atoms allowed answer) _ second (and_from (has_atoms allowed (early base later)) true (has_atoms-early allowed base later (own base first_own) first) refl);
       few = omega arith;
-      size = let b = nodes-joint later (Not (Atom base)) in let n = nodes-Not (Atom base) in let a = nodes-Atom base in let c : condition_nodes (sometime_before base later answer) ≡ nodes answer + nodes soon = two_sum (λ c. nodes c.cond) (change true base answer) (change true (base + 1) soon) in let m = two_sum nodes f g in let s = made.size in let o = other_made.size in let h = two_sum (growth step) f g in omega arith;
+      size = let b = nodes-early base later in let c : condition_nodes (sometime_before base later answer) ≡ nodes answer + nodes (early base later) = two_sum (λ c. nodes c.cond) (change true base answer) (change true (base + 1) (early base later)) in let m = two_sum nodes f g in let s = made.size in let o = other_made.size in let h = two_sum (growth step) f g in omega arith;
     } where
-      soon : Form
-      soon = joint later (Not (Atom base))
-
       first_own : is_own base (modal.SometimeBefore f g) base ≡ true
       first_own = own_from base (modal.SometimeBefore f g) base (at_base base) (in_two base)
 
       mine : AreOwn base (modal.SometimeBefore f g) (sometime_before base later answer)
-      mine = both_own base answer soon (modal.SometimeBefore f g) first_own (own_from base (modal.SometimeBefore f g) (base + 1) (past_base base) (next_in_two base))
-
-      soon_truth : (state : State) → truth state soon ≡ (truth state later && not (is_set state base))
-      soon_truth state = truth-joint state later (Not (Atom base)) ∙ ap (λ b. truth state later && b) (truth-Not state (Atom base) ∙ ap not (truth-Atom state base))
+      mine = both_own base answer (early base later) (modal.SometimeBefore f g) first_own (own_from base (modal.SometimeBefore f g) (base + 1) (past_base base) (next_in_two base))
 
 -- what is made for the operator of a constraint is made for the constraint
 pub updated : {E : Type 0} (base : ℕ) (step made : List Change) (modal operator : GroundModal) (result : Result (List Change) E)

@@ -1,15 +1,15 @@
 -- The changes that a monitor makes, from the forms that tell of turns by the step.
-use Rattle.std.specs.Prelude.{ℕ, ◌+◌, ◌≤◌, Bool, true, false, List, [], ◌∷◌, length, if◌then◌else◌}
+use Rattle.std.specs.Prelude.{◌≡◌, ℕ, ◌+◌, ◌≤◌, Bool, true, false, not, List, [], ◌∷◌, length, if◌then◌else◌}
 use Rattle.p3_formula.specs.Constructors.{both}
 use Rattle.p3_formula.specs.Forms.{nodes}
 use Rattle.p3_formula.specs.declared.form.Change.{Change}
 use Rattle.p3_formula.specs.declared.form.Form.{Form}
-use Rattle.p3_formula.specs.Simplified.{is_value}
+use Rattle.p3_formula.specs.Simplified.{constant, is_value}
 use Rattle.p3_formula.specs.declared.form.Form.TheVariants.{False, Atom, Not}
 use Rattle.p3_formula.specs.declared.modal.GroundModal.{GroundModal}
 use Rattle.p3_formula.specs.declared.modal.GroundModal.TheVariants as modal
 use Rattle.p3_regress.specs.Regressed.{HasAtomsOfBoth, growth}
-use Rattle.p3_regress.specs.Turned.{IsTurnBefore}
+use Rattle.p3_regress.specs.Turned.{may_turn, IsTurnBefore}
 use Rattle.p3_formula.specs.Kept.{is_own}
 use Rattle.p3_monitors.specs.KeepsOn.{HasNone, AreOwn, KeepsOn, HasConditions, condition_nodes, most_nodes}
 
@@ -29,6 +29,14 @@ joint_behind first second = if is_value false second then False else (if is_valu
 abbrev pub ceased : ℕ → Form → Form
 ceased base now = both (Atom base) (Not now)
 
+-- the atom is set, the form does not hold, and it does later
+abbrev pub back : ℕ → Form → Form → Form
+back base now later = joint_behind (ceased base now) later
+
+-- the form holds, and the atom is not set
+abbrev pub early : ℕ → Form → Form
+early base first = joint first (Not (Atom base))
+
 abbrev pub always : ℕ → Form → List Change
 always base later = change false base (Not later) ∷ []
 
@@ -36,7 +44,7 @@ abbrev pub sometime : ℕ → Form → List Change
 sometime base later = change true base later ∷ []
 
 abbrev pub at_most_once : ℕ → Form → Form → List Change
-at_most_once base now later = change true base later ∷ change true (base + 1) (joint_behind (ceased base now) later) ∷ []
+at_most_once base now later = change true base later ∷ change true (base + 1) (back base now later) ∷ []
 
 -- the first holds, and the second does not
 abbrev pub awaits : Form → Form → Form
@@ -46,7 +54,7 @@ abbrev pub sometime_after : ℕ → Form → Form → List Change
 sometime_after base met awaited = change false base met ∷ change true base awaited ∷ []
 
 abbrev pub sometime_before : ℕ → Form → Form → List Change
-sometime_before base first second = change true base second ∷ change true (base + 1) (joint first (Not (Atom base))) ∷ []
+sometime_before base first second = change true base second ∷ change true (base + 1) (early base first) ∷ []
 
 -- the form that holds where the monitor accepts
 abbrev pub accept_form : ℕ → GroundModal → Form
@@ -57,9 +65,10 @@ accept_form base (modal.AtMostOnce f) = Not (Atom (base + 1))
 accept_form base (modal.SometimeAfter f g) = Not (Atom base)
 accept_form base (modal.SometimeBefore f g) = Not (Atom (base + 1))
 
--- the form before a step that tells of the turns of one after it: what it says, the atoms that it reads, and its size
+-- the form before a step that tells of the turns of one after it: what it says, that it is a constant where there are none, the atoms that it reads, and its size
 pub record IsTurned (up : Bool) (step : List Change) (form before : Form) : Type 0 where
   pub truth : IsTurnBefore up step form before
+  pub still : may_turn step up form ≡ false → before ≡ constant (not up)
   pub atoms : HasAtomsOfBoth step form before
   pub size : nodes before ≤ nodes form + growth step form
 

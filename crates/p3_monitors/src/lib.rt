@@ -5,6 +5,7 @@
 mod accepting;
 mod beginning;
 mod copying;
+mod guards;
 mod laws;
 mod making;
 mod reading;

@@ -35,7 +35,7 @@ fn two(alloc: Global, first: Change, second: Change) -> Result<Effects, NoMemory
 }
 
 /// Whether the form is the constant of that value.
-fn is_value(form: &Form, value: bool) -> bool
+pub(crate) fn is_value(form: &Form, value: bool) -> bool
     ensures { result ≡ is_value value form.now }
 {
     match form {
@@ -68,8 +68,8 @@ fn ceased(alloc: Global, base: usize, form: &Form) -> Result<Form, NoMemory>
 }
 
 /// The atom is set, the form does not hold, and it does later.
-fn back(alloc: Global, base: usize, form: &Form, later: Form) -> Result<Form, NoMemory>
-    ensures { IfOk result (λ back. back ≡ made.joint_behind (made.ceased base form.now) later) }
+pub(crate) fn back(alloc: Global, base: usize, form: &Form, later: Form) -> Result<Form, NoMemory>
+    ensures { IfOk result (λ back. back ≡ made.back base form.now later) }
 {
     if is_value(&later, false) {
         return Ok(Form::False);
@@ -79,6 +79,13 @@ fn back(alloc: Global, base: usize, form: &Form, later: Form) -> Result<Form, No
         return Ok(ceased);
     }
     Form::both(alloc, ceased, later)
+}
+
+/// The form holds, and the atom is not set.
+pub(crate) fn early(alloc: Global, base: usize, first: Form) -> Result<Form, NoMemory>
+    ensures { IfOk result (λ early. early ≡ made.early base first) }
+{
+    joint(alloc, first, Form::negation(alloc, Form::Atom(base))?)
 }
 
 /// It has held in every state: no more where it does not hold after the step.
@@ -144,7 +151,7 @@ pub(crate) fn sometime_before(
     requires { base + 1 ≤ 2 ^ 64 - 1 }
     ensures { IfOk result (λ effects. effects ≡ made.sometime_before base first second) }
 {
-    let early = joint(alloc, first, Form::negation(alloc, Form::Atom(base))?)?;
+    let early = early(alloc, base, first)?;
     let held = change(second, base, true);
     two(alloc, held, change(early, base + 1, true))
 }

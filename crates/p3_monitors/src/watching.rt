@@ -1,15 +1,18 @@
 //! Monitors, and what rides on a step for them.
 
 ghost use Rattle.std.specs.Prelude.{◌≡◌, ◌≤◌, ◌+◌, ◌*◌, ◌-◌, ◌^◌, ℕ, Bool, List, length, IfOk, true, false, ◌++◌};
-ghost use Rattle.p3_formula.specs.Forms.{State, truth, is_set};
+ghost use Rattle.p3_formula.specs.Forms.{State, truth, is_set, nodes};
 ghost use Rattle.p3_formula.specs.Next.{after};
 ghost use Rattle.p3_formula.specs.declared.form.Change.{Change};
 ghost use Rattle.p3_formula.specs.Kept.{atom_count, accepts, is_own};
+ghost use Rattle.p3_formula.specs.Lasting.{stays_broken};
 ghost use Rattle.p3_formula.specs.Modals.{IsModalBelow, modal_nodes, touches};
+ghost use Rattle.p3_monitors.specs.Guards.{HasGuard, IsGuard, IsGuarding, may_break};
 ghost use Rattle.p3_monitors.specs.KeepsOn.{HasNone, KeepsOn, AreOwn, HasConditions, HasAccept, condition_nodes, LeavesOthers, most_nodes};
 ghost use Rattle.p3_monitors.specs.Updates.{IsTurned, IsUpdate, awaits};
 ghost use Rattle.p3_regress.specs.Memory.{Extends};
 
+use crate::guards::{not_back, not_early};
 use crate::reading::reads;
 use crate::updates::{always, at_most_once, awaits, sometime, sometime_after, sometime_before};
 use p3_base::{List, NoMemory};
@@ -83,6 +86,30 @@ impl Monitor {
         updates(alloc, &self.modal, self.base, regressed)
     }
 
+    /// Makes the form that holds exactly where the step of a regression does not break the
+    /// constraint, if that is one which stays broken once it is.
+    pub fn guard(&self, alloc: Global, regressed: &mut Regressed) -> Result<Form, NoMemory>
+        // Where the constraint is not broken so far, it says whether it is in the next state.
+        ensures guards { IfOk result
+            (IsGuard self.now.base self.now.modal regressed.old.effects) }
+        // A constraint that can come right again is not guarded.
+        ensures free { stays_broken self.now.modal ≡ false
+            → IfOk result (λ guard. guard ≡ Form.True) }
+        // Nor is one that the step cannot break.
+        ensures still { may_break self.now.modal regressed.old.effects ≡ false
+            → IfOk result (λ guard. guard ≡ Form.True) }
+        // It reads no atoms but its own and those of the constraint and of the step's conditions.
+        ensures atoms { IfOk result
+            (HasGuard self.now.base self.now.modal regressed.old.effects) }
+        // It is small.
+        ensures size { IfOk result (λ guard.
+            nodes guard ≤ most_nodes regressed.old.effects self.now.modal) }
+        // The regression keeps its step, its nodes and its answers.
+        ensures extends { Extends regressed.old regressed.new }
+    {
+        guard(alloc, &self.modal, self.base, regressed)
+    }
+
     /// Whether an atom that some change of the step names stands in a form of the constraint. It
     /// takes no memory. Where it does not, the monitor rides on the step with no changes.
     pub fn touched(&self, step: &Effects) -> bool
@@ -120,6 +147,31 @@ fn updates(
         GroundModal::SometimeBefore(first, second) => {
             let (first, second) = both_turned(alloc, regressed, first, second)?;
             sometime_before(alloc, base, first, second)
+        }
+    }
+}
+
+/// Makes the form that holds where the step does not break that constraint.
+fn guard(
+    alloc: Global,
+    modal: &GroundModal,
+    base: usize,
+    regressed: &mut Regressed,
+) -> Result<Form, NoMemory>
+    requires below { IsModalBelow base modal.now }
+    ensures guarding { IfOk result (IsGuarding base modal.now regressed.old.effects) }
+    ensures extends { Extends regressed.old regressed.new }
+{
+    match modal {
+        GroundModal::Always(form) => turned(alloc, regressed, form, false),
+        GroundModal::AtMostOnce(form) => {
+            not_back(alloc, base, form, turned(alloc, regressed, form, true)?)
+        }
+        GroundModal::SometimeBefore(first, _) => {
+            not_early(alloc, base, turned(alloc, regressed, first, true)?)
+        }
+        GroundModal::AtEnd(_) | GroundModal::Sometime(_) | GroundModal::SometimeAfter(_, _) => {
+            Ok(Form::True)
         }
     }
 }

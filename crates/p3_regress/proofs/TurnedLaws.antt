@@ -1,19 +1,20 @@
 -- A form that the changes may not turn stays, and so the parts that they may turn tell of each turn.
-use Rattle.std.proofs.Common.{◌≡◌, ◌∙◌, ℕ, ◌+◌, ◌<◌, ◌≤◌, nat_lt, ◌==◌, Bool, true, false, cond, not, ◌&&◌, ◌||◌, List, [], ◌∷◌, length, map, sum, sum_by, refl, sym, ap, subst, arith, true≢false}
+use Rattle.std.proofs.Common.{◌≡◌, ◌∙◌, ℕ, ◌+◌, ◌≤◌, nat_lt, Bool, true, false, cond, not, ◌&&◌, ◌||◌, List, [], ◌∷◌, length, sum, sum_by, Result, IfOk, refl, sym, ap, subst, arith, true≢false}
 use Rattle.std.specs.List.{list_any, list_all, filter}
 use Rattle.std.specs.List.Sorted.{IsPermutation}
-use Rattle.std.proofs.Math.Bool.{and-false, and-true, or-false, or-true, not-not}
+use Rattle.std.proofs.Math.Bool.{and-false, or-true, not-not}
 use Rattle.std.proofs.lemmas.Bool.{and_parts, and_from, or_parts, or_from}
 use Rattle.std.proofs.lemmas.Bool.Decides.{nat_tests}
 use Rattle.std.proofs.lemmas.List.Sorted.{list_any-IsPermutation}
 use Rattle.std.proofs.lemmas.List.Elements.{All-filter}
 use Rattle.std.proofs.lemmas.List.Filters.{sum_by-filter_both}
+use Rattle.std.proofs.lemmas.Result.{IfOk-weaker}
 use Rattle.std.proofs.lemmas.List.Sums.{sum-map, sum_by-cons, AllPass-from_list_all, list_all-from_AllPass}
 use mathlib.Core.Former.{Count}
 use denote.Hole.Carrier.{hidden}
 use Rattle.p3_formula.specs.Constructors.{both}
 use Rattle.p3_formula.specs.Folds.{fold_form, fold_forms}
-use Rattle.p3_formula.specs.Forms.{State, is_set, truth, truth_layer, has_atoms, nodes, HasAtomsOf, IsBelow}
+use Rattle.p3_formula.specs.Forms.{State, is_set, truth, truth_layer, has_atoms, nodes}
 use Rattle.p3_formula.specs.Next.{is_added, is_deleted, is_set_after, after}
 use Rattle.p3_formula.specs.Simplified.{constant}
 use Rattle.p3_formula.specs.declared.form.Change.{Change}
@@ -21,7 +22,7 @@ use Rattle.p3_formula.specs.declared.form.Form.{Form, Row_of-Form, end_of-Form, 
 use Rattle.p3_formula.specs.declared.form.Form.TheBlock.{hidden-the_row-Form-0}
 use Rattle.p3_formula.specs.declared.form.Form.TheVariants.{True, False, Atom, Not, And, Or, Not', And', Or'}
 use Rattle.p3_formula.specs.declared.form.Form.TheOpen as layer
-use Rattle.p3_formula.proofs.FormLemmas.{fold_parts, list_any-map, truth-And, truth-Or, has_atoms-And, has_atoms-Or, nodes-And, nodes-Or, nodes-True, nodes-False}
+use Rattle.p3_formula.proofs.FormLemmas.{fold_parts, list_any-map, truth-And, truth-Or, has_atoms-And, has_atoms-Or, nodes-And, nodes-Or}
 use Rattle.p3_formula.proofs.NextLaws.{is_set-after, is_set-beyond, after-permutation}
 use Rattle.p3_regress.specs.Regressed.{IsTrueBefore, IsUntouched, is_of, growth, growth_layer}
 use Rattle.p3_regress.specs.Turned.{turns_layer, may_turn, IsTurnBefore, IsNarrowed}
@@ -167,7 +168,7 @@ module _ (pick : Form → Bool) where
   less : (size : Form → ℕ) (parts : List Form) → sum_by size (filter pick parts) ≤ sum_by size parts
   less size parts = let h = sum_by-filter_both pick (λ part. not (pick part)) (λ part. refl) size parts in omega arith
 
-some_node : (form : Form) → 1 ≤ nodes form
+pub some_node : (form : Form) → 1 ≤ nodes form
 unfolding nodes
 some_node True = omega arith
 some_node False = omega arith
@@ -287,5 +288,7 @@ turn_before up effects form part before narrowed truly = record {
   only = λ state below h. truly state (narrowed.atoms _ below) ∙ narrowed.only state h;
 }
 
-pub constant_untouched : (effects : List Change) (value : Bool) → IsUntouched effects (constant value)
-constant_untouched effects value = constant_atoms _ value
+-- a form that is a constant is regressed to the same
+pub told_constant : {E : Type 0} (effects : List Change) (value : Bool) (part : Form) (result : Result Form E) → part ≡ constant value
+    → (IsUntouched effects part → IfOk result (λ before. before ≡ part)) → IfOk result (λ before. before ≡ constant value)
+told_constant effects value part result is untouched = IfOk-weaker result _ _ (λ before same. same ∙ is) (untouched (subst (IsUntouched effects) (sym is) (constant_atoms _ value)))

@@ -1,6 +1,7 @@
 //! Forms before a step in place of forms after it.
 
 ghost use Rattle.std.specs.Prelude.{◌≡◌, ◌≤◌, ◌<◌, ◌+◌, ℕ, not, false, length, map, [], Some, None, Ok, All, IfOk};
+ghost use Rattle.std.specs.Option.{unwrap_or};
 ghost use Rattle.p3_formula.specs.Forms.{nodes};
 ghost use Rattle.p3_formula.specs.Nodes.{IsNodeBelow, form_of, node_form};
 ghost use Rattle.p3_formula.specs.Simplified.{constant};
@@ -122,13 +123,17 @@ impl<'e> Regressed<'e> {
         // Nodes, effects and answers that are there stay.
         ensures extends { Extends self.old self.new }
     {
-        let part = self.narrowed(alloc, form, up)?;
-        self.form(alloc, &part)
+        match self.narrowed(alloc, form, up)? {
+            Some(part) => self.form(alloc, &part),
+            None => self.form(alloc, form),
+        }
     }
 
-    /// What of the form to look at after the step, where it is not yet turned.
-    fn narrowed(&self, alloc: Global, form: &Form, up: bool) -> Result<Form, NoMemory>
-        ensures { IfOk result (IsNarrowed up self.now.effects form.now) }
+    /// What of the form to look at after the step, where it is not yet turned. There is none where it
+    /// is the form as a whole.
+    fn narrowed(&self, alloc: Global, form: &Form, up: bool) -> Result<Option<Form>, NoMemory>
+        ensures { IfOk result (λ part.
+            IsNarrowed up self.now.effects form.now (unwrap_or part form.now)) }
     {
         narrowed(alloc, &self.changes, form, up)
     }

@@ -2,6 +2,7 @@
 
 ghost use Rattle.std.specs.Prelude.{◌≡◌, IfOk, filter, not};
 ghost use Rattle.std.specs.List.{list_any};
+ghost use Rattle.std.specs.Option.{unwrap_or};
 ghost use Rattle.p3_formula.specs.Simplified as simplified;
 ghost use Rattle.p3_regress.specs.Regressed as made;
 ghost use Rattle.p3_regress.specs.Sorted.{lent, IsRising};
@@ -78,32 +79,34 @@ fn constant(value: bool) -> Form
 }
 
 /// What of the form to look at after the changes, where it is not yet turned: of a conjunction that
-/// may turn false, and of a disjunction that may turn true, the parts that may do so alone.
+/// may turn false, and of a disjunction that may turn true, the parts that may do so alone. There is
+/// none where it is the form as a whole.
 pub(crate) fn narrowed(
     alloc: Global,
     changes: &[&Change],
     form: &Form,
     up: bool,
-) -> Result<Form, NoMemory>
+) -> Result<Option<Form>, NoMemory>
     requires { IsRising changes.now }
-    ensures { IfOk result (turned.IsNarrowed up (lent changes.now) form.now) }
+    ensures { IfOk result (λ part.
+        turned.IsNarrowed up (lent changes.now) form.now (unwrap_or part form.now)) }
 {
     if !may_turn(changes, form, up) {
-        return Ok(constant(!up));
+        return Ok(Some(constant(!up)));
     }
     match form {
         Form::And(parts) => {
             if up {
-                return copied(alloc, form);
+                return Ok(None);
             }
-            Ok(Form::And(turning(alloc, changes, parts.items(), false)?))
+            Ok(Some(Form::And(turning(alloc, changes, parts.items(), false)?)))
         }
         Form::Or(parts) => {
             if up {
-                return Ok(Form::Or(turning(alloc, changes, parts.items(), true)?));
+                return Ok(Some(Form::Or(turning(alloc, changes, parts.items(), true)?)));
             }
-            copied(alloc, form)
+            Ok(None)
         }
-        Form::True | Form::False | Form::Atom(_) | Form::Not(_) => copied(alloc, form),
+        Form::True | Form::False | Form::Atom(_) | Form::Not(_) => Ok(None),
     }
 }

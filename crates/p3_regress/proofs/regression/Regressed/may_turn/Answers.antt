@@ -1,4 +1,4 @@
-use Rattle.std.proofs.Common.{◌≡◌, ◌∙◌, ap, subst, sym}
+use Rattle.std.proofs.Common.{◌≡◌, ◌∙◌, subst, sym}
 use Rattle.p3_regress.specs.Memory.{Regression}
 use Rattle.p3_regress.specs.Sorted.{lent}
 use Rattle.p3_regress.specs.Turned.{may_turn}

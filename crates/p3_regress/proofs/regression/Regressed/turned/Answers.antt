@@ -1,11 +1,13 @@
-use Rattle.std.proofs.Common.{◌∙◌, not, subst, sym}
-use Rattle.std.proofs.lemmas.Result.{IfOk-weaker}
-use Rattle.p3_regress.specs.Regressed.{IsUntouched}
-use Rattle.p3_regress.proofs.TurnedLaws.{constant_untouched}
+use Rattle.std.proofs.Common.{◌∙◌, not, Option, sym, ap}
+use Rattle.std.specs.Option.{unwrap_or}
+use Rattle.p3_formula.specs.declared.form.Form.{Form}
+use Rattle.p3_regress.proofs.TurnedLaws.{told_constant}
 use Rattle.p3_regress.proofs.regression.Regressed.turned.Goals as goal
 
-pub returns-clause-still : goal.returns-clause-still
-returns-clause-still c none =
-    let effects = c.args.self.now.effects in
-    let is = c.in_ok-part.ensures.still none in
-    IfOk-weaker c.form.result _ _ (λ before same. same ∙ is) (c.form.ensures.untouched (subst (IsUntouched effects) (sym is) (constant_untouched effects (not c.args.up))))
+pub returns-in-Some-clause-still : goal.returns-in-Some-clause-still
+returns-in-Some-clause-still c none =
+    told_constant c.args.self.now.effects (not c.args.up) c.in-Some.part c.form.result (sym (ap (λ (part : Option Form). unwrap_or part c.args.form.now) c.in-Some.is) ∙ c.in_ok-part.ensures.still none) c.form.ensures.untouched
+
+pub returns-in-None-clause-still : goal.returns-in-None-clause-still
+returns-in-None-clause-still c none =
+    told_constant c.args.self.now.effects (not c.args.up) c.args.form.now c.form-in-None.result (sym (ap (λ (part : Option Form). unwrap_or part c.args.form.now) c.in-None.is) ∙ c.in_ok-part.ensures.still none) c.form-in-None.ensures.untouched
