@@ -1,3 +1,4 @@
+pub mod Guards
 pub mod KeepsOn
 pub mod Riders
 pub mod Updates
