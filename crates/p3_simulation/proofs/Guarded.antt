@@ -1,5 +1,5 @@
 -- In a valid plan all guards hold: a step that breaks a constraint which stays broken cannot stand in it.
-use Rattle.std.proofs.Common.{◌≡◌, ◌∙◌, ℕ, zero, suc, Bool, true, false, List, [], ◌∷◌, ◌++◌, take, refl, sym, ap, append_assoc}
+use Rattle.std.proofs.Common.{◌≡◌, ◌∙◌, ℕ, Bool, true, false, List, [], ◌∷◌, ◌++◌, refl, sym, ap, append_assoc}
 use Rattle.std.specs.List.{list_all}
 use Rattle.std.proofs.Math.Bool.{and-true}
 use Rattle.std.proofs.lemmas.Bool.{and_parts, and_from}
@@ -40,15 +40,9 @@ plain_pre go hard step below = record { guards = []; are = no_guards step.effect
 
 -- ---- the first monitors
 
-pub before_front : (sources bound count : ℕ) (monitors : List Monitor) → AreBefore sources bound monitors → AreBefore sources bound (take count monitors)
-before_front sources bound zero monitors before = tt
-before_front sources bound (suc count) [] before = tt
-before_front sources bound (suc count) (monitor ∷ monitors) before = (before.0, before.1, before_front sources bound count monitors before.2)
-
-pub kept_front : (W : List State) (bits : State) (count : ℕ) (monitors : List Monitor) → AreKept monitors W bits → AreKept (take count monitors) W bits
-kept_front W bits zero monitors kept = tt
-kept_front W bits (suc count) [] kept = tt
-kept_front W bits (suc count) (monitor ∷ monitors) kept = (kept.0, kept_front W bits count monitors kept.1)
+pub before_front : (sources bound : ℕ) (first second : List Monitor) → AreBefore sources bound (first ++ second) → AreBefore sources bound first
+before_front sources bound [] second before = tt
+before_front sources bound (monitor ∷ first) second before = (before.0, before.1, before_front sources bound first second before.2)
 
 -- ---- the guards
 

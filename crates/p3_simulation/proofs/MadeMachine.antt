@@ -1,5 +1,5 @@
 -- The machine of such a target: what its actions make of the visited states.
-use Rattle.std.proofs.Common.{◌≡◌, ◌∙◌, ℕ, ◌+◌, ◌*◌, ◌<◌, nat_lt, Bool, true, false, not, cond, List, [], ◌∷◌, ◌++◌, length, take, sum_by, refl, sym, ap, subst, arith, Option, Some, None, true≢false, append-nil}
+use Rattle.std.proofs.Common.{◌≡◌, ◌∙◌, ℕ, ◌+◌, ◌*◌, ◌<◌, nat_lt, Bool, true, false, not, cond, List, [], ◌∷◌, ◌++◌, length, take, drop, take-append-drop, sum_by, refl, sym, ap, subst, arith, Option, Some, None, true≢false, append-nil}
 use Rattle.std.specs.Prelude.{Contains, is_some, flat_map, unwrap_or, if◌then◌else◌}
 use Rattle.std.specs.List.{cons_option, list_all}
 use Rattle.std.proofs.lemmas.Bool.{and_parts, and_from}
@@ -22,18 +22,20 @@ use Rattle.p3_formula.proofs.NextLaws.{length-after}
 use Rattle.p3_simulation.specs.declared.phase.EndPhase.{EndPhase}
 use Rattle.p3_simulation.specs.declared.phase.SoftEnd.{SoftEnd}
 use Rattle.p3_simulation.specs.Ends.{IsSingleAt, Ends, violation, HasOneEnd}
-use Rattle.p3_monitors.specs.Riders.{AreRiders, IsRidden, after_all, AreBeside}
+use Rattle.p3_monitors.specs.Riders.{AreKept, AreRiders, IsRidden, after_all, AreBeside}
 use Rattle.p3_formula.specs.Alike.{AgreeBelow}
 use Rattle.p3_monitors.specs.declared.watching.Monitor.{Monitor}
 use Rattle.p3_monitors.proofs.RiderLaws.{ride_together}
 use Rattle.p3_formula.proofs.WatchedLaws.{last-next}
 use Rattle.p3_precprefs.specs.Copies as copies
 use Rattle.p3_simulation.proofs.Walks.{Reaches, counted, lifted, is_head, is_behind, enters, entry, enters_with}
+use Rattle.p3_simulation.proofs.EndForms.{kept_front}
 use Rattle.p3_simulation.proofs.GroundWalks.{stepped, may_end, end_loss, step_loss, valid_from, satisfied_at_end, weigh}
-use Rattle.p3_simulation.proofs.Guarded.{own_holds, before_front, kept_front, guards_hold}
+use Rattle.p3_simulation.proofs.Guarded.{own_holds, before_front, guards_hold}
 use Rattle.p3_simulation.proofs.Simulation.{Ending}
 use Rattle.p3_simulation.proofs.Machine.{Asks, Returns, Further', Moves, Machine}
 use Rattle.p3_simulation.specs.Gadgets.{IsOpen, Turns, Back, On}
+use Rattle.p3_simulation.specs.Parts.{AreBefore}
 use Rattle.p3_simulation.proofs.Made.{kept_still}
 use Rattle.p3_formula.proofs.NextLaws.{truth-below, after-agree}
 use Rattle.p3_simulation.proofs.GadgetLaws.{found_step, step_found, Owner, owner, Maker, maker}
@@ -95,6 +97,12 @@ module _ (G : GroundTask) (weights : Weights) (X : Target) (monitors : List Moni
 
   abbrev hard : List Monitor
   hard = take (length G.hard) monitors
+
+  abbrev others : List Monitor
+  others = drop (length G.hard) monitors
+
+  halves : monitors ≡ hard ++ others
+  halves = sym (take-append-drop (length G.hard) monitors)
 
   owner_of : (action : TargetAction) → Contains all action → Owner go first size (behind_go G weights X monitors go first last size all phase finish instances is) (counted G) weights G.atoms hard monitors (first + 201) G.steps all action
   owner_of action own = owner go first size (behind_go G weights X monitors go first last size all phase finish instances is) (counted G) weights G.atoms hard monitors (first + 201) last G.steps all is.gadgets action own
@@ -183,7 +191,7 @@ module _ (G : GroundTask) (weights : Weights) (X : Target) (monitors : List Moni
             let at = step_found number G.steps step e in
             let m = maker_of step at.0 parts.1 in
             let guards = guards_hold G.atoms go step.effects (front ++ state ∷ []) satisfied.0 bits (after state step.effects) (stepped_alike step at.0) hard m.made.guarded.guards m.made.guarded.are
-            (before_front G.atoms go (length G.hard) monitors is.before) (kept_front (front ++ state ∷ []) bits (length G.hard) monitors runs.kept)
+            (before_front G.atoms go hard others (subst (AreBefore G.atoms go) halves is.before)) (kept_front (front ++ state ∷ []) bits hard others (subst (λ list. AreKept list (front ++ state ∷ []) bits) halves runs.kept))
             ((λ i. list_all (ground_sat ((front ++ state ∷ []) ++ state_by state (sym e i) ∷ satisfied.0)) (is.hard i)) ∙ satisfied.1) in
             let holds = m.made.guarded.holds bits ∙ and_from (truth bits step.pre) _ (same_pre step at.0 ∙ parts.0) guards in
             let turn = m.made.gadget.turn bits runs.opens holds in
