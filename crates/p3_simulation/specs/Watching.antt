@@ -62,14 +62,14 @@ pub record IsEffects (go : ℕ) (monitors : List Monitor) (step : GroundStep) (e
 
 -- ---- the precondition of a step
 
--- forms that hold exactly where the changes do not break what some of the monitors watch, and cannot come right again; whatever can needs no such form
+-- the guards of some of the monitors, in their order: each holds where the changes do not break its constraint for good, and is True for one that can come right again
 pub data AreGuards (step : List Change) : List Monitor → List Form → Type 0 where
   NoGuards : AreGuards step [] []
   Unguarded : (monitor : Monitor) (monitors : List Monitor) (guards : List Form) → AreGuards step monitors guards → AreGuards step (monitor ∷ monitors) guards
   Guarded : (monitor : Monitor) (monitors : List Monitor) (guard : Form) (guards : List Form) → IsGuard monitor.base monitor.modal step guard → (stays_broken monitor.modal ≡ false → guard ≡ True)
       → AreGuards step monitors guards → AreGuards step (monitor ∷ monitors) (guard ∷ guards)
 
--- the precondition of a step's actions: its own one, and that the step breaks no hard constraint which is guarded; its atoms are below a number
+-- the precondition of a step's actions: its own one, and the guards of some hard constraints; its atoms are below a number
 pub record IsGuardedPre (go : ℕ) (hard : List Monitor) (step : GroundStep) (pre : Form) : Type 0 where
   pub guards : List Form
   pub are : AreGuards step.effects hard guards
