@@ -43,6 +43,12 @@ abbrev pub AreApart : List (List Bool) → Type 0
 AreApart [] = Unit {0}
 AreApart (one ∷ others) = All (λ other. one ≢ other) others × AreApart others
 
+-- the first list is the second one without some of its items
+pub data IsSublist {A : Type 0} : List A → List A → Type 0 where
+  Nothing : IsSublist [] []
+  Keeps : (one : A) (some all : List A) → IsSublist some all → IsSublist (one ∷ some) (one ∷ all)
+  Leaves : (one : A) (some all : List A) → IsSublist some all → IsSublist some (one ∷ all)
+
 abbrev pub violated_lists : List StepCopy → List (List Bool)
 violated_lists copies = map (λ (copy : StepCopy). copy.violated) copies
 

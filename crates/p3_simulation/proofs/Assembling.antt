@@ -35,7 +35,7 @@ use Rattle.p3_simulation.specs.Assembled.{Assembly, IsAssembled}
 use Rattle.p3_simulation.specs.Gadgets.{IsOpen}
 use Rattle.p3_simulation.specs.Naming.{all_numbered, atom_names, question_names, current_name, wide_steps, numbered}
 use Rattle.p3_simulation.specs.Parts.{IsMade}
-use Rattle.p3_simulation.specs.Watching.{all_modals}
+use Rattle.p3_simulation.specs.Watching.{all_modals, modals}
 
 -- ---- how many atoms there are
 
@@ -109,7 +109,7 @@ module _ (G : GroundTask) (weights : Weights) (X : Target) (made : Assembly) (re
       omega (arith, n, t, q, i)
 
   last_is : made.first + 201 + length (wide_steps weights.by_name G.steps) ≡ made.last
-  last_is = all_currents made.go made.first weights made.monitors (made.first + 201) made.last G.steps made.actions is.steps
+  last_is = all_currents made.go made.first weights (take (length G.hard) made.monitors) made.monitors (made.first + 201) made.last G.steps made.actions is.steps
 
   pub currents_fit : made.first + 201 < made.last → made.last ≤ length X.predicates
   currents_fit some = by (wide_steps weights.by_name G.steps) last_is size_is
@@ -158,6 +158,9 @@ module _ (G : GroundTask) (weights : Weights) (X : Target) (made : Assembly) (re
   halved : (W : List State) (bits : State) → AreKept made.monitors W bits → AreKept (take (length G.hard) made.monitors ++ drop (length G.hard) made.monitors) W bits
   halved W bits = subst (λ list. AreKept list W bits) (sym (take-append-drop (length G.hard) made.monitors))
 
+  hard : modals (take (length G.hard) made.monitors) ≡ G.hard
+  hard = front_modals G.initial G.atoms made.go G.hard (flat_map (λ (soft : GroundSoft). soft.parts) G.soft) made.monitors is.monitors
+
   pub made_parts : IsMade G weights X made.monitors made.go made.first made.last (length X.predicates) made.actions made.phase made.finish made.instances
   made_parts = record {
     inside = inside;
@@ -166,7 +169,8 @@ module _ (G : GroundTask) (weights : Weights) (X : Target) (made : Assembly) (re
     room = let s = size_is in omega (arith, s);
     actions = is.actions;
     goal = is.goal;
-    gadgets = gadgets_of G weights made.monitors made.go made.first (length X.predicates) inside behind counting (all_modals G) is.monitors constraints_below 0 (made.first + 201) made.last G.steps made.actions is.steps
+    hard = hard;
+    gadgets = gadgets_of G weights (take (length G.hard) made.monitors) made.monitors made.go made.first (length X.predicates) inside behind counting (all_modals G) is.monitors constraints_below 0 (made.first + 201) made.last G.steps made.actions is.steps
         ready.numbers ready.atoms.steps ready.limits (omega arith) currents_fit;
     rising = are_rising G.step_count 0 G.steps ready.numbers;
     begins = begins;
@@ -184,7 +188,7 @@ module _ (G : GroundTask) (weights : Weights) (X : Target) (made : Assembly) (re
     moves_on = λ bits place single. ends.moves_on made.finish made.instances made.go made.phase is.phase place bits single;
     uncounted = λ action own. let apart = phase_apart made.go made.finish made.instances made.phase.actions is.phase.settles action own in
         uncounted G counting action apart.0 apart.1 apart.2 apart.3;
-    may_finish = λ W bits kept agree. may_by W bits G weights (take (length G.hard) made.monitors) (drop (length G.hard) made.monitors) (halved W bits kept) made.finish (front_modals G.initial G.atoms made.go G.hard (flat_map (λ (soft : GroundSoft). soft.parts) G.soft) made.monitors is.monitors) ready.atoms.goal is.accepts agree;
+    may_finish = λ W bits kept agree. may_by W bits G weights (take (length G.hard) made.monitors) (drop (length G.hard) made.monitors) (halved W bits kept) made.finish hard ready.atoms.goal is.accepts agree;
     settled = λ W bits kept agree. settled_soft W bits G weights (take (length G.hard) made.monitors) (drop (length G.hard) made.monitors) (halved W bits kept) made.instances is.ends;
     instance_count = end_count weights.by_name G.soft (drop (length G.hard) made.monitors) made.instances is.ends;
   }

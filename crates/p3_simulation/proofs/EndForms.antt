@@ -43,7 +43,7 @@ module _ (W : List State) (bits : State) where
   accept_all [] kept = refl
   accept_all (monitor ∷ monitors) kept = λ i. accepting monitor W bits kept.0 i && accept_all monitors kept.1 i
 
-  kept_front : (first second : List Monitor) → AreKept (first ++ second) W bits → AreKept first W bits
+  pub kept_front : (first second : List Monitor) → AreKept (first ++ second) W bits → AreKept first W bits
   kept_front [] second kept = tt
   kept_front (monitor ∷ first) second kept = (kept.0, kept_front first second kept.1)
 

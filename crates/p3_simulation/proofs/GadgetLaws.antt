@@ -45,23 +45,24 @@ step_found number (first ∷ steps) step e = by (first.number == number) refl (s
         let later = more (ap (λ b. cond b (Some first) (find (λ (s : GroundStep). s.number == number) steps)) (sym t) ∙ e) in
         (is_behind first steps step later.0, later.1)
 
-module _ (go first size : ℕ) (behind_go : go < first) (counted : TargetAction → Option ℕ) (weights : Weights) (sources : ℕ) (monitors : List Monitor) where
+module _ (go first size : ℕ) (behind_go : go < first) (counted : TargetAction → Option ℕ) (weights : Weights) (sources : ℕ) (hard monitors : List Monitor) where
   abbrev pub Gadgets : ℕ → ℕ → List GroundStep → List TargetAction → Type 0
-  Gadgets = AreGadgets go first size counted weights sources monitors
+  Gadgets = AreGadgets go first size counted weights sources hard monitors
 
-  -- the step whose action it is
-  pub record Owner (from : ℕ) (steps : List GroundStep) (action : TargetAction) : Type 0 where
+  -- the step whose action it is, of all actions
+  pub record Owner (from : ℕ) (steps : List GroundStep) (all : List TargetAction) (action : TargetAction) : Type 0 where
     pub step : GroundStep
     pub has_step : Contains steps step
     pub costs : is_some step.cost ≡ true
     pub current : ℕ
     pub located : (current ≡ go) ⊎ (from ≤ current)
     pub actions : List TargetAction
-    pub made : IsStepGadget go first size counted weights sources monitors step current actions
+    pub made : IsStepGadget go first size counted weights sources hard monitors step current actions
     pub own : Contains actions action
+    pub inside : (other : TargetAction) → Contains actions other → Contains all other
 
-  later_owner : (from next : ℕ) (first_step : GroundStep) (steps : List GroundStep) (action : TargetAction) → from ≤ next → Owner next steps action → Owner from (first_step ∷ steps) action
-  later_owner from next first_step steps action before owner = record {
+  later_owner : (from next : ℕ) (first_step : GroundStep) (steps : List GroundStep) (own rest : List TargetAction) (action : TargetAction) → from ≤ next → Owner next steps rest action → Owner from (first_step ∷ steps) (own ++ rest) action
+  later_owner from next first_step steps own rest action before owner = record {
     step = owner.step;
     has_step = is_behind first_step steps owner.step owner.has_step;
     costs = owner.costs;
@@ -70,6 +71,7 @@ module _ (go first size : ℕ) (behind_go : go < first) (counted : TargetAction 
     actions = owner.actions;
     made = owner.made;
     own = owner.own;
+    inside = λ other member. Contains-append_right own rest other (owner.inside other member);
   }
 
   goes_up : (from current next : ℕ) → Owns go first size from current next → from ≤ next
@@ -80,19 +82,19 @@ module _ (go first size : ℕ) (behind_go : go < first) (counted : TargetAction 
   located_by from current next Narrow = inl refl
   located_by from current next Wide = inr (omega arith)
 
-  pub owner : (from to : ℕ) (steps : List GroundStep) (all : List TargetAction) → Gadgets from to steps all → (action : TargetAction) → Contains all action → Owner from steps action
+  pub owner : (from to : ℕ) (steps : List GroundStep) (all : List TargetAction) → Gadgets from to steps all → (action : TargetAction) → Contains all action → Owner from steps all action
   owner from to steps all (NoSteps _) action member = in_none action member
-  owner from to steps all (Costless _ _ step others rest none are) action member = later_owner from from step others action (omega arith) (owner from to others rest are action member)
+  owner from to steps all (Costless _ _ step others rest none are) action member = later_owner from from step others [] rest action (omega arith) (owner from to others rest are action member)
   owner from to steps all (OneStep _ current next _ step others actions rest costs owns made are) action member = elim (Contains-append_cases actions rest action member) [
-    | inl own ↦ record { step = step; has_step = is_head step others; costs = costs; current = current; located = located_by from current next owns; actions = actions; made = made; own = own }
-    | inr later ↦ later_owner from next step others action (goes_up from current next owns) (owner next to others rest are action later)
+    | inl own ↦ record { step = step; has_step = is_head step others; costs = costs; current = current; located = located_by from current next owns; actions = actions; made = made; own = own; inside = Contains-append_left actions rest }
+    | inr later ↦ later_owner from next step others actions rest action (goes_up from current next owns) (owner next to others rest are action later)
   ]
 
   -- the actions of a step
   pub record Maker (all : List TargetAction) (step : GroundStep) : Type 0 where
     pub current : ℕ
     pub actions : List TargetAction
-    pub made : IsStepGadget go first size counted weights sources monitors step current actions
+    pub made : IsStepGadget go first size counted weights sources hard monitors step current actions
     pub inside : (action : TargetAction) → Contains actions action → Contains all action
 
   pub maker : (from to : ℕ) (steps : List GroundStep) (all : List TargetAction) → Gadgets from to steps all → (step : GroundStep) → Contains steps step → is_some step.cost ≡ true → Maker all step
@@ -102,7 +104,7 @@ module _ (go first size : ℕ) (behind_go : go < first) (counted : TargetAction 
     | inr later ↦ maker from to others rest are step later costs
   ]
   maker from to steps all (OneStep _ current next _ other others actions rest has owns made are) step member costs = elim (head_or_tail other others step member) [
-    | inl is ↦ record { current = current; actions = actions; made = subst (λ (s : GroundStep). IsStepGadget go first size counted weights sources monitors s current actions) is made; inside = λ action own. Contains-append_left actions rest action own }
+    | inl is ↦ record { current = current; actions = actions; made = subst (λ (s : GroundStep). IsStepGadget go first size counted weights sources hard monitors s current actions) is made; inside = λ action own. Contains-append_left actions rest action own }
     | inr later ↦
         let more = maker next to others rest are step later costs in
         record { current = more.current; actions = more.actions; made = more.made; inside = λ action own. Contains-append_right actions rest action (more.inside action own) }
@@ -150,8 +152,8 @@ module _ (go first size : ℕ) (behind_go : go < first) (counted : TargetAction 
     not_go same = let far = asking.behind in omega (arith, same, far, behind_go)
 
     -- only the current step's actions fit
-    pub current_is : (from : ℕ) → first + width_limit < from → (steps : List GroundStep) (action : TargetAction) (o : Owner from steps action) → truth bits action.pre ≡ true → o.current ≡ current
-    current_is from far steps action o fits = ⊎_elim (λ set. absurd (no_go set)) (λ set. by set (cases_eq o.current current)) (o.made.gadget.guarded bits action o.own fits)
+    pub current_is : (from : ℕ) → first + width_limit < from → (steps : List GroundStep) (all : List TargetAction) (action : TargetAction) (o : Owner from steps all action) → truth bits action.pre ≡ true → o.current ≡ current
+    current_is from far steps all action o fits = ⊎_elim (λ set. absurd (no_go set)) (λ set. by set (cases_eq o.current current)) (o.made.gadget.guarded bits action o.own fits)
       where
         beyond : is_set bits o.current ≡ true → o.current ≢ current → from ≤ o.current → ⊥
         beyond set differ low = let small = asking.within in true≢false (sym set ∙ asking.clear o.current (omega (arith, low, far, behind_go)) differ (λ same. omega (arith, same, low, far, small)))
@@ -171,10 +173,10 @@ module _ (go first size : ℕ) (behind_go : go < first) (counted : TargetAction 
         elim (Contains-append_cases actions rest one member) [
           | inl own ↦ elim (Contains-append_cases actions rest other member_two) [
             | inl too ↦ made.gadget.amid_one bits (own_asking mine (mine_is one own fits)) one other own too fits fit
-            | inr later ↦ absurd (clash one own fits (owner next to others rest are other later) (current_is next ahead others other (owner next to others rest are other later) fit))
+            | inr later ↦ absurd (clash one own fits (owner next to others rest are other later) (current_is next ahead others rest other (owner next to others rest are other later) fit))
           ]
           | inr later ↦ elim (Contains-append_cases actions rest other member_two) [
-            | inl too ↦ absurd (clash other too fit (owner next to others rest are one later) (current_is next ahead others one (owner next to others rest are one later) fits))
+            | inl too ↦ absurd (clash other too fit (owner next to others rest are one later) (current_is next ahead others rest one (owner next to others rest are one later) fits))
             | inr later_too ↦ amid_one next to ahead others rest are one other later later_too fits fit
           ]
         ]
@@ -183,23 +185,23 @@ module _ (go first size : ℕ) (behind_go : go < first) (counted : TargetAction 
         ahead = let up = goes_up from mine next owns in omega (arith, up, far)
 
         mine_is : (action : TargetAction) → Contains actions action → truth bits action.pre ≡ true → mine ≡ current
-        mine_is action own holds = current_is from far (step ∷ others) action (record { step = step; has_step = is_head step others; costs = costs; current = mine; located = located_by from mine next owns; actions = actions; made = made; own = own }) holds
+        mine_is action own holds = current_is from far (step ∷ others) actions action (record { step = step; has_step = is_head step others; costs = costs; current = mine; located = located_by from mine next owns; actions = actions; made = made; own = own; inside = λ other member. member }) holds
 
         past : (c n : ℕ) → Owns go first size from c n → c ≡ current → n ≤ current → ⊥
         past c n Narrow same low = not_go (sym same)
         past c n Wide same low = omega (arith, same, low)
 
-        clash : (action : TargetAction) → Contains actions action → truth bits action.pre ≡ true → {another : TargetAction} → (o : Owner next others another) → o.current ≡ current → ⊥
+        clash : (action : TargetAction) → Contains actions action → truth bits action.pre ≡ true → {another : TargetAction} → (o : Owner next others rest another) → o.current ≡ current → ⊥
         clash action own holds o is = ⊎_elim (λ same. not_go (sym is ∙ same)) (λ low. past mine next owns (mine_is action own holds) (omega (arith, low, is))) o.located
 
     module _ (from to : ℕ) (far : first + width_limit < from) (steps : List GroundStep) (all : List TargetAction) (are : Gadgets from to steps all) (action : TargetAction) (member : Contains all action) (fits : truth bits action.pre ≡ true) where
       pub amid_counts : counted action ≡ None
-      amid_counts = let o = owner from to steps all are action member in o.made.gadget.amid_counts bits (own_asking o.current (current_is from far steps action o fits)) action o.own fits
+      amid_counts = let o = owner from to steps all are action member in o.made.gadget.amid_counts bits (own_asking o.current (current_is from far steps all action o fits)) action o.own fits
 
       pub amid_next : IsOpen go first size (after bits action.effects) ⊎ IsAsking go first size current (after bits action.effects)
       amid_next =
           let o = owner from to steps all are action member in
-          let same = current_is from far steps action o fits in
+          let same = current_is from far steps all action o fits in
           ⊎_elim (λ is. inl is) (λ is. inr (subst (λ c. IsAsking go first size c (after bits action.effects)) same is)) (o.made.gadget.amid_next bits (own_asking o.current same) action o.own fits)
 
   -- ---- one step more, behind the others
@@ -210,7 +212,7 @@ module _ (go first size : ℕ) (behind_go : go < first) (counted : TargetAction 
   gadgets_up from to steps all (OneStep _ current next _ step others actions rest costs owns made are) = let up = goes_up from current next owns in let more = gadgets_up next to others rest are in omega (arith, up, more)
 
   pub gadgets_more : (from to current next : ℕ) (steps : List GroundStep) (all : List TargetAction) → Gadgets from to steps all → (step : GroundStep) (actions : List TargetAction) → is_some step.cost ≡ true → Owns go first size to current next
-      → IsStepGadget go first size counted weights sources monitors step current actions → Gadgets from next (steps ++ step ∷ []) (all ++ actions)
+      → IsStepGadget go first size counted weights sources hard monitors step current actions → Gadgets from next (steps ++ step ∷ []) (all ++ actions)
   gadgets_more from to current next steps all (NoSteps _) step actions costs owns made =
       subst (Gadgets from next (step ∷ [])) (append-nil actions) (OneStep from current next next step [] actions [] costs owns made (NoSteps next))
   gadgets_more from to current next steps all (Costless _ _ other others rest none are) step actions costs owns made =

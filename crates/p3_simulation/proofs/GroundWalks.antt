@@ -4,7 +4,7 @@ use Rattle.std.specs.Prelude.{◌==◌, Contains, count_by, zip, slice_index_or}
 use Rattle.std.specs.List.{list_all, range_with_len}
 use Rattle.std.proofs.Math.Bool.{and-true}
 use Rattle.std.proofs.Math.Nat.{mul-add}
-use Rattle.std.proofs.lemmas.Bool.{and_right, cases_eq, eq-eqb, ne_eqb}
+use Rattle.std.proofs.lemmas.Bool.{and_parts, and_right, cases_eq, eq-eqb, ne_eqb}
 use Rattle.std.proofs.lemmas.List.Sums.{sum_by-cons}
 use Rattle.p3_formula.specs.Forms.{State, truth}
 use Rattle.p3_formula.specs.GroundSat.{ground_sat}
@@ -145,6 +145,14 @@ module _ (G : GroundTask) (weights : Weights) where
   pub valid_is : (plan : GroundPlan) → is_ground_valid G plan ≡ valid_from [] G.initial plan
   unfolding is_ground_valid
   valid_is plan = valid_walk [] G.initial plan
+
+  -- over the states that are visited at its end, a valid plan satisfies each hard constraint
+  pub satisfied_at_end : (front : List State) (state : State) (plan : GroundPlan) → valid_from front state plan ≡ true → (rest : List State) × (list_all (ground_sat (front ++ state ∷ rest)) G.hard ≡ true)
+  satisfied_at_end front state [] valid = ([], (and_parts (truth (last_of (front ++ state ∷ [])) G.goal) _ valid).1)
+  satisfied_at_end front state (number ∷ plan) valid =
+      let next = stepped state number in
+      let more = satisfied_at_end (front ++ state ∷ []) next plan (and_parts (ground_fits G state number) _ valid).1 in
+      (next ∷ more.0, ap (λ W. list_all (ground_sat W) G.hard) (sym (append_assoc front (state ∷ []) (next ∷ more.0))) ∙ more.1)
 
   abbrev pub AreNamed : Option GroundStep → Type 0
   AreNamed None = Unit {0}

@@ -6,6 +6,7 @@ pub mod EndForms
 pub mod EndLemmas
 pub mod GadgetLaws
 pub mod GroundWalks
+pub mod Guarded
 pub mod Keys
 pub mod Machine
 pub mod Made

@@ -4,15 +4,15 @@ use Rattle.std.specs.List.{cons_option}
 use Rattle.std.proofs.lemmas.List.Sums.{sum_by-cons}
 use Rattle.p3_formula.specs.Forms.{State, truth}
 use Rattle.p3_formula.specs.Next.{after}
-use Rattle.p3_formula.specs.GroundPlans.{step_of, ground_fits}
+use Rattle.p3_formula.specs.GroundPlans.{GroundPlan, step_of, ground_fits}
 use Rattle.p3_formula.specs.Weighted.{extra_by}
 use Rattle.p3_formula.specs.Targets.{Leads, Here, Further, Fits, IsLed}
 use Rattle.p3_formula.specs.declared.target.Target.{Target}
 use Rattle.p3_formula.specs.declared.target.TargetAction.{TargetAction}
 use Rattle.p3_formula.specs.declared.target.Weights.{Weights}
 use Rattle.p3_formula.specs.declared.task.GroundTask.{GroundTask}
-use Rattle.p3_simulation.proofs.Walks.{Reaches, plan_cost, counted, lifted}
-use Rattle.p3_simulation.proofs.GroundWalks.{stepped, may_end, step_loss}
+use Rattle.p3_simulation.proofs.Walks.{Reaches, plan_cost, counted, enters, enters_with, lifted}
+use Rattle.p3_simulation.proofs.GroundWalks.{stepped, may_end, step_loss, valid_from}
 use Rattle.p3_simulation.proofs.Simulation.{Segment, Ending, Choices, Splits, Ends, Goes, Simulates}
 
 -- what holds of bits alone
@@ -102,9 +102,10 @@ module _ (G : GroundTask) (weights : Weights) (X : Target) (Open Amid Closing : 
     pub phases : Phases G X Open Amid Closing
     pub begins : Running [] G.initial X.initial
     pub opens : (front : List State) (state bits : State) → Running front state bits → Open bits
-    -- a step's first action fits only where the step does, and then there is one
-    pub fits : (front : List State) (state bits : State) → Running front state bits → (action : TargetAction) → Fits X bits action → (number : ℕ) → counted G action ≡ Some number → ground_fits G state number ≡ true
-    pub moves : (front : List State) (state bits : State) → Running front state bits → (number : ℕ) → ground_fits G state number ≡ true → Moves front state bits number
+    -- a step is entered only where it fits, and is entered where a valid plan goes on with it
+    pub fits : (front : List State) (state bits : State) → Running front state bits → (number : ℕ) → enters G X bits number ≡ true → ground_fits G state number ≡ true
+    pub entered : (front : List State) (state bits : State) → Running front state bits → (number : ℕ) (plan : GroundPlan) → valid_from G weights front state (number ∷ plan) ≡ true → enters G X bits number ≡ true
+    pub moves : (front : List State) (state bits : State) → Running front state bits → (number : ℕ) → enters G X bits number ≡ true → Moves front state bits number
     -- a plan that begins with another action is that of the end
     pub may : (front : List State) (state bits : State) → Running front state bits → (action : TargetAction) (plan : List TargetAction) → Reaches X bits (action ∷ plan) → counted G action ≡ None → may_end G weights (front ++ state ∷ []) ≡ true
     pub ending : (front : List State) (state bits : State) → Running front state bits → may_end G weights (front ++ state ∷ []) ≡ true → Ending G weights X Running front state bits
@@ -164,7 +165,7 @@ module _ (G : GroundTask) (weights : Weights) (X : Target) (Open Amid Closing : 
         Ends may (machine.ends front state bits runs may action plan reaches counts)
     splits_by front state bits runs action plan (own, holds, reaches) (Some number) counts =
         let fit : Fits X bits action = record { own = own; holds = holds } in
-        let fits = machine.fits front state bits runs action fit number counts in
+        let fits = enters_with G X bits number action fit counts in
         let moves = machine.moves front state bits runs number fits in
         let same : action ≡ moves.first = machine.phases.open_one bits (machine.opens front state bits runs) action moves.first fit moves.fits (counts ∙ sym moves.counts) in
         let more = follows _ _ _ moves.rest moves.later moves.asks plan (subst (λ (a : TargetAction). Reaches X (after bits a.effects) plan) same reaches) in
@@ -175,4 +176,4 @@ module _ (G : GroundTask) (weights : Weights) (X : Target) (Open Amid Closing : 
     splits_of front state bits runs (action ∷ plan) reaches = splits_by front state bits runs action plan reaches (counted G action) refl
 
     pub simulates : Simulates G weights X Running
-    simulates = record { begins = machine.begins; choices = choices_of; splits = splits_of }
+    simulates = record { begins = machine.begins; fits = machine.fits; entered = machine.entered; choices = choices_of; splits = splits_of }

@@ -1,5 +1,5 @@
 -- A target made of the actions of all steps and those of the end phase simulates its ground task.
-use Rattle.std.proofs.Common.{◌≡◌, ◌∙◌, ◌⊎◌, inl, inr, ⊎_elim, ℕ, ◌+◌, ◌<◌, ◌≤◌, true, false, List, [], ◌∷◌, ◌++◌, length, refl, sym, ap, subst, arith, Option, Some, None, true≢false}
+use Rattle.std.proofs.Common.{◌≡◌, ◌∙◌, ◌⊎◌, inl, inr, ⊎_elim, ℕ, ◌+◌, ◌<◌, ◌≤◌, true, false, List, [], ◌∷◌, ◌++◌, length, take, refl, sym, ap, subst, arith, Option, Some, None, true≢false}
 use Rattle.std.specs.Prelude.{Contains}
 use Rattle.std.proofs.lemmas.Bool.{cases_eq}
 use Rattle.std.proofs.lemmas.List.Elements.{Contains-append_cases, Contains-append_left, Contains-append_right}
@@ -87,7 +87,7 @@ module _ (G : GroundTask) (weights : Weights) (X : Target) (monitors : List Moni
     -- an action that counts as none is of the end phase
     pub none_of_phase : (bits : State) → IsOpen go first size bits → (action : TargetAction) → Fits X bits action → counted G action ≡ None → of_phase action
     none_of_phase bits opens action fits counts = ⊎_elim (λ own.
-        let o = owner go first size behind_go (counted G) weights G.atoms monitors (first + 201) last G.steps all is.gadgets action own in
+        let o = owner go first size behind_go (counted G) weights G.atoms (take (length G.hard) monitors) monitors (first + 201) last G.steps all is.gadgets action own in
         let clash : None ≡ Some o.step.number = sym counts ∙ o.made.gadget.open_counts bits opens action o.own fits.holds in absurd (cc)) (λ own. own) (side action fits.own)
 
     pub some_of_step : (bits : State) (action : TargetAction) → Fits X bits action → (number : ℕ) → counted G action ≡ Some number → Contains all action
@@ -97,11 +97,11 @@ module _ (G : GroundTask) (weights : Weights) (X : Target) (monitors : List Moni
     open_same bits opens one other fits fit None counts count =
         is.one_fits bits 0 (single_open bits opens) one other (none_of_phase bits opens one fits counts) (none_of_phase bits opens other fit count) fits.holds fit.holds
     open_same bits opens one other fits fit (Some number) counts count =
-        open_one go first size behind_go (counted G) weights G.atoms monitors 0 (first + 201) last G.steps all is.gadgets is.rising bits opens one other (some_of_step bits one fits number counts) (some_of_step bits other fit number count) fits.holds fit.holds number counts count
+        open_one go first size behind_go (counted G) weights G.atoms (take (length G.hard) monitors) monitors 0 (first + 201) last G.steps all is.gadgets is.rising bits opens one other (some_of_step bits one fits number counts) (some_of_step bits other fit number count) fits.holds fit.holds number counts count
 
     step_on : (bits : State) → IsOpen go first size bits → (action : TargetAction) → Contains all action → truth bits action.pre ≡ true → IsOpen go first size (after bits action.effects) ⊎ IsAmid (after bits action.effects)
     step_on bits opens action own holds =
-        let o = owner go first size behind_go (counted G) weights G.atoms monitors (first + 201) last G.steps all is.gadgets action own in
+        let o = owner go first size behind_go (counted G) weights G.atoms (take (length G.hard) monitors) monitors (first + 201) last G.steps all is.gadgets action own in
         ⊎_elim (λ open_again. inl open_again) (λ asking. inr (record { current = o.current; asking = asking })) (o.made.gadget.open_next bits opens action o.own holds)
 
     pub closing_from : (bits : State) (place : ℕ) → length bits ≡ size → IsSingleAt go phase.atoms place bits → ((atom : ℕ) → first ≤ atom → is_set bits atom ≡ false)
@@ -136,14 +136,14 @@ module _ (G : GroundTask) (weights : Weights) (X : Target) (monitors : List Moni
     -- ---- the end phase
 
     pub closing_of_phase : (bits : State) → IsClosing bits → (action : TargetAction) → Fits X bits action → of_phase action
-    closing_of_phase bits closing action fits = ⊎_elim (λ own. absurd (stuck (owner go first size behind_go (counted G) weights G.atoms monitors (first + 201) last G.steps all is.gadgets action own))) (λ own. own) (side action fits.own)
+    closing_of_phase bits closing action fits = ⊎_elim (λ own. absurd (stuck (owner go first size behind_go (counted G) weights G.atoms (take (length G.hard) monitors) monitors (first + 201) last G.steps all is.gadgets action own))) (λ own. own) (side action fits.own)
       where
         no_go : is_set bits go ≡ true → ⊥
         no_go set =
             let l = closing.late in let c = count_is in
             true≢false (sym set ∙ ap (is_set bits) (omega arith) ∙ closing.single.others 0 (omega arith) (λ same. omega (arith, same)))
 
-        stuck : Owner go first size behind_go (counted G) weights G.atoms monitors (first + 201) G.steps action → ⊥
+        stuck : Owner go first size behind_go (counted G) weights G.atoms (take (length G.hard) monitors) monitors (first + 201) G.steps all action → ⊥
         stuck o = ⊎_elim no_go (λ set. ⊎_elim (λ same. no_go (ap (is_set bits) (sym same) ∙ set)) (λ low. true≢false (sym set ∙ closing.clear o.current (omega (arith, low)))) o.located) (o.made.gadget.guarded bits action o.own fits.holds)
 
     pub phases : Phases G X (IsOpen go first size) IsAmid IsClosing
@@ -155,12 +155,12 @@ module _ (G : GroundTask) (weights : Weights) (X : Target) (monitors : List Moni
       open_last = last_on;
       amid_goal = λ bits amid goal. amid_no_goal bits amid goal;
       amid_one = λ bits amid one other fits fit.
-          amid_one go first size behind_go (counted G) weights G.atoms monitors amid.current bits amid.asking (first + 201) last far G.steps all is.gadgets one other (amid_of_step bits amid one fits) (amid_of_step bits amid other fit) fits.holds fit.holds;
+          amid_one go first size behind_go (counted G) weights G.atoms (take (length G.hard) monitors) monitors amid.current bits amid.asking (first + 201) last far G.steps all is.gadgets one other (amid_of_step bits amid one fits) (amid_of_step bits amid other fit) fits.holds fit.holds;
       amid_none = λ bits amid action fits.
-          amid_counts go first size behind_go (counted G) weights G.atoms monitors amid.current bits amid.asking (first + 201) last far G.steps all is.gadgets action (amid_of_step bits amid action fits) fits.holds;
+          amid_counts go first size behind_go (counted G) weights G.atoms (take (length G.hard) monitors) monitors amid.current bits amid.asking (first + 201) last far G.steps all is.gadgets action (amid_of_step bits amid action fits) fits.holds;
       amid_next = λ bits amid action fits.
           ⊎_elim (λ opens. inl opens) (λ asking. inr (record { current = amid.current; asking = asking }))
-          (amid_next go first size behind_go (counted G) weights G.atoms monitors amid.current bits amid.asking (first + 201) last far G.steps all is.gadgets action (amid_of_step bits amid action fits) fits.holds);
+          (amid_next go first size behind_go (counted G) weights G.atoms (take (length G.hard) monitors) monitors amid.current bits amid.asking (first + 201) last far G.steps all is.gadgets action (amid_of_step bits amid action fits) fits.holds);
       closing_one = λ bits closing one other fits fit. is.one_fits bits closing.place closing.single one other (closing_of_phase bits closing one fits) (closing_of_phase bits closing other fit) fits.holds fit.holds;
       closing_none = λ bits closing action fits. is.uncounted action (closing_of_phase bits closing action fits);
       closing_next = λ bits closing action fits. closing_from bits closing.place closing.room closing.single closing.clear action (closing_of_phase bits closing action fits) fits.holds;

@@ -1,15 +1,15 @@
 -- The machine of such a target: what its actions make of the visited states.
-use Rattle.std.proofs.Common.{◌≡◌, ◌∙◌, ℕ, ◌+◌, ◌*◌, ◌<◌, nat_lt, Bool, true, false, not, cond, List, [], ◌∷◌, ◌++◌, sum_by, refl, sym, ap, subst, arith, Option, Some, None, true≢false, append-nil}
+use Rattle.std.proofs.Common.{◌≡◌, ◌∙◌, ℕ, ◌+◌, ◌*◌, ◌<◌, nat_lt, Bool, true, false, not, cond, List, [], ◌∷◌, ◌++◌, length, take, drop, take-append-drop, sum_by, refl, sym, ap, subst, arith, Option, Some, None, true≢false, append-nil}
 use Rattle.std.specs.Prelude.{Contains, is_some, flat_map, unwrap_or, if◌then◌else◌}
-use Rattle.std.specs.List.{cons_option}
+use Rattle.std.specs.List.{cons_option, list_all}
 use Rattle.std.proofs.lemmas.Bool.{and_parts, and_from}
 use Rattle.std.proofs.lemmas.Bool.Decides.{nat_tests}
 use Rattle.std.proofs.lemmas.List.Sums.{sum_by-cons}
 use Rattle.p3_formula.specs.Forms.{State, is_set, truth}
 use Rattle.p3_formula.specs.Next.{after}
-use Rattle.p3_formula.specs.GroundPlans.{step_of, ground_fits, fits_by, state_by}
+use Rattle.p3_formula.specs.GroundPlans.{GroundPlan, step_of, ground_fits, fits_by, state_by}
+use Rattle.p3_formula.specs.GroundSat.{ground_sat}
 use Rattle.p3_formula.specs.Weighted.{weighted, weight_of, extra_by}
-use Rattle.p3_formula.specs.Targets.{Fits}
 use Rattle.p3_formula.specs.declared.form.Change.{Change}
 use Rattle.p3_formula.specs.declared.form.Form.{Form}
 use Rattle.p3_formula.specs.declared.modal.GroundPref.{GroundPref}
@@ -22,17 +22,20 @@ use Rattle.p3_formula.proofs.NextLaws.{length-after}
 use Rattle.p3_simulation.specs.declared.phase.EndPhase.{EndPhase}
 use Rattle.p3_simulation.specs.declared.phase.SoftEnd.{SoftEnd}
 use Rattle.p3_simulation.specs.Ends.{IsSingleAt, Ends, violation, HasOneEnd}
-use Rattle.p3_monitors.specs.Riders.{AreRiders, IsRidden, after_all, AreBeside}
+use Rattle.p3_monitors.specs.Riders.{AreKept, AreRiders, IsRidden, after_all, AreBeside}
 use Rattle.p3_formula.specs.Alike.{AgreeBelow}
 use Rattle.p3_monitors.specs.declared.watching.Monitor.{Monitor}
 use Rattle.p3_monitors.proofs.RiderLaws.{ride_together}
 use Rattle.p3_formula.proofs.WatchedLaws.{last-next}
 use Rattle.p3_precprefs.specs.Copies as copies
-use Rattle.p3_simulation.proofs.Walks.{Reaches, counted, lifted, is_head, is_behind}
-use Rattle.p3_simulation.proofs.GroundWalks.{stepped, may_end, end_loss, step_loss, weigh}
+use Rattle.p3_simulation.proofs.Walks.{Reaches, counted, lifted, is_head, is_behind, enters, entry, enters_with}
+use Rattle.p3_simulation.proofs.EndForms.{kept_front}
+use Rattle.p3_simulation.proofs.GroundWalks.{stepped, may_end, end_loss, step_loss, valid_from, satisfied_at_end, weigh}
+use Rattle.p3_simulation.proofs.Guarded.{own_holds, before_front, guards_hold}
 use Rattle.p3_simulation.proofs.Simulation.{Ending}
 use Rattle.p3_simulation.proofs.Machine.{Asks, Returns, Further', Moves, Machine}
 use Rattle.p3_simulation.specs.Gadgets.{IsOpen, Turns, Back, On}
+use Rattle.p3_simulation.specs.Parts.{AreBefore}
 use Rattle.p3_simulation.proofs.Made.{kept_still}
 use Rattle.p3_formula.proofs.NextLaws.{truth-below, after-agree}
 use Rattle.p3_simulation.proofs.GadgetLaws.{found_step, step_found, Owner, owner, Maker, maker}
@@ -92,26 +95,23 @@ module _ (G : GroundTask) (weights : Weights) (X : Target) (monitors : List Moni
   abbrev Closing : State → Type 0
   Closing = IsClosing G weights X monitors go first last size all phase finish instances
 
-  owner_of : (action : TargetAction) → Contains all action → Owner go first size (behind_go G weights X monitors go first last size all phase finish instances is) (counted G) weights G.atoms monitors (first + 201) G.steps action
-  owner_of action own = owner go first size (behind_go G weights X monitors go first last size all phase finish instances is) (counted G) weights G.atoms monitors (first + 201) last G.steps all is.gadgets action own
+  abbrev hard : List Monitor
+  hard = take (length G.hard) monitors
 
-  maker_of : (step : GroundStep) → Contains G.steps step → is_some step.cost ≡ true → Maker go first size (behind_go G weights X monitors go first last size all phase finish instances is) (counted G) weights G.atoms monitors all step
-  maker_of step member costs = maker go first size (behind_go G weights X monitors go first last size all phase finish instances is) (counted G) weights G.atoms monitors (first + 201) last G.steps all is.gadgets step member costs
+  abbrev others : List Monitor
+  others = drop (length G.hard) monitors
+
+  halves : monitors ≡ hard ++ others
+  halves = sym (take-append-drop (length G.hard) monitors)
+
+  owner_of : (action : TargetAction) → Contains all action → Owner go first size (behind_go G weights X monitors go first last size all phase finish instances is) (counted G) weights G.atoms hard monitors (first + 201) G.steps all action
+  owner_of action own = owner go first size (behind_go G weights X monitors go first last size all phase finish instances is) (counted G) weights G.atoms hard monitors (first + 201) last G.steps all is.gadgets action own
+
+  maker_of : (step : GroundStep) → Contains G.steps step → is_some step.cost ≡ true → Maker go first size (behind_go G weights X monitors go first last size all phase finish instances is) (counted G) weights G.atoms hard monitors all step
+  maker_of step member costs = maker go first size (behind_go G weights X monitors go first last size all phase finish instances is) (counted G) weights G.atoms hard monitors (first + 201) last G.steps all is.gadgets step member costs
 
   start : Runs [] G.initial X.initial
   start = record { opens = is.begins; room = is.source_bits; agrees = is.sources; kept = is.kept }
-
-  -- a step's first action fits only where the step does
-  fits_step : (front : List State) (state bits : State) → Runs front state bits → (action : TargetAction) → Fits X bits action → (number : ℕ) → counted G action ≡ Some number → ground_fits G state number ≡ true
-  fits_step front state bits runs action fits number counts =
-      let own = some_of_step G weights X monitors go first last size all phase finish instances is bits action fits number counts in
-      let o = owner_of action own in
-      let known : Some o.step.number ≡ Some number = sym (o.made.gadget.open_counts bits runs.opens action o.own fits.holds) ∙ counts in
-      let same : o.step.number ≡ number = cc in
-      let found : step_of G number ≡ Some o.step = ap (step_of G) (sym same) ∙ found_step 0 G.steps is.rising o.step o.has_step in
-      (λ i. fits_by state (found i))
-      ∙ and_from (truth state o.step.pre) (is_some o.step.cost)
-      (sym (truth-below G.atoms bits state runs.agrees o.step.pre (is.preconditions o.step o.has_step)) ∙ o.made.gadget.open_fits bits runs.opens action o.own fits.holds) o.costs
 
   turns_open : (current : ℕ) (actions : List TargetAction) (bits : State) (plan : List TargetAction) (later : State) → Turns go first size current actions bits plan later → IsOpen go first size later
   turns_open current actions bits plan later (Back _ opens) = opens
@@ -125,46 +125,97 @@ module _ (G : GroundTask) (weights : Weights) (X : Target) (monitors : List Moni
       (asks_of front next current actions inside (after bits action.effects) rest later turns runs)
 
   module _ (front : List State) (state bits : State) (runs : Runs front state bits) where
+    stepped_alike : (step : GroundStep) → Contains G.steps step → AgreeBelow G.atoms (after bits step.effects) (after state step.effects)
+    stepped_alike step member = after-agree G.atoms bits state runs.agrees step.effects (is.conditions step member)
+        (let l = runs.opens.room in let r = is.room in let i = is.inside in let b = behind_go G weights X monitors go first last size all phase finish instances is in omega arith) (let r = runs.room in omega arith)
+
     -- the bits behind a step's actions run on
     runs_on : (step : GroundStep) → Contains G.steps step → (changes : List (List Change)) → AreRiders G.atoms G.atoms step.effects monitors changes → (later : State) → IsOpen go first size later
         → ((atom : ℕ) → atom < go → is_set later atom ≡ is_set (after bits (step.effects ++ flat_map (λ effects. effects) changes)) atom) → Runs (front ++ state ∷ []) (after state step.effects) later
     runs_on step member changes riders later opens same = record {
       opens = opens;
       room = length-after state step.effects ∙ runs.room;
-      agrees = λ atom low. below atom (let i = is.inside in omega (arith, low)) ∙ ridden.sources_stay atom low ∙ stepped_alike atom low;
+      agrees = λ atom low. below atom (let i = is.inside in omega (arith, low)) ∙ ridden.sources_stay atom low ∙ stepped_alike step member atom low;
       kept = kept_still G.atoms go is.inside (after_all bits step.effects changes []) later below (let l = opens.room in let r = is.room in let b = behind_go G weights X monitors go first last size all phase finish instances is in omega arith) monitors is.before ((front ++ state ∷ []) ++ after state step.effects ∷ []) ridden.kept;
     }
       where
         below : AgreeBelow go later (after_all bits step.effects changes [])
         below atom low = same atom low ∙ ap (λ effects. is_set (after bits (step.effects ++ effects)) atom) (sym (append-nil (flat_map (λ effects. effects) changes)))
 
-        stepped_alike : AgreeBelow G.atoms (after bits step.effects) (after state step.effects)
-        stepped_alike = after-agree G.atoms bits state runs.agrees step.effects (is.conditions step member)
-            (let l = runs.opens.room in let r = is.room in let i = is.inside in let b = behind_go G weights X monitors go first last size all phase finish instances is in omega arith) (let r = runs.room in omega arith)
-
         ridden : IsRidden G.atoms monitors (front ++ state ∷ []) (after state step.effects) (after bits step.effects) (after_all bits step.effects changes [])
-        ridden = ride_together G.atoms G.atoms step.effects [] monitors changes (front ++ state ∷ []) bits (after state step.effects) (omega arith) riders refl (beside_nothing monitors) runs.kept stepped_alike
+        ridden = ride_together G.atoms G.atoms step.effects [] monitors changes (front ++ state ∷ []) bits (after state step.effects) (omega arith) riders refl (beside_nothing monitors) runs.kept (stepped_alike step member)
 
-    moves_by : (number : ℕ) (o : Option GroundStep) → step_of G number ≡ o → fits_by state o ≡ true → Moves G weights X (IsOpen go first size) Amid Closing Runs front state bits number
-    moves_by number None e fits = absurd (true≢false (sym fits))
-    moves_by number (Some step) e fits =
-        let parts = and_parts (truth state step.pre) (is_some step.cost) fits in
-        let at = step_found number G.steps step e in
-        let m = maker_of step at.0 parts.1 in
-        let turn = m.made.gadget.turn bits runs.opens (truth-below G.atoms bits state runs.agrees step.pre (is.preconditions step at.0) ∙ parts.0) in
+    -- the step that is entered
+    record Entered (number : ℕ) : Type 0 where
+      pub action : TargetAction
+      pub owner : Owner go first size (behind_go G weights X monitors go first last size all phase finish instances is) (counted G) weights G.atoms hard monitors (first + 201) G.steps all action
+      pub numbered : owner.step.number ≡ number
+      pub found : step_of G number ≡ Some owner.step
+      pub holds : truth bits owner.made.pre ≡ true
+
+    entered : (number : ℕ) → enters G X bits number ≡ true → Entered number
+    entered number some =
+        let e = entry G X bits number some in
+        let o = owner_of e.action (some_of_step G weights X monitors go first last size all phase finish instances is bits e.action e.fits number e.counts) in
+        let known : Some o.step.number ≡ Some number = sym (o.made.gadget.open_counts bits runs.opens e.action o.own e.fits.holds) ∙ e.counts in
+        let same : o.step.number ≡ number = cc in
+        record {
+          action = e.action;
+          owner = o;
+          numbered = same;
+          found = ap (step_of G) (sym same) ∙ found_step 0 G.steps is.rising o.step o.has_step;
+          holds = o.made.gadget.open_fits bits runs.opens e.action o.own e.fits.holds;
+        }
+
+    same_pre : (step : GroundStep) → Contains G.steps step → truth bits step.pre ≡ truth state step.pre
+    same_pre step member = truth-below G.atoms bits state runs.agrees step.pre (is.preconditions step member)
+
+    -- a step is entered only where it fits
+    fits_step : (number : ℕ) → enters G X bits number ≡ true → ground_fits G state number ≡ true
+    fits_step number some =
+        let e = entered number some in
+        let o = e.owner in
+        (λ i. fits_by state (e.found i))
+        ∙ and_from (truth state o.step.pre) (is_some o.step.cost) (sym (same_pre o.step o.has_step) ∙ own_holds go hard o.step o.made.pre o.made.guarded bits e.holds) o.costs
+
+    -- and is entered where a valid plan goes on with it, since no hard constraint is broken behind it
+    enters_step : (number : ℕ) (plan : GroundPlan) → valid_from G weights front state (number ∷ plan) ≡ true → enters G X bits number ≡ true
+    enters_step number plan valid =
+        let parts = and_parts (ground_fits G state number) _ valid in
+        by (step_of G number) refl parts.0 (satisfied_at_end G weights (front ++ state ∷ []) (stepped G weights state number) plan parts.1)
+      where
+        by : (o : Option GroundStep) → step_of G number ≡ o → fits_by state o ≡ true → (rest : List State) × (list_all (ground_sat ((front ++ state ∷ []) ++ stepped G weights state number ∷ rest)) G.hard ≡ true) → enters G X bits number ≡ true
+        by None e fits satisfied = absurd (true≢false (sym fits))
+        by (Some step) e fits satisfied =
+            let parts = and_parts (truth state step.pre) (is_some step.cost) fits in
+            let at = step_found number G.steps step e in
+            let m = maker_of step at.0 parts.1 in
+            let guards = guards_hold G.atoms go step.effects (front ++ state ∷ []) satisfied.0 bits (after state step.effects) (stepped_alike step at.0) hard m.made.guarded.guards m.made.guarded.are
+            (before_front G.atoms go hard others (subst (AreBefore G.atoms go) halves is.before)) (kept_front (front ++ state ∷ []) bits hard others (subst (λ list. AreKept list (front ++ state ∷ []) bits) halves runs.kept))
+            ((λ i. list_all (ground_sat ((front ++ state ∷ []) ++ state_by state (sym e i) ∷ satisfied.0)) (is.hard i)) ∙ satisfied.1) in
+            let holds = m.made.guarded.holds bits ∙ and_from (truth bits step.pre) _ (same_pre step at.0 ∙ parts.0) guards in
+            let turn = m.made.gadget.turn bits runs.opens holds in
+            enters_with G X bits number turn.begin (record { own = in_all G weights X monitors go first last size all phase finish instances is turn.begin (m.inside turn.begin turn.own); holds = turn.fits })
+            (m.made.gadget.open_counts bits runs.opens turn.begin turn.own turn.fits ∙ ap Some at.1)
+
+    moves_by : (number : ℕ) → enters G X bits number ≡ true → Moves G weights X (IsOpen go first size) Amid Closing Runs front state bits number
+    moves_by number some =
+        let e = entered number some in
+        let o = e.owner in
+        let turn = o.made.gadget.turn bits runs.opens e.holds in
         record {
           first = turn.begin;
           rest = turn.rest;
           later = turn.later;
-          fits = record { own = in_all G weights X monitors go first last size all phase finish instances is turn.begin (m.inside turn.begin turn.own); holds = turn.fits };
-          counts = m.made.gadget.open_counts bits runs.opens turn.begin turn.own turn.fits ∙ ap Some at.1;
-          asks = asks_of (front ++ state ∷ []) (stepped G weights state number) m.current m.actions m.inside (after bits turn.begin.effects) turn.rest turn.later turn.turns
-              (subst (λ o. Runs (front ++ state ∷ []) (state_by state o) turn.later) (sym e)
-              (runs_on step at.0 m.made.changes m.made.riders turn.later (turns_open m.current m.actions (after bits turn.begin.effects) turn.rest turn.later turn.turns) turn.same));
+          fits = record { own = in_all G weights X monitors go first last size all phase finish instances is turn.begin (o.inside turn.begin turn.own); holds = turn.fits };
+          counts = o.made.gadget.open_counts bits runs.opens turn.begin turn.own turn.fits ∙ ap Some e.numbered;
+          asks = asks_of (front ++ state ∷ []) (stepped G weights state number) o.current o.actions o.inside (after bits turn.begin.effects) turn.rest turn.later turn.turns
+              (subst (λ o. Runs (front ++ state ∷ []) (state_by state o) turn.later) (sym e.found)
+              (runs_on o.step o.has_step o.made.changes o.made.riders turn.later (turns_open o.current o.actions (after bits turn.begin.effects) turn.rest turn.later turn.turns) turn.same));
           costs = turn.costs
-              ∙ ap (λ n. weights.total_cost * unwrap_or step.cost 0 + n) (same_violation weights.by_name bits state step.prefs (λ pref member. truth-below G.atoms bits state runs.agrees pref.body (is.bodies step at.0 pref member)))
-              ∙ (λ i. step_loss G weights state (sym e i));
-          count = turn.count ∙ (λ i. extra_by weights.by_name (sym e i));
+              ∙ ap (λ n. weights.total_cost * unwrap_or o.step.cost 0 + n) (same_violation weights.by_name bits state o.step.prefs (λ pref member. truth-below G.atoms bits state runs.agrees pref.body (is.bodies o.step o.has_step pref member)))
+              ∙ (λ i. step_loss G weights state (sym e.found i));
+          count = turn.count ∙ (λ i. extra_by weights.by_name (sym e.found i));
         }
 
     -- ---- the end
@@ -228,7 +279,8 @@ module _ (G : GroundTask) (weights : Weights) (X : Target) (monitors : List Moni
     begins = start;
     opens = λ front state bits runs. runs.opens;
     fits = fits_step;
-    moves = λ front state bits runs number fits. moves_by front state bits runs number (step_of G number) refl fits;
+    entered = enters_step;
+    moves = moves_by;
     may = may_by;
     ending = ending_is;
     ends = same_end;

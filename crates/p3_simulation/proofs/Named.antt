@@ -1,5 +1,5 @@
 -- The names of a target all differ, and are names of the grammar.
-use Rattle.std.proofs.Common.{◌≡◌, ◌∙◌, ℕ, zero, suc, ◌+◌, ◌*◌, ◌-◌, ◌<◌, ◌≤◌, ◌^◌, Bool, true, false, not, cond, List, [], ◌∷◌, ◌++◌, map, length, drop, refl, sym, ap, subst, arith}
+use Rattle.std.proofs.Common.{◌≡◌, ◌∙◌, ℕ, zero, suc, ◌+◌, ◌*◌, ◌-◌, ◌<◌, ◌≤◌, ◌^◌, Bool, true, false, not, cond, List, [], ◌∷◌, ◌++◌, map, length, take, drop, refl, sym, ap, subst, arith}
 use Rattle.std.specs.Prelude.{All, codes, decimal, flat_map, if◌then◌else◌}
 use Rattle.std.specs.List.{list_all}
 use Rattle.std.proofs.lemmas.Bool.{and_parts, and_from}
@@ -23,7 +23,7 @@ use Rattle.p3_formula.specs.declared.task.GroundTask.{GroundTask}
 use Rattle.p3_simulation.specs.Ends.{AreActions, Settles}
 use Rattle.p3_simulation.specs.declared.phase.SoftEnd.{SoftEnd}
 use Rattle.p3_monitors.specs.declared.watching.Monitor.{Monitor}
-use Rattle.p3_precprefs.specs.Copies.{both_ways, patterns, violated_lists}
+use Rattle.p3_precprefs.specs.Copies.{IsSublist, Nothing, Keeps, Leaves, both_ways, patterns, violated_lists}
 use Rattle.p3_precprefs.specs.Questions.{AreAnswers}
 use Rattle.p3_precprefs.specs.declared.copies.StepCopy.{StepCopy}
 use Rattle.p3_simulation.proofs.Assembling.{inside, size_is}
@@ -64,6 +64,13 @@ AreUpward low high (violated ∷ more) = (low ≤ value violated) × AreUpward (
 upward_wider : (low least high : ℕ) (lists : List (List Bool)) → least ≤ low → AreUpward low high lists → AreUpward least high lists
 upward_wider low least high [] below upward = omega (arith, below, upward)
 upward_wider low least high (violated ∷ more) below upward = let first = upward.0 in (omega (arith, below, first), upward.1)
+
+-- so do some of them
+upward_some : (low high : ℕ) (some all : List (List Bool)) → IsSublist some all → AreUpward low high all → AreUpward low high some
+upward_some low high some all Nothing upward = upward
+upward_some low high some all (Keeps violated fewer more kept) upward = (upward.0, upward_some (value violated + 1) high fewer more kept upward.1)
+upward_some low high some all (Leaves violated _ more kept) upward =
+    let first = upward.0 in upward_wider (value violated + 1) low high some (omega (arith, first)) (upward_some (value violated + 1) high some more kept upward.1)
 
 upward_doubled : (low high : ℕ) (lists : List (List Bool)) → AreUpward low high lists → AreUpward (2 * low) (2 * high) (flat_map both_ways lists)
 upward_doubled low high [] upward = omega (arith, upward)
@@ -138,15 +145,16 @@ module _ (first current number : ℕ) (by_name : List ℕ) (fits : number < 2 ^ 
 
 -- ---- the steps
 
-module _ (go first : ℕ) (weights : Weights) (monitors : List Monitor) where
-  step_risen : (from next : ℕ) (step : GroundStep) (actions : List TargetAction) → AreOfStep go first weights monitors from next step actions → step.number < 2 ^ 64 → IsWithinLimits weights step
+module _ (go first : ℕ) (weights : Weights) (hard monitors : List Monitor) where
+  step_risen : (from next : ℕ) (step : GroundStep) (actions : List TargetAction) → AreOfStep go first weights hard monitors from next step actions → step.number < 2 ^ 64 → IsWithinLimits weights step
       → Actions (from_step step.number) (from_step (step.number + 1)) (names actions)
   step_risen from next step actions (Costless _ none) fits limits = omega arith
-  step_risen from next step actions (Narrow _ effects _ costs few does split) fits limits =
-      subst (Actions (from_step step.number) (from_step (step.number + 1))) (ap (map (λ violated. copy_name step.number (pattern violated))) (sym split.shown) ∙ sym (copies_named go step.number effects split.copies actions split.are))
+  step_risen from next step actions (Narrow _ pre effects _ costs few does guarded split) fits limits =
+      subst (Actions (from_step step.number) (from_step (step.number + 1))) (sym (copies_named go step.number effects split.copies actions split.are))
       (risen_wider is_action_name (from_step step.number + 0) (from_step step.number + doubles (width_of weights.by_name step)) (from_step step.number) (from_step (step.number + 1)) _ (omega arith)
       (let small = few_patterns (width_of weights.by_name step) few in omega (arith, small))
-      (copies_risen step.number fits 0 (doubles (width_of weights.by_name step)) (patterns (width_of weights.by_name step)) (upward_patterns (width_of weights.by_name step))))
+      (copies_risen step.number fits 0 (doubles (width_of weights.by_name step)) (violated_lists split.copies)
+      (upward_some 0 (doubles (width_of weights.by_name step)) (violated_lists split.copies) (patterns (width_of weights.by_name step)) split.shown (upward_patterns (width_of weights.by_name step)))))
   step_risen from next step actions (Wide _ effects _ costs many does chain) fits limits =
       subst (λ list. Actions (from_step step.number) (from_step (step.number + 1)) (names list)) (sym chain.are) (
         omega (arith, begin_key),
@@ -164,7 +172,7 @@ module _ (go first : ℕ) (weights : Weights) (monitors : List Monitor) where
       end_key : key chain.ending.name ≡ from_step step.number + 1023
       end_key = ap key chain.ends.has_name ∙ read_written key_of (codes "q") step.number (codes "end") refl fits refl
 
-  steps_risen : (count low from to : ℕ) (steps : List GroundStep) (actions : List TargetAction) → AreOfSteps go first weights monitors from to steps actions → rises low count steps ≡ true → count < 2 ^ 32 → low ≤ 2 ^ 32 → All (IsWithinLimits weights) steps
+  steps_risen : (count low from to : ℕ) (steps : List GroundStep) (actions : List TargetAction) → AreOfSteps go first weights hard monitors from to steps actions → rises low count steps ≡ true → count < 2 ^ 32 → low ≤ 2 ^ 32 → All (IsWithinLimits weights) steps
       → Actions (from_step low) (7 * 2 ^ 64) (names actions)
   steps_risen count low from to steps actions (NoSteps _) rising small below limits = omega (arith, below)
   steps_risen count low from to steps actions (OneStep _ next _ step others own rest are more) rising small below limits =
@@ -269,7 +277,7 @@ module _ (G : GroundTask) (weights : Weights) (X : Target) (made : Assembly) (re
   actions_risen = subst (Actions (6 * 2 ^ 64) (9 * 2 ^ 64)) (sym (ap names is.actions ∙ map-append (λ (action : TargetAction). action.name) made.actions made.phase.actions))
       (risen_join is_action_name (6 * 2 ^ 64) (7 * 2 ^ 64) (9 * 2 ^ 64) (names made.actions) (names made.phase.actions)
       (risen_wider is_action_name (from_step 0) (7 * 2 ^ 64) (6 * 2 ^ 64) (7 * 2 ^ 64) (names made.actions) (omega arith) (omega arith)
-      (steps_risen made.go made.first weights made.monitors G.step_count 0 (made.first + 201) made.last G.steps made.actions is.steps ready.numbers is.numbers (omega arith) ready.limits))
+      (steps_risen made.go made.first weights (take (length G.hard) made.monitors) made.monitors G.step_count 0 (made.first + 201) made.last G.steps made.actions is.steps ready.numbers is.numbers (omega arith) ready.limits))
       (phase_risen made.go made.finish made.instances made.phase.actions is.phase.settles (let e = end_count weights.by_name G.soft (drop (length G.hard) made.monitors) made.instances is.ends in let f = ready.few in omega (arith, e, f))))
 
   atoms_good : list_all is_atom_name X.predicates ≡ true

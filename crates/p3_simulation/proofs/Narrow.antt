@@ -11,6 +11,7 @@ use Rattle.p3_formula.specs.Next.{after}
 use Rattle.p3_formula.specs.Targets.{is_sized_change}
 use Rattle.p3_formula.specs.Weighted.{width_of}
 use Rattle.p3_formula.specs.declared.form.Change.{Change}
+use Rattle.p3_formula.specs.declared.form.Form.{Form}
 use Rattle.p3_formula.specs.declared.target.TargetAction.{TargetAction}
 use Rattle.p3_formula.specs.declared.target.Weights.{Weights}
 use Rattle.p3_formula.specs.declared.task.GroundStep.{GroundStep}
@@ -111,10 +112,10 @@ module _ (go number : ℕ) (effects : List Change) where
     | inr later ↦ some_copy copies actions are.1 action later
   ]
 
--- the clauses of `split`, as those of a gadget
-module _ (go first size : ℕ) (behind_go : go < first) (counted : TargetAction → Option ℕ) (weights : Weights) (step : GroundStep) (effects wanted : List Change) (actions : List TargetAction)
-    (few : width_of weights.by_name step ≤ 8) (is : IsSplit go weights step effects actions) (below : list_all (is_sized_change go) effects ≡ true)
-    (does : (state : State) → after state effects ≡ after state wanted) (counts : (action : TargetAction) (rest : Name) → action.name ≡ copy_name step.number rest → counted action ≡ Some step.number) where
+-- the clauses of `split_under`, as those of a gadget
+module _ (go first size : ℕ) (behind_go : go < first) (counted : TargetAction → Option ℕ) (weights : Weights) (step : GroundStep) (pre : Form) (effects wanted : List Change) (actions : List TargetAction)
+    (few : width_of weights.by_name step ≤ 8) (is : IsSplit go weights step pre effects actions) (below : list_all (is_sized_change go) effects ≡ true)
+    (does : (state : State) → truth state pre ≡ true → after state effects ≡ after state wanted) (counts : (action : TargetAction) (rest : Name) → action.name ≡ copy_name step.number rest → counted action ≡ Some step.number) where
   some : (action : TargetAction) → Contains actions action → IsSomeCopy go step.number effects action
   some action member = some_copy go step.number effects is.copies actions is.are action member
 
@@ -125,14 +126,14 @@ module _ (go first size : ℕ) (behind_go : go < first) (counted : TargetAction 
     clear = λ atom high. is_set-unchanged bits effects atom (unnamed_above go effects atom below (omega (arith, high))) ∙ opens.clear atom high;
   })
 
-  holds_where : (bits : State) → IsOpen go first size bits → (action : TargetAction) → Contains actions action → truth bits action.pre ≡ true → truth bits step.pre ≡ true
-  holds_where bits opens action member holds = by (truth bits step.pre) refl
+  holds_where : (bits : State) → IsOpen go first size bits → (action : TargetAction) → Contains actions action → truth bits action.pre ≡ true → truth bits pre ≡ true
+  holds_where bits opens action member holds = by (truth bits pre) refl
     where
-      by : (b : Bool) → truth bits step.pre ≡ b → truth bits step.pre ≡ true
+      by : (b : Bool) → truth bits pre ≡ b → truth bits pre ≡ true
       by true e = e
       by false e = absurd (none_fits go step.number effects bits is.copies actions is.are (is.no_copy bits e) action member holds)
 
-  chosen : (bits : State) → IsOpen go first size bits → (fits : truth bits step.pre ≡ true) → OneAction go step.number effects bits (is.one_copy bits fits).copy actions
+  chosen : (bits : State) → IsOpen go first size bits → (fits : truth bits pre ≡ true) → OneAction go step.number effects bits (is.one_copy bits fits).copy actions
   chosen bits opens fits = one_fits go step.number effects bits is.copies actions is.are opens.running (is.one_copy bits fits).copy (is.one_copy bits fits).only
 
   never : (bits : State) → IsAsking go first size go bits → ⊥
@@ -141,7 +142,7 @@ module _ (go first size : ℕ) (behind_go : go < first) (counted : TargetAction 
   narrow : extra_of (width_of weights.by_name step) ≡ 0
   narrow = ap (λ b. cond b (width_of weights.by_name step + 1) 0) (le-ltb 8 (width_of weights.by_name step) few)
 
-  pub copies_turn : IsGadget go first size counted weights step wanted go actions
+  pub copies_turn : IsGadget go first size counted weights step pre wanted go actions
   copies_turn = record {
     guarded = λ bits action member holds. inl ((some action member).running bits holds);
     open_one = λ bits opens one other member member_two fits fit.
@@ -159,7 +160,7 @@ module _ (go first size : ℕ) (behind_go : go < first) (counted : TargetAction 
       own = c.own;
       fits = c.holds;
       turns = Back (after bits c.action.effects) (stays_open bits opens c.action c.own);
-      same = λ atom low. ap (λ s. is_set s atom) (ap (after bits) c.is.does ∙ does bits);
+      same = λ atom low. ap (λ s. is_set s atom) (ap (after bits) c.is.does ∙ does bits fits);
       costs = add_nothing c.action.cost ∙ c.is.costs ∙ (is.one_copy bits fits).costs;
       count = sym narrow;
     };

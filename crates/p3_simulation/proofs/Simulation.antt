@@ -16,7 +16,7 @@ use Rattle.p3_formula.specs.declared.target.Target.{Target}
 use Rattle.p3_formula.specs.declared.target.TargetAction.{TargetAction}
 use Rattle.p3_formula.specs.declared.target.Weights.{Weights}
 use Rattle.p3_formula.specs.declared.task.GroundTask.{GroundTask}
-use Rattle.p3_simulation.proofs.Walks.{names, Reaches, plan_cost, counted, lifted, Walked, walked, spelled_reaches, spelled_cost, spelled_lift}
+use Rattle.p3_simulation.proofs.Walks.{names, Reaches, plan_cost, counted, enters, lifted, Walked, walked, spelled_reaches, spelled_cost, spelled_lift}
 use Rattle.p3_simulation.proofs.GroundWalks.{AreNamed, stepped, may_end, end_loss, step_loss, valid_from, loss_from, extra_from, valid_is, loss_is, extra_is}
 
 -- the bits run where the source states of the front have been visited, and then that state
@@ -41,17 +41,20 @@ module _ (G : GroundTask) (weights : Weights) (X : Target) (Running : List State
 
   -- what can be done from running bits
   pub record Choices (front : List State) (state bits : State) : Type 0 where
-    pub segment : (number : ℕ) → ground_fits G state number ≡ true → Segment front state bits number
+    pub segment : (number : ℕ) → enters G X bits number ≡ true → Segment front state bits number
     pub ending : may_end G weights (front ++ state ∷ []) ≡ true → Ending front state bits
 
   -- a plan from running bits is an end, or begins with the actions of a step
   pub data Splits {front : List State} {state bits : State} (choices : Choices front state bits) (plan : List TargetAction) : Type 0 where
     Ends : (may : may_end G weights (front ++ state ∷ []) ≡ true) → plan ≡ (choices.ending may).plan → Splits choices plan
-    Goes : (number : ℕ) → (fits : ground_fits G state number ≡ true) → (rest : List TargetAction) → plan ≡ (choices.segment number fits).plan ++ rest
+    Goes : (number : ℕ) → (fits : enters G X bits number ≡ true) → (rest : List TargetAction) → plan ≡ (choices.segment number fits).plan ++ rest
         → Reaches X (choices.segment number fits).later rest → Splits choices plan
 
   pub record Simulates : Type 0 where
     pub begins : Running [] G.initial X.initial
+    -- a step is entered only where it fits, and is entered where a valid plan goes on with it
+    pub fits : (front : List State) (state bits : State) → Running front state bits → (number : ℕ) → enters G X bits number ≡ true → ground_fits G state number ≡ true
+    pub entered : (front : List State) (state bits : State) → Running front state bits → (number : ℕ) (plan : GroundPlan) → valid_from G weights front state (number ∷ plan) ≡ true → enters G X bits number ≡ true
     pub choices : (front : List State) (state bits : State) → Running front state bits → Choices front state bits
     pub splits : (front : List State) (state bits : State) (runs : Running front state bits) (plan : List TargetAction) → Reaches X bits plan → Splits (choices front state bits runs) plan
 
@@ -88,7 +91,7 @@ module _ (G : GroundTask) (weights : Weights) (X : Target) (Running : List State
       | Goes number fits rest is more ↦
           let segment = (simulates.choices front state bits runs).segment number fits in
           subst (Tells front state) (sym is)
-          (tells_step front state bits number fits segment rest
+          (tells_step front state bits number (simulates.fits front state bits runs number fits) segment rest
           (tells n (front ++ state ∷ []) (stepped G weights state number) segment.later segment.runs rest (shorter n segment.plan rest plan _ is segment.count bound) more))
     ]
 
@@ -103,7 +106,7 @@ module _ (G : GroundTask) (weights : Weights) (X : Target) (Running : List State
     origin [] front state bits runs valid = let ending = (simulates.choices front state bits runs).ending valid in record { plan = ending.plan; reaches = ending.reaches; lifts = ending.lifts }
     origin (number ∷ ground) front state bits runs valid =
         let parts = and_parts (ground_fits G state number) _ valid in
-        let segment = (simulates.choices front state bits runs).segment number parts.0 in
+        let segment = (simulates.choices front state bits runs).segment number (simulates.entered front state bits runs number ground valid) in
         let rest = origin ground (front ++ state ∷ []) (stepped G weights state number) segment.later segment.runs parts.1 in
         record {
           plan = segment.plan ++ rest.plan;
@@ -137,7 +140,7 @@ module _ (G : GroundTask) (weights : Weights) (X : Target) (Running : List State
             let both : number ∷ lifted G rest ≡ second ∷ lifted G rest_two = sym one ∙ same ∙ two in
             let numbers : number ≡ second = cc in
             let lists : lifted G rest ≡ lifted G rest_two = cc in
-            is ∙ subst (λ m. (fit : ground_fits G state m ≡ true) → Reaches X (choices.segment m fit).later rest_two → (choices.segment number fits).plan ++ rest ≡ (choices.segment m fit).plan ++ rest_two) numbers
+            is ∙ subst (λ m. (fit : enters G X bits m ≡ true) → Reaches X (choices.segment m fit).later rest_two → (choices.segment number fits).plan ++ rest ≡ (choices.segment m fit).plan ++ rest_two) numbers
             (λ fit more_two. (λ i. (choices.segment number fits).plan ++
             alone n (front ++ state ∷ []) (stepped G weights state number) (choices.segment number fits).later (choices.segment number fits).runs rest rest_two
             (shorter n (choices.segment number fits).plan rest plan _ is (choices.segment number fits).count bound) more

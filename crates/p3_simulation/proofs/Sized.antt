@@ -1,5 +1,5 @@
 -- All atoms of a target are below the number of its predicates.
-use Rattle.std.proofs.Common.{◌≡◌, ◌∙◌, ℕ, ◌+◌, ◌<◌, ◌≤◌, nat_lt, nat_le, true, ◌&&◌, List, [], ◌∷◌, length, drop, refl, ap, arith, ⊎_elim}
+use Rattle.std.proofs.Common.{◌≡◌, ◌∙◌, ℕ, ◌+◌, ◌<◌, ◌≤◌, nat_lt, nat_le, true, ◌&&◌, List, [], ◌∷◌, length, take, drop, refl, ap, arith, ⊎_elim}
 use Rattle.std.specs.Prelude.{◌==◌, All}
 use Rattle.std.specs.List.{list_all}
 use Rattle.std.proofs.lemmas.Bool.{and_parts, and_from, lt-ltb, eqb-true, leb-true, or_cases}
@@ -59,22 +59,22 @@ module _ (go first size : ℕ) (behind_go : go < first) (room : first ≤ size) 
       (λ between. let high = leb-true atom (first + width_limit) (and_parts (nat_le first atom) _ between).1 in omega (arith, high, far, fits))
       (or_cases (current == atom) _ rest)) (or_cases (go == atom) _ own))
 
-  module _ (weights : Weights) (monitors : List Monitor) where
-    pub steps_sized : (from to : ℕ) (steps : List GroundStep) (actions : List TargetAction) → AreOfSteps go first weights monitors from to steps actions → list_all (is_step_below go) steps ≡ true
+  module _ (weights : Weights) (hard monitors : List Monitor) where
+    pub steps_sized : (from to : ℕ) (steps : List GroundStep) (actions : List TargetAction) → AreOfSteps go first weights hard monitors from to steps actions → list_all (is_step_below go) steps ≡ true
         → All (IsWithinLimits weights) steps → first + width_limit < from → (from < to → to ≤ size) → list_all (is_sized_action size) actions ≡ true
     steps_sized from to steps actions (NoSteps _) below limits far fits = refl
     steps_sized from to steps actions (OneStep _ next _ step others own rest are more) below limits far fits =
         list_all-append (is_sized_action size) own rest
-        ∙ by next own are (let e = all_currents go first weights monitors next to others rest more in omega (arith, e)) (steps_sized next to others rest more parts.1 (All-tail (IsWithinLimits weights) step others limits))
+        ∙ by next own are (let e = all_currents go first weights hard monitors next to others rest more in omega (arith, e)) (steps_sized next to others rest more parts.1 (All-tail (IsWithinLimits weights) step others limits))
       where
         parts : (is_step_below go step ≡ true) × (list_all (is_step_below go) others ≡ true)
         parts = and_parts (is_step_below go step) _ below
 
-        by : (next : ℕ) (own : List TargetAction) → AreOfStep go first weights monitors from next step own → next ≤ to → (first + width_limit < next → (next < to → to ≤ size) → list_all (is_sized_action size) rest ≡ true)
+        by : (next : ℕ) (own : List TargetAction) → AreOfStep go first weights hard monitors from next step own → next ≤ to → (first + width_limit < next → (next < to → to ≤ size) → list_all (is_sized_action size) rest ≡ true)
             → (list_all (is_sized_action size) own && list_all (is_sized_action size) rest) ≡ true
         by next own (Costless _ none) up onward = onward far fits
-        by next own (Narrow _ effects _ costs few does split) up onward =
-            and_from _ _ (copies_sized step.number effects split.copies own split.are (split.atoms (λ atom. nat_lt atom size) (parts_of step parts.0)) (effects_sized effects does.below)) (onward far fits)
+        by next own (Narrow _ pre effects _ costs few does guarded split) up onward =
+            and_from _ _ (copies_sized step.number effects split.copies own split.are (split.atoms (λ atom. nat_lt atom size) (below_more go size (omega (arith, behind_go, room)) pre guarded.below) (parts_of step parts.0).bodies) (effects_sized effects does.below)) (onward far fits)
         by next own (Wide _ effects _ costs many does chain) up onward =
             and_from _ _
             (list_all-from_AllPass (is_sized_action size) own (chain_atoms go first from weights step effects ((All-head (IsWithinLimits weights) step others limits).width costs) own chain (λ atom. nat_lt atom size)
@@ -99,7 +99,7 @@ module _ (G : GroundTask) (weights : Weights) (X : Target) (made : Assembly) (re
         ∙ lt-ltb (made.go + (1 + length made.instances)) (length X.predicates) (let f = first_fits in let q = is.questions in let e = end_count weights.by_name G.soft (drop (length G.hard) made.monitors) made.instances is.ends in omega (arith, f, q, e));
     actions = ap (list_all (is_sized_action (length X.predicates))) is.actions ∙ list_all-append (is_sized_action (length X.predicates)) made.actions made.phase.actions
         ∙ and_from _ _
-        (steps_sized made.go made.first (length X.predicates) (behind G weights X made ready is) first_fits weights made.monitors (made.first + 201) made.last G.steps made.actions is.steps
+        (steps_sized made.go made.first (length X.predicates) (behind G weights X made ready is) first_fits weights (take (length G.hard) made.monitors) made.monitors (made.first + 201) made.last G.steps made.actions is.steps
         (all_weaker (is_step_below G.atoms) (is_step_below made.go) (step_more G.atoms made.go (inside G weights X made ready is)) G.steps ready.atoms.steps) ready.limits (omega arith) (currents_fit G weights X made ready is))
         (list_all-from_AllPass (is_sized_action (length X.predicates)) made.phase.actions (every_atom made.finish made.instances made.go made.phase is.phase (λ atom. nat_lt atom (length X.predicates)) (record {
           may_finish = below_more made.go (length X.predicates) (let b = behind G weights X made ready is in let f = first_fits in omega (arith, b, f)) made.finish is.finish;

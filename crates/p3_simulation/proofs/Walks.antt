@@ -1,14 +1,15 @@
 -- Plans of a target as lists of its actions, in place of their names.
 use Rattle.std.proofs.Common.{◌≡◌, ◌∙◌, ◌⊎◌, inl, inr, ℕ, zero, suc, ◌+◌, Bool, true, false, not, ◌&&◌, cond, List, [], ◌∷◌, map, sum_by, refl, sym, ap, subst, arith, true≢false, Option, Some, None}
 use Rattle.std.specs.Prelude.{Contains, bytes_eq, find, filter_map}
-use Rattle.std.specs.List.{cons_option}
-use Rattle.std.proofs.lemmas.Bool.{and_parts, and_from, not-true, or_left, or_right}
+use Rattle.std.specs.List.{cons_option, list_any}
+use Rattle.std.proofs.lemmas.Bool.{and_parts, and_from, eq-eqb, eqb-true, not-true, or_cases, or_left, or_right}
 use Rattle.std.proofs.lemmas.List.Sums.{sum_by-cons}
 use Rattle.std.proofs.lemmas.Slice.Eq.{bytes_eq-Decides}
 use Rattle.p3_base.specs.Words.{Name, has_name, are_different}
 use Rattle.p3_formula.specs.Forms.{State, truth}
 use Rattle.p3_formula.specs.Next.{after}
-use Rattle.p3_formula.specs.Targets.{TargetPlan, action_of, fits_by, state_by, cost_by, reaches_goal, target_cost, ground_lift, lifted_number}
+use Rattle.p3_formula.specs.GroundPlans.{is_numbered}
+use Rattle.p3_formula.specs.Targets.{Fits, TargetPlan, action_of, fits_by, state_by, cost_by, reaches_goal, target_cost, ground_lift, lifted_number}
 use Rattle.p3_formula.specs.declared.target.Target.{Target}
 use Rattle.p3_formula.specs.declared.target.TargetAction.{TargetAction}
 use Rattle.p3_formula.specs.declared.task.GroundTask.{GroundTask}
@@ -44,6 +45,10 @@ plan_cost plan = sum_by (λ (action : TargetAction). action.cost) plan
 
 abbrev pub lifted : GroundTask → List TargetAction → List ℕ
 lifted G plan = filter_map (counted G) plan
+
+-- an action that counts as that step fits
+abbrev pub enters : GroundTask → Target → State → ℕ → Bool
+enters G X state number = list_any (λ (action : TargetAction). is_numbered number (counted G action) && truth state action.pre) X.actions
 
 has_its_name : (actions : List TargetAction) (a : TargetAction) → Contains actions a → has_name (names actions) a.name ≡ true
 has_its_name [] a member = in_none a member
@@ -133,3 +138,41 @@ spelled_lift G (a ∷ plan) = ap (cons_option (counted G a)) (go plan)
     go : (plan : List TargetAction) → filter_map (lifted_number G) (names plan) ≡ lifted G plan
     go [] = refl
     go (b ∷ rest) = ap (cons_option (counted G b)) (go rest)
+
+-- ---- the action that enters a step
+
+is_counted : (number : ℕ) (name : Option ℕ) → is_numbered number name ≡ true → name ≡ Some number
+is_counted number None e = absurd (true≢false (sym e))
+is_counted number (Some other) e = ap Some (eqb-true other number e)
+
+module _ (G : GroundTask) (X : Target) (state : State) (number : ℕ) where
+  pub record Entry : Type 0 where
+    pub action : TargetAction
+    pub fits : Fits X state action
+    pub counts : counted G action ≡ Some number
+
+  abbrev enters_by : TargetAction → Bool
+  enters_by action = is_numbered number (counted G action) && truth state action.pre
+
+  entered_by : (actions : List TargetAction) → list_any enters_by actions ≡ true → (action : TargetAction) × Contains actions action × (enters_by action ≡ true)
+  entered_by [] some = absurd (true≢false (sym some))
+  entered_by (first ∷ actions) some = elim (or_cases (enters_by first) _ some) [
+    | inl here ↦ (first, is_head first actions, here)
+    | inr later ↦ let more = entered_by actions later in (more.0, is_behind first actions more.0 more.1, more.2)
+  ]
+
+  pub entry : enters G X state number ≡ true → Entry
+  entry some =
+      let found = entered_by X.actions some in
+      let both = and_parts (is_numbered number (counted G found.0)) _ found.2 in
+      record { action = found.0; fits = record { own = found.1; holds = both.1 }; counts = is_counted number (counted G found.0) both.0 }
+
+  enters_one : (actions : List TargetAction) (action : TargetAction) → Contains actions action → enters_by action ≡ true → list_any enters_by actions ≡ true
+  enters_one [] action own fits = in_none action own
+  enters_one (first ∷ actions) action own fits = elim (head_or_tail first actions action own) [
+    | inl is ↦ or_left (enters_by first) _ (ap enters_by is ∙ fits)
+    | inr later ↦ or_right (enters_by first) _ (enters_one actions action later fits)
+  ]
+
+  pub enters_with : (action : TargetAction) → Fits X state action → counted G action ≡ Some number → enters G X state number ≡ true
+  enters_with action fits counts = enters_one X.actions action fits.own (and_from (is_numbered number (counted G action)) _ (ap (is_numbered number) counts ∙ eq-eqb number number refl) fits.holds)

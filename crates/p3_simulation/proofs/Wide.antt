@@ -130,7 +130,7 @@ module _ (go first size current : ℕ) (behind : go < first) (far : first + widt
 
   module _ (counted : TargetAction → Option ℕ) (weights : Weights) (step : GroundStep) (effects wanted : List Change) (actions : List TargetAction)
       (many : 8 < width_of weights.by_name step) (few : width_of weights.by_name step ≤ width_limit) (step_below : is_step_below go step ≡ true) (chain : IsChain go first current weights step effects actions)
-      (below : list_all (is_sized_change go) effects ≡ true) (does : (state : State) → after state effects ≡ after state wanted)
+      (below : list_all (is_sized_change go) effects ≡ true) (does : (state : State) → truth state step.pre ≡ true → after state effects ≡ after state wanted)
       (counts : (action : TargetAction) (rest : Name) → action.name ≡ copy_name step.number rest → counted action ≡ Some step.number)
       (uncounted : (action : TargetAction) (rest : Name) → action.name ≡ question_name step.number rest → counted action ≡ None) where
     -- an action leaves the other bits as they are
@@ -257,7 +257,7 @@ module _ (go first size current : ℕ) (behind : go < first) (far : first + widt
           own = way.own;
           fits = way.fits;
           turns = way.turns;
-          same = λ atom low. ap (λ s. is_set s atom) (does bits);
+          same = λ atom low. ap (λ s. is_set s atom) (does bits fits);
           costs = sym (sum_by-cons (λ (action : TargetAction). action.cost) way.begin way.rest) ∙ ap (sum_by (λ (action : TargetAction). action.cost)) (sym way.is) ∙ one.costs;
           count = (let c = one.count in let l = ap length way.is in omega (arith, c, l)) ∙ sym wide;
         }
@@ -269,7 +269,7 @@ module _ (go first size current : ℕ) (behind : go < first) (far : first + widt
         by true e = e
         by false e = absurd (true≢false (sym fits ∙ All-contains (λ (a : TargetAction). truth bits a.pre ≡ false) actions action (chain_no_way go first current weights step effects behind far below few actions chain bits (opened bits opens) e) own))
 
-    pub asks_turn : IsGadget go first size counted weights step wanted current actions
+    pub asks_turn : IsGadget go first size counted weights step step.pre wanted current actions
     asks_turn = record {
       guarded = λ bits action own fits. ⊎_elim (λ is. inl (begin_shows bits action is fits)) (λ other. inr (others_show bits action other fits)) (place_in action own);
       open_one = λ bits opens one other. one_proper bits (inl (opened bits opens)) one other;

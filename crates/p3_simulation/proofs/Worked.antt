@@ -19,10 +19,11 @@ use Rattle.p3_simulation.specs.declared.phase.SoftEnd.{SoftEnd}
 use Rattle.p3_monitors.specs.declared.watching.Monitor.{Monitor}
 use Rattle.p3_monitors.proofs.AcceptLaws.{accept_atoms}
 use Rattle.p3_monitors.proofs.UpdateLaws.{at_end_update}
-use Rattle.p3_precprefs.specs.Copies.{HasAtomsIn}
+use Rattle.p3_precprefs.specs.Copies.{HasAtomsIn, Nothing, Keeps}
 use Rattle.p3_precprefs.specs.declared.copies.StepCopy.{StepCopy}
+use Rattle.p3_simulation.proofs.Guarded.{plain_pre}
 use Rattle.p3_simulation.specs.Assembled.{Assembly, IsAssembled, IsSplit, Narrow, NoSteps, OneStep}
-use Rattle.p3_simulation.specs.Watching.{IsEffects, NoMore, Touched, NoneLeft, OneMore}
+use Rattle.p3_simulation.specs.Watching.{IsEffects, IsGuardedPre, NoMore, Touched, NoneLeft, OneMore}
 
 pub atom_below : IsModalBelow 1 (AtEnd (Atom 0))
 unfolding computes
@@ -75,14 +76,14 @@ step_pre = record {
   reads = λ allowed set within. (and_parts (allowed 1) true set).0;
 }
 
-step_split : IsSplit 1 weights only_step (sets 0 ∷ []) (step ∷ [])
+step_split : IsSplit 1 weights only_step True (sets 0 ∷ []) (step ∷ [])
 unfolding computes
 step_split = record {
   copies = copy ∷ [];
   one_copy = λ state holds. record { copy = copy; only = refl; shows = refl; costs = refl };
   no_copy = λ state fails. absurd (true≢false fails);
-  shown = refl;
-  atoms = λ allowed parts. All-cons (λ (c : StepCopy). HasAtomsIn allowed c.pre) copy [] refl (All-nil (λ (c : StepCopy). HasAtomsIn allowed c.pre));
+  shown = Keeps [] [] [] Nothing;
+  atoms = λ allowed pre bodies. All-cons (λ (c : StepCopy). HasAtomsIn allowed c.pre) copy [] refl (All-nil (λ (c : StepCopy). HasAtomsIn allowed c.pre));
   are = (record { named = refl; pre = step_pre; does = refl; costs = refl }, tt);
 }
 
@@ -91,9 +92,14 @@ unfolding computes
 step_effects = record {
   updates = [];
   watched = Touched monitor [] [] [] refl ((at_end_update 1 (sets 0 ∷ []) (Atom 0) atom_below).kept refl) NoMore;
-  does = λ state. refl;
+  does = λ state holds. refl;
   below = refl;
 }
+
+-- no constraint is hard
+step_guarded : IsGuardedPre 1 [] only_step True
+unfolding computes
+step_guarded = plain_pre 1 [] only_step refl
 
 -- ---- the end phase
 
@@ -125,7 +131,7 @@ target_assembled = record {
   idle = 2;
   initial = refl;
   bits = refl;
-  steps = OneStep 205 205 205 only_step [] (step ∷ []) [] (Narrow only_step (sets 0 ∷ []) (step ∷ []) refl (omega arith) step_effects step_split) (NoSteps 205);
+  steps = OneStep 205 205 205 only_step [] (step ∷ []) [] (Narrow only_step True (sets 0 ∷ []) (step ∷ []) refl (omega arith) step_effects step_guarded step_split) (NoSteps 205);
   actions = refl;
   goal = refl;
   accepts = λ state. refl;

@@ -7,6 +7,7 @@ use Rattle.p3_formula.specs.Guards.{IsGuardedForm}
 use Rattle.p3_formula.specs.Weighted.{width_of}
 use Rattle.p3_formula.specs.declared.form.Change.{Change}
 use Rattle.p3_formula.specs.declared.form.Form.{Form}
+use Rattle.p3_formula.specs.declared.modal.GroundPref.{GroundPref}
 use Rattle.p3_formula.specs.declared.target.Target.{Target}
 use Rattle.p3_formula.specs.declared.target.TargetAction.{TargetAction}
 use Rattle.p3_formula.specs.declared.target.Weights.{Weights}
@@ -16,11 +17,11 @@ use Rattle.p3_simulation.specs.Ends.{AreBelow, IsEndPhase}
 use Rattle.p3_simulation.specs.declared.phase.EndPhase.{EndPhase}
 use Rattle.p3_simulation.specs.declared.phase.SoftEnd.{SoftEnd}
 use Rattle.p3_monitors.specs.declared.watching.Monitor.{Monitor}
-use Rattle.p3_precprefs.specs.Copies.{HasOneCopy, HasPartsIn, HasAtomsIn, fitting, patterns, violated_lists}
+use Rattle.p3_precprefs.specs.Copies.{HasOneCopy, HasAtomsIn, IsSublist, fitting, patterns, violated_lists}
 use Rattle.p3_precprefs.specs.Questions.{IsChain}
 use Rattle.p3_precprefs.specs.declared.copies.StepCopy.{StepCopy}
 use Rattle.p3_simulation.specs.Naming.{atom_names, pattern, wide_steps}
-use Rattle.p3_simulation.specs.Watching.{all_modals, AreMonitors, AreSoftEnds, IsEffects, all_accept, initial_bits}
+use Rattle.p3_simulation.specs.Watching.{all_modals, AreMonitors, AreSoftEnds, IsEffects, IsGuardedPre, all_accept, initial_bits}
 
 -- ---- the actions of a step
 
@@ -37,28 +38,28 @@ AreCopyActions go number effects (copy ∷ copies) (action ∷ actions) = IsCopy
 AreCopyActions go number effects [] (action ∷ actions) = ⊥
 AreCopyActions go number effects (copy ∷ copies) [] = ⊥
 
--- the copies of a step are as `split` makes them, each with its action
-pub record IsSplit (go : ℕ) (weights : Weights) (step : GroundStep) (effects : List Change) (actions : List TargetAction) : Type 0 where
+-- the copies of a step under that precondition are as `split_under` makes them, each with its action
+pub record IsSplit (go : ℕ) (weights : Weights) (step : GroundStep) (pre : Form) (effects : List Change) (actions : List TargetAction) : Type 0 where
   pub copies : List StepCopy
-  pub one_copy : (state : State) → truth state step.pre ≡ true → HasOneCopy weights step copies state
-  pub no_copy : (state : State) → truth state step.pre ≡ false → fitting state copies ≡ []
-  pub shown : violated_lists copies ≡ patterns (width_of weights.by_name step)
-  pub atoms : (allowed : ℕ → Bool) → HasPartsIn allowed step → All (λ (copy : StepCopy). HasAtomsIn allowed copy.pre) copies
+  pub one_copy : (state : State) → truth state pre ≡ true → HasOneCopy weights step copies state
+  pub no_copy : (state : State) → truth state pre ≡ false → fitting state copies ≡ []
+  pub shown : IsSublist (violated_lists copies) (patterns (width_of weights.by_name step))
+  pub atoms : (allowed : ℕ → Bool) → HasAtomsIn allowed pre → All (λ (pref : GroundPref). HasAtomsIn allowed pref.body) step.prefs → All (λ (copy : StepCopy). HasAtomsIn allowed copy.pre) copies
   pub are : AreCopyActions go step.number effects copies actions
 
--- the actions of one step: none without a cost, those of its copies, or its chain, whose current atom is the next one
-pub data AreOfStep (go first : ℕ) (weights : Weights) (monitors : List Monitor) (from : ℕ) : ℕ → GroundStep → List TargetAction → Type 0 where
-  Costless : (step : GroundStep) → is_some step.cost ≡ false → AreOfStep go first weights monitors from from step []
-  Narrow : (step : GroundStep) (effects : List Change) (actions : List TargetAction) → is_some step.cost ≡ true → width_of weights.by_name step ≤ 8
-      → IsEffects go monitors step effects → IsSplit go weights step effects actions → AreOfStep go first weights monitors from from step actions
+-- the actions of one step: none without a cost, those of its copies, under a precondition that may guard hard constraints, or its chain, whose current atom is the next one
+pub data AreOfStep (go first : ℕ) (weights : Weights) (hard monitors : List Monitor) (from : ℕ) : ℕ → GroundStep → List TargetAction → Type 0 where
+  Costless : (step : GroundStep) → is_some step.cost ≡ false → AreOfStep go first weights hard monitors from from step []
+  Narrow : (step : GroundStep) (pre : Form) (effects : List Change) (actions : List TargetAction) → is_some step.cost ≡ true → width_of weights.by_name step ≤ 8
+      → IsEffects go monitors step effects → IsGuardedPre go hard step pre → IsSplit go weights step pre effects actions → AreOfStep go first weights hard monitors from from step actions
   Wide : (step : GroundStep) (effects : List Change) (actions : List TargetAction) → is_some step.cost ≡ true → 8 < width_of weights.by_name step
-      → IsEffects go monitors step effects → IsChain go first from weights step effects actions → AreOfStep go first weights monitors from (from + 1) step actions
+      → IsEffects go monitors step effects → IsChain go first from weights step effects actions → AreOfStep go first weights hard monitors from (from + 1) step actions
 
 -- the actions of the steps in order, whose current atoms stand from a number on up to another
-pub data AreOfSteps (go first : ℕ) (weights : Weights) (monitors : List Monitor) : ℕ → ℕ → List GroundStep → List TargetAction → Type 0 where
-  NoSteps : (from : ℕ) → AreOfSteps go first weights monitors from from [] []
-  OneStep : (from next to : ℕ) (step : GroundStep) (steps : List GroundStep) (own actions : List TargetAction) → AreOfStep go first weights monitors from next step own
-      → AreOfSteps go first weights monitors next to steps actions → AreOfSteps go first weights monitors from to (step ∷ steps) (own ++ actions)
+pub data AreOfSteps (go first : ℕ) (weights : Weights) (hard monitors : List Monitor) : ℕ → ℕ → List GroundStep → List TargetAction → Type 0 where
+  NoSteps : (from : ℕ) → AreOfSteps go first weights hard monitors from from [] []
+  OneStep : (from next to : ℕ) (step : GroundStep) (steps : List GroundStep) (own actions : List TargetAction) → AreOfStep go first weights hard monitors from next step own
+      → AreOfSteps go first weights hard monitors next to steps actions → AreOfSteps go first weights hard monitors from to (step ∷ steps) (own ++ actions)
 
 -- ---- the whole
 
@@ -88,7 +89,7 @@ pub record IsAssembled (G : GroundTask) (weights : Weights) (X : Target) (made :
   pub initial : X.initial ≡ initial_bits G.initial made.monitors idle
   pub bits : length X.initial ≡ length X.predicates
   -- the actions and the goal
-  pub steps : AreOfSteps made.go made.first weights made.monitors (made.first + 201) made.last G.steps made.actions
+  pub steps : AreOfSteps made.go made.first weights (take (length G.hard) made.monitors) made.monitors (made.first + 201) made.last G.steps made.actions
   pub actions : X.actions ≡ made.actions ++ made.phase.actions
   pub goal : X.goal ≡ made.phase.goal
   -- the end

@@ -1,5 +1,5 @@
 -- What a target is made of, so that it is a compiled task.
-use Rattle.std.specs.Prelude.{◌≡◌, ℕ, ◌+◌, ◌≤◌, Bool, true, false, not, ◌&&◌, List, [], ◌∷◌, ◌++◌, length, sum_by, Option, None, Contains, if◌then◌else◌}
+use Rattle.std.specs.Prelude.{◌≡◌, ℕ, ◌+◌, ◌≤◌, Bool, true, false, not, ◌&&◌, List, [], ◌∷◌, ◌++◌, length, take, sum_by, Option, None, Contains, if◌then◌else◌}
 use Rattle.std.specs.List.{list_all}
 use Rattle.p3_formula.specs.Forms.{State, truth, IsBelow}
 use Rattle.p3_formula.specs.Next.{after}
@@ -24,6 +24,7 @@ use Rattle.p3_monitors.specs.Riders.{AreKept}
 use Rattle.p3_formula.specs.Alike.{AgreeBelow, AreConditionsBelow}
 use Rattle.p3_monitors.specs.declared.watching.Monitor.{Monitor}
 use Rattle.p3_simulation.specs.Gadgets.{IsOpen, AreGadgets, AreRising}
+use Rattle.p3_simulation.specs.Watching.{modals}
 
 -- the step as which an action counts
 abbrev pub counted : GroundTask → TargetAction → Option ℕ
@@ -61,7 +62,9 @@ module _ (G : GroundTask) (weights : Weights) (X : Target) (monitors : List Moni
     pub room : first ≤ size
     pub actions : X.actions ≡ all ++ phase.actions
     pub goal : X.goal ≡ phase.goal
-    pub gadgets : AreGadgets go first size (counted G) weights G.atoms monitors (first + 201) last G.steps all
+    -- the first monitors are those of the hard constraints
+    pub hard : modals (take (length G.hard) monitors) ≡ G.hard
+    pub gadgets : AreGadgets go first size (counted G) weights G.atoms (take (length G.hard) monitors) monitors (first + 201) last G.steps all
     pub rising : AreRising 0 G.steps
     pub begins : IsOpen go first size X.initial
     pub sources : AgreeBelow G.atoms X.initial G.initial

@@ -1,18 +1,22 @@
--- The monitors of a target, one behind another, what they add to a step's changes, and what they make of the end.
-use Rattle.std.specs.Prelude.{◌≡◌, ℕ, ◌+◌, Bool, true, false, List, [], ◌∷◌, ◌++◌, flat_map, length, map, replicate}
+-- The monitors of a target, one behind another, what they add to a step's changes and its precondition, and what they make of the end.
+use Rattle.std.specs.Prelude.{◌≡◌, ℕ, ◌+◌, Bool, true, false, ◌&&◌, List, [], ◌∷◌, ◌++◌, flat_map, length, map, replicate}
 use Rattle.std.specs.List.{list_all}
-use Rattle.p3_formula.specs.Forms.{State, truth}
+use Rattle.p3_formula.specs.Forms.{State, truth, IsBelow}
 use Rattle.p3_formula.specs.Kept.{Carries, Kept, atom_count}
+use Rattle.p3_formula.specs.Lasting.{stays_broken}
 use Rattle.p3_formula.specs.Modals.{touches}
 use Rattle.p3_formula.specs.Next.{after}
 use Rattle.p3_formula.specs.Targets.{is_sized_change}
 use Rattle.p3_formula.specs.Weighted.{named_weight}
 use Rattle.p3_formula.specs.declared.form.Change.{Change}
+use Rattle.p3_formula.specs.declared.form.Form.{Form}
+use Rattle.p3_formula.specs.declared.form.Form.TheVariants.{True}
 use Rattle.p3_formula.specs.declared.modal.GroundModal.{GroundModal}
 use Rattle.p3_formula.specs.declared.modal.GroundSoft.{GroundSoft}
 use Rattle.p3_formula.specs.declared.task.GroundStep.{GroundStep}
 use Rattle.p3_formula.specs.declared.task.GroundTask.{GroundTask}
 use Rattle.p3_simulation.specs.declared.phase.SoftEnd.{SoftEnd}
+use Rattle.p3_monitors.specs.Guards.{IsGuard}
 use Rattle.p3_monitors.specs.KeepsOn.{AreOwn, KeepsOn}
 use Rattle.p3_monitors.specs.declared.watching.Monitor.{Monitor}
 
@@ -49,12 +53,28 @@ pub data AreUpdates (step : List Change) : List Monitor → List Change → Type
   Touched : (monitor : Monitor) (monitors : List Monitor) (own updates : List Change) → AreOwn monitor.base monitor.modal own → KeepsOn monitor.base monitor.modal step own
       → AreUpdates step monitors updates → AreUpdates step (monitor ∷ monitors) (own ++ updates)
 
--- the changes of a step's actions do what those of the step and of the monitors do, and all their atoms are below a number
+-- in states in which the step's precondition holds, the changes of its actions do what those of the step and of the monitors do; all their atoms are below a number
 pub record IsEffects (go : ℕ) (monitors : List Monitor) (step : GroundStep) (effects : List Change) : Type 0 where
   pub updates : List Change
   pub watched : AreUpdates step.effects monitors updates
-  pub does : (state : State) → after state effects ≡ after state (step.effects ++ updates)
+  pub does : (state : State) → truth state step.pre ≡ true → after state effects ≡ after state (step.effects ++ updates)
   pub below : list_all (is_sized_change go) effects ≡ true
+
+-- ---- the precondition of a step
+
+-- the guards of some of the monitors, in their order: each holds where the changes do not break its constraint for good, and is True for one that can come right again
+pub data AreGuards (step : List Change) : List Monitor → List Form → Type 0 where
+  NoGuards : AreGuards step [] []
+  Unguarded : (monitor : Monitor) (monitors : List Monitor) (guards : List Form) → AreGuards step monitors guards → AreGuards step (monitor ∷ monitors) guards
+  Guarded : (monitor : Monitor) (monitors : List Monitor) (guard : Form) (guards : List Form) → IsGuard monitor.base monitor.modal step guard → (stays_broken monitor.modal ≡ false → guard ≡ True)
+      → AreGuards step monitors guards → AreGuards step (monitor ∷ monitors) (guard ∷ guards)
+
+-- the precondition of a step's actions: its own one, and the guards of some hard constraints; its atoms are below a number
+pub record IsGuardedPre (go : ℕ) (hard : List Monitor) (step : GroundStep) (pre : Form) : Type 0 where
+  pub guards : List Form
+  pub are : AreGuards step.effects hard guards
+  pub holds : (state : State) → truth state pre ≡ (truth state step.pre && list_all (truth state) guards)
+  pub below : IsBelow go pre
 
 -- ---- the end
 
