@@ -1,205 +1,305 @@
--- The copies, split by one preference after another.
-use Rattle.std.proofs.Common.{◌≡◌, ◌∙◌, ℕ, ◌+◌, ◌<◌, nat_lt, Bool, true, false, not, ◌&&◌, cond, List, [], ◌∷◌, ◌++◌, length, map, take, get_or, sum_by, refl, sym, ap, subst, arith}
-use Rattle.std.specs.Prelude.{if◌then◌else◌}
-use Rattle.std.specs.List.{All}
-use Rattle.std.proofs.Math.Bool.{and-true}
-use Rattle.std.proofs.lemmas.List.{append-nil, append_assoc, take_more}
+-- The choices, made by one preference after another, and the copies that come of them.
+use Rattle.std.proofs.Common.{◌≡◌, ◌∙◌, ℕ, ◌+◌, ◌<◌, nat_lt, Bool, true, false, not, ◌&&◌, cond, List, [], ◌∷◌, ◌++◌, length, map, take, get_or, sum_by, refl, sym, ap, subst, arith, append_assoc, true≢false}
+use Rattle.std.specs.Prelude.{if◌then◌else◌, Option}
+use Rattle.std.specs.List.{All, filter}
+use Rattle.std.proofs.lemmas.List.{append-nil, take_more}
 use Rattle.std.proofs.lemmas.List.Elements.{All-nil, All-cons, All-head, All-tail, All-weaker}
 use Rattle.std.proofs.lemmas.List.Sums.{sum_by-cons, sum_by-take-le, sum_by_more_le}
+use Rattle.p3_formula.specs.Constructors.{both}
 use Rattle.p3_formula.specs.Forms.{State, truth}
+use Rattle.p3_formula.specs.Literals.{fixed, with_all}
+use Rattle.p3_formula.specs.Settled.{settled}
+use Rattle.p3_formula.specs.Simplified.{is_value}
+use Rattle.p3_formula.specs.Tidy.{is_tidy}
 use Rattle.p3_formula.specs.declared.form.Form.{Form}
 use Rattle.p3_formula.specs.declared.form.Form.TheVariants as form
 use Rattle.p3_formula.specs.declared.modal.GroundPref.{GroundPref}
 use Rattle.p3_formula.specs.declared.target.Weights.{Weights}
 use Rattle.p3_formula.specs.declared.task.GroundStep.{GroundStep}
-use Rattle.p3_formula.proofs.FormLemmas.{truth-And, truth-Not, has_atoms-And, has_atoms-Not}
-use Rattle.p3_precprefs.specs.declared.copies.StepCopy.{StepCopy}
+use Rattle.p3_formula.proofs.FormLemmas.{truth-Not, truth-True, truth-both, has_atoms-both, has_atoms-Not, has_atoms-True}
+use Rattle.p3_formula.proofs.LiteralLaws.{known_law}
+use Rattle.p3_formula.proofs.SettledLaws.{settled_atoms_of, settled_tidy}
+use Rattle.p3_formula.proofs.SettledTruth.{settled_met, value_truth}
 use Rattle.p3_formula.specs.Weighted.{weight_of, weighted}
-use Rattle.p3_precprefs.specs.Copies.{fitting, HasAtomsIn, HasPartsIn, is_violated, violation, HasOneCopy, satisfied, violating, doubled, split_by, split_all, first_copy, IsWithin}
+use Rattle.p3_precprefs.specs.declared.choices.Choice.{Choice}
+use Rattle.p3_precprefs.specs.declared.copies.StepCopy.{StepCopy}
+use Rattle.p3_precprefs.specs.Choices.{IsWithin, all_copies, copy_of, doubled, first_choice, known_by, satisfied, split_all, split_by, unless_never, violating}
+use Rattle.p3_precprefs.specs.Copies.{HasAtomsIn, HasOneCopy, fitting, is_violated, violation}
+use Rattle.p3_precprefs.proofs.JoinedLaws.{IsPart, conjoined_atoms, conjoined_part, conjoined_truth}
 
--- ---- one preference more
+-- ---- what holds of each choice
 
-split_all_more : (by_name : List ℕ) (prefs : List GroundPref) (pref : GroundPref) (copies : List StepCopy) → split_all by_name (prefs ++ pref ∷ []) copies ≡ split_by by_name (split_all by_name prefs copies) pref
-split_all_more by_name [] pref copies = refl
-split_all_more by_name (other ∷ prefs) pref copies = split_all_more by_name prefs pref (split_by by_name copies other)
+-- a choice stands before others where it may be met
+all_possible : (P : Choice → Type 0) (choice : Choice) (others : List Choice) → (is_value false choice.asked ≡ false → P choice) → All P others → All P (unless_never choice ++ others)
+all_possible P choice others here all = by (is_value false choice.asked) refl
+  where
+    by : (never : Bool) → is_value false choice.asked ≡ never → All P ((if never then [] else (choice ∷ [])) ++ others)
+    by true is = all
+    by false is = All-cons P choice others (here is) all
 
--- ---- what holds of each copy
-
-module _ (P Q : StepCopy → Type 0) (body : Form) (weight : ℕ) (first : (copy : StepCopy) → P copy → Q (satisfied body copy)) (second : (copy : StepCopy) → P copy → Q (violating body weight copy)) where
-  all_doubled : (copies : List StepCopy) → All P copies → All Q (doubled body weight copies)
+module _ (known : ℕ → Option Bool) (body : Form) (weight : ℕ) (P Q : Choice → Type 0)
+    (first : (choice : Choice) → P choice → is_value false (satisfied known body choice).asked ≡ false → Q (satisfied known body choice))
+    (second : (choice : Choice) → P choice → is_value false (violating known body weight choice).asked ≡ false → Q (violating known body weight choice)) where
+  all_doubled : (choices : List Choice) → All P choices → All Q (doubled known body weight choices)
   all_doubled [] all = All-nil Q
-  all_doubled (copy ∷ copies) all =
-      All-cons Q (satisfied body copy) (violating body weight copy ∷ doubled body weight copies) (first copy (All-head P copy copies all))
-      (All-cons Q (violating body weight copy) (doubled body weight copies) (second copy (All-head P copy copies all)) (all_doubled copies (All-tail P copy copies all)))
+  all_doubled (choice ∷ choices) all =
+      let one = satisfied known body choice in
+      let other = violating known body weight choice in
+      let rest = doubled known body weight choices in
+      let here = All-head P choice choices all in
+      subst (All Q) (sym (append_assoc (unless_never one) (unless_never other) rest))
+      (all_possible Q one (unless_never other ++ rest) (first choice here)
+      (all_possible Q other rest (second choice here) (all_doubled choices (All-tail P choice choices all))))
 
--- ---- bounds of costs
+module _ (known : ℕ → Option Bool) (by_name : List ℕ) where
+  -- ---- one preference more
 
-within_doubled : (body : Form) (weight bound : ℕ) (copies : List StepCopy) → IsWithin bound copies → IsWithin (bound + weight) (doubled body weight copies)
-within_doubled body weight bound copies within =
-    all_doubled (λ (copy : StepCopy). copy.cost < bound) (λ (copy : StepCopy). copy.cost < bound + weight) body weight (λ copy below. omega (arith, below)) (λ copy below. omega (arith, below)) copies within
+  split_all_more : (prefs : List GroundPref) (pref : GroundPref) (choices : List Choice) → split_all known by_name (prefs ++ pref ∷ []) choices ≡ split_by known by_name (split_all known by_name prefs choices) pref
+  split_all_more [] pref choices = refl
+  split_all_more (other ∷ prefs) pref choices = split_all_more prefs pref (split_by known by_name choices other)
 
-within_more : (bound more : ℕ) (copies : List StepCopy) → IsWithin bound copies → IsWithin (bound + more) copies
-within_more bound more copies within = All-weaker (λ (copy : StepCopy). copy.cost < bound) (λ (copy : StepCopy). copy.cost < bound + more) (λ copy below. omega (arith, below)) copies within
+  -- ---- bounds of costs
 
-module _ (by_name : List ℕ) where
-  within_split_by : (bound : ℕ) (copies : List StepCopy) (pref : GroundPref) → IsWithin bound copies → IsWithin (bound + weight_of by_name pref) (split_by by_name copies pref)
-  within_split_by bound copies pref within = by (nat_lt 0 (weight_of by_name pref))
+  within_more : (bound more : ℕ) (choices : List Choice) → IsWithin bound choices → IsWithin (bound + more) choices
+  within_more bound more choices within = All-weaker (λ (choice : Choice). choice.cost < bound) (λ (choice : Choice). choice.cost < bound + more) (λ choice below. omega (arith, below)) choices within
+
+  within_split_by : (bound : ℕ) (choices : List Choice) (pref : GroundPref) → IsWithin bound choices → IsWithin (bound + weight_of by_name pref) (split_by known by_name choices pref)
+  within_split_by bound choices pref within = by (nat_lt 0 (weight_of by_name pref))
     where
-      by : (has : Bool) → IsWithin (bound + weight_of by_name pref) (if has then doubled pref.body (weight_of by_name pref) copies else copies)
-      by true = within_doubled pref.body (weight_of by_name pref) bound copies within
-      by false = within_more bound (weight_of by_name pref) copies within
+      by : (has : Bool) → IsWithin (bound + weight_of by_name pref) (if has then doubled known (settled known pref.body) (weight_of by_name pref) choices else choices)
+      by true = all_doubled known (settled known pref.body) (weight_of by_name pref) (λ (choice : Choice). choice.cost < bound) (λ (choice : Choice). choice.cost < bound + weight_of by_name pref)
+          (λ choice below _. omega (arith, below)) (λ choice below _. omega (arith, below)) choices within
+      by false = within_more bound (weight_of by_name pref) choices within
 
-  within_split_all : (bound : ℕ) (prefs : List GroundPref) (copies : List StepCopy) → IsWithin bound copies → IsWithin (bound + sum_by (weight_of by_name) prefs) (split_all by_name prefs copies)
-  within_split_all bound [] copies within = within_more bound 0 copies within
-  within_split_all bound (pref ∷ prefs) copies within =
-      subst (λ n. IsWithin n (split_all by_name prefs (split_by by_name copies pref))) (omega (arith, sum_by-cons (weight_of by_name) pref prefs))
-      (within_split_all (bound + weight_of by_name pref) prefs (split_by by_name copies pref) (within_split_by bound copies pref within))
+  within_split_all : (bound : ℕ) (prefs : List GroundPref) (choices : List Choice) → IsWithin bound choices → IsWithin (bound + sum_by (weight_of by_name) prefs) (split_all known by_name prefs choices)
+  within_split_all bound [] choices within = within_more bound 0 choices within
+  within_split_all bound (pref ∷ prefs) choices within =
+      subst (λ n. IsWithin n (split_all known by_name prefs (split_by known by_name choices pref))) (omega (arith, sum_by-cons (weight_of by_name) pref prefs))
+      (within_split_all (bound + weight_of by_name pref) prefs (split_by known by_name choices pref) (within_split_by bound choices pref within))
 
--- ---- the loop over the preferences
+  pub within_so_far : (prefs : List GroundPref) (index room : ℕ) (first : Choice) → first.cost + sum_by (weight_of by_name) prefs < room → IsWithin room (split_all known by_name (take index prefs) (first ∷ []))
+  within_so_far prefs index room first fits =
+      let begins : IsWithin (first.cost + 1) (first ∷ []) = All-cons (λ (choice : Choice). choice.cost < first.cost + 1) first [] (omega arith) (All-nil (λ (choice : Choice). choice.cost < first.cost + 1)) in
+      All-weaker (λ (choice : Choice). choice.cost < first.cost + 1 + sum_by (weight_of by_name) (take index prefs)) (λ (choice : Choice). choice.cost < room)
+      (λ choice below. omega (arith, below, fits, sum_by-take-le (weight_of by_name) prefs index))
+      (split_all known by_name (take index prefs) (first ∷ [])) (within_split_all (first.cost + 1) (take index prefs) (first ∷ []) begins)
 
-module _ (by_name : List ℕ) (prefs : List GroundPref) (index : ℕ) (pref : GroundPref) (within : index < length prefs) (is : pref ≡ get_or prefs index pref) where
-  pub next_split : (copies : List StepCopy) → split_by by_name (split_all by_name (take index prefs) copies) pref ≡ split_all by_name (take (index + 1) prefs) copies
-  next_split copies =
-      let front : take (index + 1) prefs ≡ take index prefs ++ pref ∷ [] = take_more prefs index pref within ∙ ap (λ one. take index prefs ++ one ∷ []) (sym is) in
-      sym (ap (λ list. split_all by_name list copies) front ∙ split_all_more by_name (take index prefs) pref copies)
+  -- ---- the loop over the preferences
 
-  pub next_weight : (base room : ℕ) → base + sum_by (weight_of by_name) prefs < room → weight_of by_name pref < room
-  next_weight base room fits = omega (arith, fits, sum_by_more_le (weight_of by_name) prefs index pref within, ap (weight_of by_name) is)
+  module _ (prefs : List GroundPref) (index : ℕ) (pref : GroundPref) (within : index < length prefs) (is : pref ≡ get_or prefs index pref) where
+    pub next_split : (choices : List Choice) → split_by known by_name (split_all known by_name (take index prefs) choices) pref ≡ split_all known by_name (take (index + 1) prefs) choices
+    next_split choices =
+        let front : take (index + 1) prefs ≡ take index prefs ++ pref ∷ [] = take_more prefs index pref within ∙ ap (λ one. take index prefs ++ one ∷ []) (sym is) in
+        sym (ap (λ list. split_all known by_name list choices) front ∙ split_all_more (take index prefs) pref choices)
 
-pub within_so_far : (by_name : List ℕ) (prefs : List GroundPref) (index room : ℕ) (first : StepCopy) → first.cost + sum_by (weight_of by_name) prefs < room → IsWithin room (split_all by_name (take index prefs) (first ∷ []))
-within_so_far by_name prefs index room first fits =
-    let begins : IsWithin (first.cost + 1) (first ∷ []) = All-cons (λ (copy : StepCopy). copy.cost < first.cost + 1) first [] (omega arith) (All-nil (λ (copy : StepCopy). copy.cost < first.cost + 1)) in
-    All-weaker (λ (copy : StepCopy). copy.cost < first.cost + 1 + sum_by (weight_of by_name) (take index prefs)) (λ (copy : StepCopy). copy.cost < room)
-    (λ copy below. omega (arith, below, fits, sum_by-take-le (weight_of by_name) prefs index))
-    (split_all by_name (take index prefs) (first ∷ [])) (within_split_all by_name (first.cost + 1) (take index prefs) (first ∷ []) begins)
+    pub next_weight : (base room : ℕ) → base + sum_by (weight_of by_name) prefs < room → weight_of by_name pref < room
+    next_weight base room fits = omega (arith, fits, sum_by_more_le (weight_of by_name) prefs index pref within, ap (weight_of by_name) is)
 
--- ---- atoms
+  -- ---- tidiness
 
-module _ (allowed : ℕ → Bool) where
-  abbrev IsIn : StepCopy → Type 0
-  IsIn copy = HasAtomsIn allowed copy.pre
+  abbrev MayBe : Choice → Type 0
+  MayBe choice = IsPart choice.asked
 
-  atoms_both : (first second : Form) → HasAtomsIn allowed first → HasAtomsIn allowed second → HasAtomsIn allowed (form.And (first ∷ second ∷ []))
-  atoms_both first second one other = has_atoms-And allowed (first ∷ second ∷ []) ∙ (λ i. one i && (other i && true))
-
-  atoms_doubled : (body : Form) (weight : ℕ) → HasAtomsIn allowed body → (copies : List StepCopy) → All IsIn copies → All IsIn (doubled body weight copies)
-  atoms_doubled body weight within =
-      all_doubled IsIn IsIn body weight (λ copy known. atoms_both copy.pre body known within) (λ copy known. atoms_both copy.pre (form.Not body) known (has_atoms-Not allowed body ∙ within))
-
-  atoms_split_by : (by_name : List ℕ) (copies : List StepCopy) (pref : GroundPref) → HasAtomsIn allowed pref.body → All IsIn copies → All IsIn (split_by by_name copies pref)
-  atoms_split_by by_name copies pref within all = by (nat_lt 0 (weight_of by_name pref))
+  parts_split_by : (choices : List Choice) (pref : GroundPref) → All MayBe choices → All MayBe (split_by known by_name choices pref)
+  parts_split_by choices pref all = by (nat_lt 0 (weight_of by_name pref))
     where
-      by : (has : Bool) → All IsIn (if has then doubled pref.body (weight_of by_name pref) copies else copies)
-      by true = atoms_doubled pref.body (weight_of by_name pref) within copies all
+      by : (has : Bool) → All MayBe (if has then doubled known (settled known pref.body) (weight_of by_name pref) choices else choices)
+      by true = all_doubled known (settled known pref.body) (weight_of by_name pref) MayBe MayBe
+          (λ choice _ other. record { tidy = settled_tidy known (both choice.asked (settled known pref.body)); possible = other })
+          (λ choice _ other. record { tidy = settled_tidy known (both choice.asked (form.Not (settled known pref.body))); possible = other })
+          choices all
       by false = all
 
-  pub atoms_split_all : (by_name : List ℕ) (prefs : List GroundPref) (copies : List StepCopy) → All (λ (pref : GroundPref). HasAtomsIn allowed pref.body) prefs → All IsIn copies → All IsIn (split_all by_name prefs copies)
-  atoms_split_all by_name [] copies within all = all
-  atoms_split_all by_name (pref ∷ prefs) copies within all =
-      atoms_split_all by_name prefs (split_by by_name copies pref) (All-tail (λ (pref : GroundPref). HasAtomsIn allowed pref.body) pref prefs within)
-      (atoms_split_by by_name copies pref (All-head (λ (pref : GroundPref). HasAtomsIn allowed pref.body) pref prefs within) all)
+  pub parts_split_all : (prefs : List GroundPref) (choices : List Choice) → All MayBe choices → All MayBe (split_all known by_name prefs choices)
+  parts_split_all [] choices all = all
+  parts_split_all (pref ∷ prefs) choices all = parts_split_all prefs (split_by known by_name choices pref) (parts_split_by choices pref all)
 
--- ---- which copies fit
+  -- ---- atoms
 
--- which of both copies fits, where the first one does
-abbrev chosen : Form → ℕ → Bool → StepCopy → StepCopy
-chosen body weight true copy = satisfied body copy
-chosen body weight false copy = violating body weight copy
+  module _ (allowed : ℕ → Bool) where
+    abbrev IsIn : Choice → Type 0
+    IsIn choice = HasAtomsIn allowed choice.asked
 
-picked : (body : Form) (weight : ℕ) (fits holds : Bool) (copy : StepCopy) (kept : List StepCopy)
-    → cond (fits && holds) (satisfied body copy ∷ cond (fits && not holds) (violating body weight copy ∷ map (chosen body weight holds) kept) (map (chosen body weight holds) kept)) (cond (fits && not holds) (violating body weight copy ∷ map (chosen body weight holds) kept) (map (chosen body weight holds) kept))
-    ≡ map (chosen body weight holds) (cond fits (copy ∷ kept) kept)
-picked body weight true true copy kept = refl
-picked body weight true false copy kept = refl
-picked body weight false holds copy kept = refl
+    atoms_more : (asked form : Form) → HasAtomsIn allowed asked → HasAtomsIn allowed form → HasAtomsIn allowed (settled known (both asked form))
+    atoms_more asked form one other = settled_atoms_of known (both asked form) allowed (has_atoms-both allowed asked form one other)
 
-module _ (state : State) where
-  truth_both : (first second : Form) → truth state (form.And (first ∷ second ∷ [])) ≡ (truth state first && truth state second)
-  truth_both first second = truth-And state (first ∷ second ∷ []) ∙ ap (λ b. truth state first && b) (and-true (truth state second))
+    atoms_split_by : (choices : List Choice) (pref : GroundPref) → HasAtomsIn allowed pref.body → All IsIn choices → All IsIn (split_by known by_name choices pref)
+    atoms_split_by choices pref within all = by (nat_lt 0 (weight_of by_name pref))
+      where
+        body : HasAtomsIn allowed (settled known pref.body)
+        body = settled_atoms_of known pref.body allowed within
 
-  fitting_doubled : (body : Form) (weight : ℕ) (copies : List StepCopy) → fitting state (doubled body weight copies) ≡ map (chosen body weight (truth state body)) (fitting state copies)
-  fitting_doubled body weight [] = refl
-  fitting_doubled body weight (copy ∷ copies) =
-      let first : truth state (form.And (copy.pre ∷ body ∷ [])) ≡ (truth state copy.pre && truth state body) = truth_both copy.pre body in
-      let second : truth state (form.And (copy.pre ∷ form.Not body ∷ [])) ≡ (truth state copy.pre && not (truth state body)) = truth_both copy.pre (form.Not body) ∙ ap (λ test. truth state copy.pre && test) (truth-Not state body) in
-      let rest = fitting_doubled body weight copies in
-      (λ i. cond (first i) (satisfied body copy ∷ cond (second i) (violating body weight copy ∷ rest i) (rest i)) (cond (second i) (violating body weight copy ∷ rest i) (rest i)))
-      ∙ picked body weight (truth state copy.pre) (truth state body) copy (fitting state copies)
+        by : (has : Bool) → All IsIn (if has then doubled known (settled known pref.body) (weight_of by_name pref) choices else choices)
+        by true = all_doubled known (settled known pref.body) (weight_of by_name pref) IsIn IsIn
+            (λ choice has _. atoms_more choice.asked (settled known pref.body) has body)
+            (λ choice has _. atoms_more choice.asked (form.Not (settled known pref.body)) has (has_atoms-Not allowed (settled known pref.body) ∙ body))
+            choices all
+        by false = all
 
-module _ (state : State) (by_name : List ℕ) where
-  -- the copy that fits after one preference, and after one after another
-  abbrev followed_by : StepCopy → GroundPref → StepCopy
-  followed_by copy pref = if nat_lt 0 (weight_of by_name pref) then chosen pref.body (weight_of by_name pref) (truth state pref.body) copy else copy
+    pub atoms_split_all : (prefs : List GroundPref) (choices : List Choice) → All (λ (pref : GroundPref). HasAtomsIn allowed pref.body) prefs → All IsIn choices → All IsIn (split_all known by_name prefs choices)
+    atoms_split_all [] choices within all = all
+    atoms_split_all (pref ∷ prefs) choices within all =
+        atoms_split_all prefs (split_by known by_name choices pref) (All-tail (λ (pref : GroundPref). HasAtomsIn allowed pref.body) pref prefs within)
+        (atoms_split_by choices pref (All-head (λ (pref : GroundPref). HasAtomsIn allowed pref.body) pref prefs within) all)
 
-  abbrev pub followed : List GroundPref → StepCopy → StepCopy
-  followed [] copy = copy
-  followed (pref ∷ prefs) copy = followed prefs (followed_by copy pref)
+  -- ---- which choices are met
 
-  one_by : (copies : List StepCopy) (copy : StepCopy) (pref : GroundPref) → fitting state copies ≡ copy ∷ [] → fitting state (split_by by_name copies pref) ≡ followed_by copy pref ∷ []
-  one_by copies copy pref one = by (nat_lt 0 (weight_of by_name pref))
+  -- the state meets what is known
+  module _ (state : State) (settles : (form : Form) → truth state (settled known form) ≡ truth state form) where
+    abbrev pub met : List Choice → List Choice
+    met choices = filter (λ (choice : Choice). truth state choice.asked) choices
+
+    met_possible : (choice : Choice) (others : List Choice) → met (unless_never choice ++ others) ≡ cond (truth state choice.asked) (choice ∷ met others) (met others)
+    met_possible choice others = by (is_value false choice.asked) refl
+      where
+        by : (never : Bool) → is_value false choice.asked ≡ never → met ((if never then [] else (choice ∷ [])) ++ others) ≡ cond (truth state choice.asked) (choice ∷ met others) (met others)
+        by true is = sym (ap (λ test. cond test (choice ∷ met others) (met others)) (value_truth state false choice.asked is))
+        by false is = refl
+
+    -- which of both choices is met, where the first one is
+    abbrev chosen : Form → ℕ → Bool → Choice → Choice
+    chosen body weight true choice = satisfied known body choice
+    chosen body weight false choice = violating known body weight choice
+
+    picked : (body : Form) (weight : ℕ) (fits holds : Bool) (choice : Choice) (kept : List Choice)
+        → cond (fits && holds) (satisfied known body choice ∷ cond (fits && not holds) (violating known body weight choice ∷ map (chosen body weight holds) kept) (map (chosen body weight holds) kept)) (cond (fits && not holds) (violating known body weight choice ∷ map (chosen body weight holds) kept) (map (chosen body weight holds) kept))
+        ≡ map (chosen body weight holds) (cond fits (choice ∷ kept) kept)
+    picked body weight true true choice kept = refl
+    picked body weight true false choice kept = refl
+    picked body weight false holds choice kept = refl
+
+    module _ (body : Form) (weight : ℕ) (holds : Bool) (is : truth state body ≡ holds) where
+      met_doubled : (choices : List Choice) → met (doubled known body weight choices) ≡ map (chosen body weight holds) (met choices)
+      met_doubled [] = refl
+      met_doubled (choice ∷ choices) =
+          let one = satisfied known body choice in
+          let other = violating known body weight choice in
+          let more = doubled known body weight choices in
+          let first : truth state one.asked ≡ (truth state choice.asked && holds) = settles (both choice.asked body) ∙ truth-both state choice.asked body ∙ ap (λ test. truth state choice.asked && test) is in
+          let second : truth state other.asked ≡ (truth state choice.asked && not holds) = settles (both choice.asked (form.Not body)) ∙ truth-both state choice.asked (form.Not body) ∙ ap (λ test. truth state choice.asked && test) (truth-Not state body ∙ ap not is) in
+          let rest = met_doubled choices in
+          ap met (append_assoc (unless_never one) (unless_never other) more)
+          ∙ met_possible one (unless_never other ++ more)
+          ∙ ap (λ list. cond (truth state one.asked) (one ∷ list) list) (met_possible other more)
+          ∙ (λ i. cond (first i) (one ∷ cond (second i) (other ∷ rest i) (rest i)) (cond (second i) (other ∷ rest i) (rest i)))
+          ∙ picked body weight (truth state choice.asked) holds choice (met choices)
+
+    -- the choice that is met after one preference, and after one after another
+    abbrev followed_by : Choice → GroundPref → Choice
+    followed_by choice pref = if nat_lt 0 (weight_of by_name pref) then chosen (settled known pref.body) (weight_of by_name pref) (truth state pref.body) choice else choice
+
+    abbrev pub followed : List GroundPref → Choice → Choice
+    followed [] choice = choice
+    followed (pref ∷ prefs) choice = followed prefs (followed_by choice pref)
+
+    one_by : (choices : List Choice) (choice : Choice) (pref : GroundPref) → met choices ≡ choice ∷ [] → met (split_by known by_name choices pref) ≡ followed_by choice pref ∷ []
+    one_by choices choice pref one = by (nat_lt 0 (weight_of by_name pref))
+      where
+        by : (has : Bool) → met (if has then doubled known (settled known pref.body) (weight_of by_name pref) choices else choices) ≡ (if has then chosen (settled known pref.body) (weight_of by_name pref) (truth state pref.body) choice else choice) ∷ []
+        by true = met_doubled (settled known pref.body) (weight_of by_name pref) (truth state pref.body) (settles pref.body) choices ∙ ap (map (chosen (settled known pref.body) (weight_of by_name pref) (truth state pref.body))) one
+        by false = one
+
+    pub one_met : (prefs : List GroundPref) (choices : List Choice) (choice : Choice) → met choices ≡ choice ∷ [] → met (split_all known by_name prefs choices) ≡ followed prefs choice ∷ []
+    one_met [] choices choice one = one
+    one_met (pref ∷ prefs) choices choice one = one_met prefs (split_by known by_name choices pref) (followed_by choice pref) (one_by choices choice pref one)
+
+    -- ---- what the choice that is met shows and costs
+
+    chosen_shows : (body : Form) (weight : ℕ) (choice : Choice) (holds : Bool) → (chosen body weight holds choice).violated ≡ choice.violated ++ not holds ∷ []
+    chosen_shows body weight choice true = refl
+    chosen_shows body weight choice false = refl
+
+    chosen_costs : (body : Form) (weight : ℕ) (choice : Choice) (holds : Bool) → (chosen body weight holds choice).cost ≡ choice.cost + (if holds then 0 else weight)
+    chosen_costs body weight choice true = omega arith
+    chosen_costs body weight choice false = refl
+
+    pub shows : (prefs : List GroundPref) (choice : Choice) → (followed prefs choice).violated ≡ choice.violated ++ map (is_violated state) (weighted by_name prefs)
+    shows [] choice = sym (append-nil choice.violated)
+    shows (pref ∷ prefs) choice = shows prefs (followed_by choice pref) ∙ by (nat_lt 0 (weight_of by_name pref))
+      where
+        by : (has : Bool) → (if has then chosen (settled known pref.body) (weight_of by_name pref) (truth state pref.body) choice else choice).violated ++ map (is_violated state) (weighted by_name prefs) ≡ choice.violated ++ map (is_violated state) (cond has (pref ∷ weighted by_name prefs) (weighted by_name prefs))
+        by true = ap (λ front. front ++ map (is_violated state) (weighted by_name prefs)) (chosen_shows (settled known pref.body) (weight_of by_name pref) choice (truth state pref.body)) ∙ append_assoc choice.violated (is_violated state pref ∷ []) (map (is_violated state) (weighted by_name prefs))
+        by false = refl
+
+    pub costs : (prefs : List GroundPref) (choice : Choice) → (followed prefs choice).cost ≡ choice.cost + sum_by (violation state by_name) (weighted by_name prefs)
+    costs [] choice = omega arith
+    costs (pref ∷ prefs) choice = costs prefs (followed_by choice pref) ∙ by (nat_lt 0 (weight_of by_name pref))
+      where
+        by : (has : Bool) → (if has then chosen (settled known pref.body) (weight_of by_name pref) (truth state pref.body) choice else choice).cost + sum_by (violation state by_name) (weighted by_name prefs) ≡ choice.cost + sum_by (violation state by_name) (cond has (pref ∷ weighted by_name prefs) (weighted by_name prefs))
+        by true = omega (arith, chosen_costs (settled known pref.body) (weight_of by_name pref) choice (truth state pref.body), sum_by-cons (violation state by_name) pref (weighted by_name prefs))
+        by false = refl
+
+-- ---- the copies of choices
+
+module _ (state : State) (pre : Form) where
+  fits_of : (choice : Choice) (b : Bool) → truth state pre ≡ b → truth state (copy_of pre choice).pre ≡ (b && truth state choice.asked)
+  fits_of choice b is = conjoined_truth state pre choice.asked ∙ ap (λ test. test && truth state choice.asked) is
+
+  abbrev met_of : List Choice → List Choice
+  met_of choices = filter (λ (choice : Choice). truth state choice.asked) choices
+
+  copies_met : truth state pre ≡ true → (choices : List Choice) → fitting state (map (copy_of pre) choices) ≡ map (copy_of pre) (met_of choices)
+  copies_met holds [] = refl
+  copies_met holds (choice ∷ choices) =
+      (λ i. cond (fits_of choice true holds i) (copy_of pre choice ∷ copies_met holds choices i) (copies_met holds choices i))
+      ∙ by (truth state choice.asked)
     where
-      by : (has : Bool) → fitting state (if has then doubled pref.body (weight_of by_name pref) copies else copies) ≡ (if has then chosen pref.body (weight_of by_name pref) (truth state pref.body) copy else copy) ∷ []
-      by true = fitting_doubled state pref.body (weight_of by_name pref) copies ∙ ap (map (chosen pref.body (weight_of by_name pref) (truth state pref.body))) one
-      by false = one
-
-  pub one_fits : (prefs : List GroundPref) (copies : List StepCopy) (copy : StepCopy) → fitting state copies ≡ copy ∷ [] → fitting state (split_all by_name prefs copies) ≡ followed prefs copy ∷ []
-  one_fits [] copies copy one = one
-  one_fits (pref ∷ prefs) copies copy one = one_fits prefs (split_by by_name copies pref) (followed_by copy pref) (one_by copies copy pref one)
-
-  none_by : (copies : List StepCopy) (pref : GroundPref) → fitting state copies ≡ [] → fitting state (split_by by_name copies pref) ≡ []
-  none_by copies pref none = by (nat_lt 0 (weight_of by_name pref))
-    where
-      by : (has : Bool) → fitting state (if has then doubled pref.body (weight_of by_name pref) copies else copies) ≡ []
-      by true = fitting_doubled state pref.body (weight_of by_name pref) copies ∙ ap (map (chosen pref.body (weight_of by_name pref) (truth state pref.body))) none
-      by false = none
-
-  pub none_fits : (prefs : List GroundPref) (copies : List StepCopy) → fitting state copies ≡ [] → fitting state (split_all by_name prefs copies) ≡ []
-  none_fits [] copies none = none
-  none_fits (pref ∷ prefs) copies none = none_fits prefs (split_by by_name copies pref) (none_by copies pref none)
-
-  -- ---- what the copy that fits shows and costs
-
-  chosen_shows : (body : Form) (weight : ℕ) (copy : StepCopy) (holds : Bool) → (chosen body weight holds copy).violated ≡ copy.violated ++ not holds ∷ []
-  chosen_shows body weight copy true = refl
-  chosen_shows body weight copy false = refl
-
-  chosen_costs : (body : Form) (weight : ℕ) (copy : StepCopy) (holds : Bool) → (chosen body weight holds copy).cost ≡ copy.cost + (if holds then 0 else weight)
-  chosen_costs body weight copy true = omega arith
-  chosen_costs body weight copy false = refl
-
-  pub shows : (prefs : List GroundPref) (copy : StepCopy) → (followed prefs copy).violated ≡ copy.violated ++ map (is_violated state) (weighted by_name prefs)
-  shows [] copy = sym (append-nil copy.violated)
-  shows (pref ∷ prefs) copy = shows prefs (followed_by copy pref) ∙ by (nat_lt 0 (weight_of by_name pref))
-    where
-      by : (has : Bool) → (if has then chosen pref.body (weight_of by_name pref) (truth state pref.body) copy else copy).violated ++ map (is_violated state) (weighted by_name prefs) ≡ copy.violated ++ map (is_violated state) (cond has (pref ∷ weighted by_name prefs) (weighted by_name prefs))
-      by true = ap (λ front. front ++ map (is_violated state) (weighted by_name prefs)) (chosen_shows pref.body (weight_of by_name pref) copy (truth state pref.body)) ∙ append_assoc copy.violated (is_violated state pref ∷ []) (map (is_violated state) (weighted by_name prefs))
+      by : (b : Bool) → cond b (copy_of pre choice ∷ map (copy_of pre) (met_of choices)) (map (copy_of pre) (met_of choices)) ≡ map (copy_of pre) (cond b (choice ∷ met_of choices) (met_of choices))
+      by true = refl
       by false = refl
 
-  pub costs : (prefs : List GroundPref) (copy : StepCopy) → (followed prefs copy).cost ≡ copy.cost + sum_by (violation state by_name) (weighted by_name prefs)
-  costs [] copy = omega arith
-  costs (pref ∷ prefs) copy = costs prefs (followed_by copy pref) ∙ by (nat_lt 0 (weight_of by_name pref))
-    where
-      by : (has : Bool) → (if has then chosen pref.body (weight_of by_name pref) (truth state pref.body) copy else copy).cost + sum_by (violation state by_name) (weighted by_name prefs) ≡ copy.cost + sum_by (violation state by_name) (cond has (pref ∷ weighted by_name prefs) (weighted by_name prefs))
-      by true = omega (arith, chosen_costs pref.body (weight_of by_name pref) copy (truth state pref.body), sum_by-cons (violation state by_name) pref (weighted by_name prefs))
-      by false = refl
+  none_met : truth state pre ≡ false → (choices : List Choice) → fitting state (map (copy_of pre) choices) ≡ []
+  none_met fails [] = refl
+  none_met fails (choice ∷ choices) =
+      λ i. cond (fits_of choice false fails i) (copy_of pre choice ∷ none_met fails choices i) (none_met fails choices i)
+
+all_mapped : (pre : Form) (P : Choice → Type 0) (Q : StepCopy → Type 0) → ((choice : Choice) → P choice → Q (copy_of pre choice)) → (choices : List Choice) → All P choices → All Q (map (copy_of pre) choices)
+all_mapped pre P Q here [] all = All-nil Q
+all_mapped pre P Q here (choice ∷ choices) all = All-cons Q (copy_of pre choice) (map (copy_of pre) choices) (here choice (All-head P choice choices all)) (all_mapped pre P Q here choices (All-tail P choice choices all))
 
 -- ---- of a step
 
-module _ (weights : Weights) (step : GroundStep) where
-  first_fits : (state : State) (fits : Bool) → truth state step.pre ≡ fits → fitting state (first_copy weights step ∷ []) ≡ cond fits (first_copy weights step ∷ []) []
-  first_fits state fits is = ap (λ test. cond test (first_copy weights step ∷ []) []) is
+module _ (weights : Weights) (step : GroundStep) (pre : Form) where
+  abbrev all_choices : List Choice
+  all_choices = split_all (known_by pre) weights.by_name step.prefs (first_choice weights step ∷ [])
 
-  pub one_copy : (state : State) → truth state step.pre ≡ true → HasOneCopy weights step (split_all weights.by_name step.prefs (first_copy weights step ∷ [])) state
-  one_copy state fits = record {
-    copy = followed state weights.by_name step.prefs (first_copy weights step);
-    only = one_fits state weights.by_name step.prefs (first_copy weights step ∷ []) (first_copy weights step) (first_fits state true fits);
-    shows = shows state weights.by_name step.prefs (first_copy weights step);
-    costs = costs state weights.by_name step.prefs (first_copy weights step);
-  }
+  -- what is so where the precondition never holds, and where it may hold
+  cases : (P : List StepCopy → Type 0) → (is_value false pre ≡ true → P []) → (is_value false pre ≡ false → P (map (copy_of pre) all_choices)) → P (all_copies weights step pre)
+  cases P never may = by (is_value false pre) refl
+    where
+      by : (b : Bool) → is_value false pre ≡ b → P (if b then [] else map (copy_of pre) all_choices)
+      by true is = never is
+      by false is = may is
 
-  pub no_copy : (state : State) → truth state step.pre ≡ false → fitting state (split_all weights.by_name step.prefs (first_copy weights step ∷ [])) ≡ []
-  no_copy state fails = none_fits state weights.by_name step.prefs (first_copy weights step ∷ []) (first_fits state false fails)
+  settles : (state : State) → truth state pre ≡ true → (form : Form) → truth state (settled (known_by pre) form) ≡ truth state form
+  settles state holds form = settled_met (with_all [] (fixed pre true)) form state (known_law pre state holds)
 
-  pub in_atoms : (allowed : ℕ → Bool) → HasPartsIn allowed step → All (λ (copy : StepCopy). HasAtomsIn allowed copy.pre) (split_all weights.by_name step.prefs (first_copy weights step ∷ []))
-  in_atoms allowed within = atoms_split_all allowed weights.by_name step.prefs (first_copy weights step ∷ []) within.bodies
-      (All-cons (λ (copy : StepCopy). HasAtomsIn allowed copy.pre) (first_copy weights step) [] within.pre (All-nil (λ (copy : StepCopy). HasAtomsIn allowed copy.pre)))
+  pub one_copy : (state : State) → truth state pre ≡ true → HasOneCopy weights step (all_copies weights step pre) state
+  one_copy state holds = cases (λ copies. HasOneCopy weights step copies state)
+      (λ never. absurd (true≢false (sym holds ∙ value_truth state false pre never)))
+      (λ may. record {
+        copy = copy_of pre (followed (known_by pre) weights.by_name state (settles state holds) step.prefs (first_choice weights step));
+        only = copies_met state pre holds all_choices
+            ∙ ap (map (copy_of pre)) (one_met (known_by pre) weights.by_name state (settles state holds) step.prefs (first_choice weights step ∷ []) (first_choice weights step)
+            (ap (λ test. cond test (first_choice weights step ∷ []) []) (truth-True state)));
+        shows = shows (known_by pre) weights.by_name state (settles state holds) step.prefs (first_choice weights step);
+        costs = costs (known_by pre) weights.by_name state (settles state holds) step.prefs (first_choice weights step);
+      })
+
+  pub no_copy : (state : State) → truth state pre ≡ false → fitting state (all_copies weights step pre) ≡ []
+  no_copy state fails = cases (λ copies. fitting state copies ≡ []) (λ never. refl) (λ may. none_met state pre fails all_choices)
+
+  all_parts : All (λ (choice : Choice). IsPart choice.asked) all_choices
+  all_parts = parts_split_all (known_by pre) weights.by_name step.prefs (first_choice weights step ∷ [])
+      (All-cons (λ (choice : Choice). IsPart choice.asked) (first_choice weights step) [] (record { tidy = refl; possible = refl }) (All-nil (λ (choice : Choice). IsPart choice.asked)))
+
+  -- the precondition of each copy of a tidy one is tidy, and may hold
+  pub all_are_parts : is_tidy pre ≡ true → All (λ (copy : StepCopy). IsPart copy.pre) (all_copies weights step pre)
+  all_are_parts tidy = cases (All (λ (copy : StepCopy). IsPart copy.pre)) (λ never. All-nil (λ (copy : StepCopy). IsPart copy.pre))
+      (λ may. all_mapped pre (λ (choice : Choice). IsPart choice.asked) (λ (copy : StepCopy). IsPart copy.pre) (λ choice part. conjoined_part pre choice.asked (record { tidy = tidy; possible = may }) part) all_choices all_parts)
+
+  pub in_atoms : (allowed : ℕ → Bool) → HasAtomsIn allowed pre → All (λ (pref : GroundPref). HasAtomsIn allowed pref.body) step.prefs → All (λ (copy : StepCopy). HasAtomsIn allowed copy.pre) (all_copies weights step pre)
+  in_atoms allowed within bodies = cases (All (λ (copy : StepCopy). HasAtomsIn allowed copy.pre)) (λ never. All-nil (λ (copy : StepCopy). HasAtomsIn allowed copy.pre))
+      (λ may. all_mapped pre (λ (choice : Choice). HasAtomsIn allowed choice.asked) (λ (copy : StepCopy). HasAtomsIn allowed copy.pre) (λ choice has. conjoined_atoms allowed pre choice.asked within has) all_choices
+      (atoms_split_all (known_by pre) weights.by_name allowed step.prefs (first_choice weights step ∷ []) bodies
+      (All-cons (λ (choice : Choice). HasAtomsIn allowed choice.asked) (first_choice weights step) [] (has_atoms-True allowed) (All-nil (λ (choice : Choice). HasAtomsIn allowed choice.asked)))))

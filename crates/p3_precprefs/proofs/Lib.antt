@@ -1,3 +1,4 @@
+pub mod JoinedLaws
 pub mod CopyLemmas
 pub mod PatternLemmas
 pub mod NameLaws

@@ -1,42 +1,87 @@
--- The lists that the copies show are the patterns, which differ.
-use Rattle.std.proofs.Common.{◌≡◌, ◌∙◌, ◌≢◌, ℕ, zero, suc, ◌+◌, nat_lt, Bool, true, false, cond, List, [], ◌∷◌, ◌++◌, length, take, drop, get_or, refl, sym, ap, arith, true≢false}
-use Rattle.std.specs.Prelude.{if◌then◌else◌}
+-- The lists that the copies show are some of the patterns, in order, which differ.
+use Rattle.std.proofs.Common.{◌≡◌, ◌∙◌, ◌≢◌, ℕ, zero, suc, ◌+◌, nat_lt, Bool, true, false, cond, List, [], ◌∷◌, ◌++◌, length, map, take, drop, get_or, refl, sym, ap, subst, arith, true≢false, append_assoc}
+use Rattle.std.specs.Prelude.{if◌then◌else◌, Option}
 use Rattle.std.specs.List.{All, flat_map}
 use Rattle.std.proofs.Math.Seq.{take-append_seam, drop-append_seam}
 use Rattle.std.proofs.lemmas.List.{length-append}
 use Rattle.std.proofs.lemmas.List.Elements.{All-nil, All-cons, All-head, All-tail}
+use Rattle.p3_formula.specs.Settled.{settled}
+use Rattle.p3_formula.specs.Simplified.{is_value}
 use Rattle.p3_formula.specs.declared.form.Form.{Form}
 use Rattle.p3_formula.specs.declared.modal.GroundPref.{GroundPref}
 use Rattle.p3_formula.specs.declared.target.Weights.{Weights}
 use Rattle.p3_formula.specs.declared.task.GroundStep.{GroundStep}
+use Rattle.p3_precprefs.specs.declared.choices.Choice.{Choice}
 use Rattle.p3_precprefs.specs.declared.copies.StepCopy.{StepCopy}
 use Rattle.p3_formula.specs.Weighted.{weight_of, weighted}
-use Rattle.p3_precprefs.specs.Copies.{both_ways, patterns, AreApart, violated_lists, doubled, split_by, split_all, first_copy}
+use Rattle.p3_precprefs.specs.Choices.{all_copies, copy_of, doubled, first_choice, known_by, satisfied, split_all, split_by, unless_never, violating}
+use Rattle.p3_precprefs.specs.Copies.{AreApart, IsSublist, Nothing, Keeps, Leaves, both_ways, patterns, violated_lists}
 
--- ---- the lists of the copies
+-- ---- sublists
 
-lists_doubled : (body : Form) (weight : ℕ) (copies : List StepCopy) → violated_lists (doubled body weight copies) ≡ flat_map both_ways (violated_lists copies)
-lists_doubled body weight [] = refl
-lists_doubled body weight (copy ∷ copies) = λ i. (copy.violated ++ false ∷ []) ∷ (copy.violated ++ true ∷ []) ∷ lists_doubled body weight copies i
+none_of : {A : Type 0} (all : List A) → IsSublist [] all
+none_of [] = Nothing
+none_of (one ∷ all) = Leaves one [] all (none_of all)
 
-lists_split_by : (by_name : List ℕ) (pref : GroundPref) (copies : List StepCopy) (count : ℕ) → violated_lists copies ≡ patterns count → violated_lists (split_by by_name copies pref) ≡ patterns (cond (nat_lt 0 (weight_of by_name pref)) (suc count) count)
-lists_split_by by_name pref copies count are = by (nat_lt 0 (weight_of by_name pref))
+pub all_of : {A : Type 0} (P : A → Type 0) (some all : List A) → IsSublist some all → All P all → All P some
+all_of P _ _ Nothing each = each
+all_of P _ _ (Leaves one some all kept) each = all_of P some all kept (All-tail P one all each)
+all_of P _ _ (Keeps one some all kept) each = All-cons P one some (All-head P one all each) (all_of P some all kept (All-tail P one all each))
+
+pub apart_of : (some all : List (List Bool)) → IsSublist some all → AreApart all → AreApart some
+apart_of _ _ Nothing apart = apart
+apart_of _ _ (Leaves one some all kept) apart = apart_of some all kept apart.1
+apart_of _ _ (Keeps one some all kept) apart = (all_of (λ other. one ≢ other) some all kept apart.0, apart_of some all kept apart.1)
+
+-- ---- the lists of the choices
+
+abbrev shown : List Choice → List (List Bool)
+shown choices = map (λ (choice : Choice). choice.violated) choices
+
+possible : (choice : Choice) (others : List Choice) (lists : List (List Bool)) → IsSublist (shown others) lists → IsSublist (shown (unless_never choice ++ others)) (choice.violated ∷ lists)
+possible choice others lists kept = by (is_value false choice.asked)
   where
-    by : (has : Bool) → violated_lists (if has then doubled pref.body (weight_of by_name pref) copies else copies) ≡ patterns (cond has (suc count) count)
-    by true = lists_doubled pref.body (weight_of by_name pref) copies ∙ ap (flat_map both_ways) are
-    by false = are
+    by : (never : Bool) → IsSublist (shown ((if never then [] else (choice ∷ [])) ++ others)) (choice.violated ∷ lists)
+    by true = Leaves choice.violated (shown others) lists kept
+    by false = Keeps choice.violated (shown others) lists kept
 
-counted : (has : Bool) (pref : GroundPref) (kept : List GroundPref) (count : ℕ) → length kept + cond has (suc count) count ≡ length (cond has (pref ∷ kept) kept) + count
-counted true pref kept count = omega arith
-counted false pref kept count = refl
+module _ (known : ℕ → Option Bool) (body : Form) (weight : ℕ) where
+  two_shown : (choice : Choice) (others : List Choice) (lists : List (List Bool)) → IsSublist (shown others) lists
+      → IsSublist (shown ((unless_never (satisfied known body choice) ++ unless_never (violating known body weight choice)) ++ others)) ((choice.violated ++ false ∷ []) ∷ (choice.violated ++ true ∷ []) ∷ lists)
+  two_shown choice others lists kept =
+      let one = satisfied known body choice in
+      let other = violating known body weight choice in
+      subst (λ list. IsSublist (shown list) ((choice.violated ++ false ∷ []) ∷ (choice.violated ++ true ∷ []) ∷ lists)) (sym (append_assoc (unless_never one) (unless_never other) others))
+      (possible one (unless_never other ++ others) ((choice.violated ++ true ∷ []) ∷ lists) (possible other others lists kept))
 
-lists_split_all : (by_name : List ℕ) (prefs : List GroundPref) (copies : List StepCopy) (count : ℕ) → violated_lists copies ≡ patterns count → violated_lists (split_all by_name prefs copies) ≡ patterns (length (weighted by_name prefs) + count)
-lists_split_all by_name [] copies count are =
-    let none : count ≡ 0 + count = omega arith in
-    are ∙ ap patterns none
-lists_split_all by_name (pref ∷ prefs) copies count are =
-    lists_split_all by_name prefs (split_by by_name copies pref) (cond (nat_lt 0 (weight_of by_name pref)) (suc count) count) (lists_split_by by_name pref copies count are)
-    ∙ ap patterns (counted (nat_lt 0 (weight_of by_name pref)) pref (weighted by_name prefs) count)
+  shown_doubled : (some lists : List (List Bool)) → IsSublist some lists → (choices : List Choice) → shown choices ≡ some → IsSublist (shown (doubled known body weight choices)) (flat_map both_ways lists)
+  shown_doubled _ _ Nothing [] is = Nothing
+  shown_doubled _ _ Nothing (choice ∷ choices) is = absurd (cc)
+  shown_doubled _ _ (Leaves one some lists kept) choices is = Leaves (one ++ false ∷ []) _ _ (Leaves (one ++ true ∷ []) _ _ (shown_doubled some lists kept choices is))
+  shown_doubled _ _ (Keeps one some lists kept) [] is = absurd (cc)
+  shown_doubled _ _ (Keeps one some lists kept) (choice ∷ choices) is =
+      subst (λ front. IsSublist (shown (doubled known body weight (choice ∷ choices))) ((front ++ false ∷ []) ∷ (front ++ true ∷ []) ∷ flat_map both_ways lists)) (ap (λ list. get_or list 0 one) is)
+      (two_shown choice (doubled known body weight choices) (flat_map both_ways lists) (shown_doubled some lists kept choices (ap (drop 1) is)))
+
+module _ (known : ℕ → Option Bool) (by_name : List ℕ) where
+  shown_split_by : (pref : GroundPref) (choices : List Choice) (count : ℕ) → IsSublist (shown choices) (patterns count) → IsSublist (shown (split_by known by_name choices pref)) (patterns (cond (nat_lt 0 (weight_of by_name pref)) (suc count) count))
+  shown_split_by pref choices count kept = by (nat_lt 0 (weight_of by_name pref))
+    where
+      by : (has : Bool) → IsSublist (shown (if has then doubled known (settled known pref.body) (weight_of by_name pref) choices else choices)) (patterns (cond has (suc count) count))
+      by true = shown_doubled known (settled known pref.body) (weight_of by_name pref) (shown choices) (patterns count) kept choices refl
+      by false = kept
+
+  counted : (has : Bool) (pref : GroundPref) (kept : List GroundPref) (count : ℕ) → length kept + cond has (suc count) count ≡ length (cond has (pref ∷ kept) kept) + count
+  counted true pref kept count = omega arith
+  counted false pref kept count = refl
+
+  shown_split_all : (prefs : List GroundPref) (choices : List Choice) (count : ℕ) → IsSublist (shown choices) (patterns count) → IsSublist (shown (split_all known by_name prefs choices)) (patterns (length (weighted by_name prefs) + count))
+  shown_split_all [] choices count kept =
+      let none : count ≡ 0 + count = omega arith in
+      subst (λ n. IsSublist (shown choices) (patterns n)) none kept
+  shown_split_all (pref ∷ prefs) choices count kept =
+      subst (λ n. IsSublist (shown (split_all known by_name prefs (split_by known by_name choices pref))) (patterns n)) (counted (nat_lt 0 (weight_of by_name pref)) pref (weighted by_name prefs) count)
+      (shown_split_all prefs (split_by known by_name choices pref) (cond (nat_lt 0 (weight_of by_name pref)) (suc count) count) (shown_split_by pref choices count kept))
 
 -- ---- the patterns differ
 
@@ -89,7 +134,19 @@ of_lists P (copy ∷ copies) all = All-cons (λ (copy : StepCopy). P copy.violat
 
 -- ---- of a step
 
-pub all_patterns : (weights : Weights) (step : GroundStep) (copies : List StepCopy) → copies ≡ split_all weights.by_name step.prefs (first_copy weights step ∷ []) → violated_lists copies ≡ patterns (length (weighted weights.by_name step.prefs))
-all_patterns weights step copies is =
-    let none_more : length (weighted weights.by_name step.prefs) + 0 ≡ length (weighted weights.by_name step.prefs) = omega arith in
-    ap violated_lists is ∙ lists_split_all weights.by_name step.prefs (first_copy weights step ∷ []) 0 refl ∙ ap patterns none_more
+lists_of : (pre : Form) (choices : List Choice) → violated_lists (map (copy_of pre) choices) ≡ shown choices
+lists_of pre [] = refl
+lists_of pre (choice ∷ choices) = ap (λ lists. choice.violated ∷ lists) (lists_of pre choices)
+
+pub some_patterns : (weights : Weights) (step : GroundStep) (pre : Form) → IsSublist (violated_lists (all_copies weights step pre)) (patterns (length (weighted weights.by_name step.prefs)))
+some_patterns weights step pre = by (is_value false pre)
+  where
+    none_more : length (weighted weights.by_name step.prefs) + 0 ≡ length (weighted weights.by_name step.prefs)
+    none_more = omega arith
+
+    by : (never : Bool) → IsSublist (violated_lists (if never then [] else map (copy_of pre) (split_all (known_by pre) weights.by_name step.prefs (first_choice weights step ∷ [])))) (patterns (length (weighted weights.by_name step.prefs)))
+    by true = none_of _
+    by false =
+        subst (λ lists. IsSublist lists (patterns (length (weighted weights.by_name step.prefs)))) (sym (lists_of pre _))
+        (subst (λ n. IsSublist (shown (split_all (known_by pre) weights.by_name step.prefs (first_choice weights step ∷ []))) (patterns n)) none_more
+        (shown_split_all (known_by pre) weights.by_name step.prefs (first_choice weights step ∷ []) 0 (Keeps [] [] [] Nothing)))

@@ -1,9 +1,8 @@
 -- The copies of a step, one for each choice of its weighted preferences that are violated.
-use Rattle.std.specs.Prelude.{◌≡◌, ◌≢◌, ℕ, zero, suc, ◌+◌, ◌<◌, nat_lt, Bool, true, false, not, List, [], ◌∷◌, ◌++◌, map, sum_by, if◌then◌else◌, IsTrue}
+use Rattle.std.specs.Prelude.{◌≡◌, ◌≢◌, ℕ, zero, suc, ◌+◌, Bool, true, false, not, List, [], ◌∷◌, ◌++◌, map, sum_by, if◌then◌else◌, IsTrue}
 use Rattle.std.specs.List.{All, filter, flat_map}
 use Rattle.p3_formula.specs.Forms.{State, truth, has_atoms}
 use Rattle.p3_formula.specs.declared.form.Form.{Form}
-use Rattle.p3_formula.specs.declared.form.Form.TheVariants as form
 use Rattle.p3_formula.specs.declared.modal.GroundPref.{GroundPref}
 use Rattle.p3_formula.specs.Weighted.{weight_of, weighted, weighted_cost}
 use Rattle.p3_formula.specs.declared.target.Weights.{Weights}
@@ -59,34 +58,3 @@ HasAtomsIn allowed form = IsTrue (has_atoms allowed form)
 pub record HasPartsIn (allowed : ℕ → Bool) (step : GroundStep) : Type 0 where
   pub pre : HasAtomsIn allowed step.pre
   pub bodies : All (λ (pref : GroundPref). HasAtomsIn allowed pref.body) step.prefs
-
--- ---- how they are made
-
--- the copy where a preference is satisfied
-abbrev pub satisfied : Form → StepCopy → StepCopy
-satisfied body copy = record { violated = copy.violated ++ false ∷ []; pre = form.And (copy.pre ∷ body ∷ []); cost = copy.cost }
-
--- the copy where it is violated, at its weight
-abbrev pub violating : Form → ℕ → StepCopy → StepCopy
-violating body weight copy = record { violated = copy.violated ++ true ∷ []; pre = form.And (copy.pre ∷ form.Not body ∷ []); cost = copy.cost + weight }
-
-abbrev pub both_copies : Form → ℕ → StepCopy → List StepCopy
-both_copies body weight copy = satisfied body copy ∷ violating body weight copy ∷ []
-
-abbrev pub doubled : Form → ℕ → List StepCopy → List StepCopy
-doubled body weight copies = flat_map (both_copies body weight) copies
-
--- a preference without weight changes nothing
-abbrev pub split_by : List ℕ → List StepCopy → GroundPref → List StepCopy
-split_by by_name copies pref = if nat_lt 0 (weight_of by_name pref) then doubled pref.body (weight_of by_name pref) copies else copies
-
--- the copies after one preference after another
-abbrev pub split_all : List ℕ → List GroundPref → List StepCopy → List StepCopy
-split_all by_name [] copies = copies
-split_all by_name (pref ∷ prefs) copies = split_all by_name prefs (split_by by_name copies pref)
-
-abbrev pub first_copy : Weights → GroundStep → StepCopy
-first_copy weights step = record { violated = []; pre = step.pre; cost = weighted_cost weights step }
-
-abbrev pub IsWithin : ℕ → List StepCopy → Type 0
-IsWithin bound copies = All (λ (copy : StepCopy). copy.cost < bound) copies

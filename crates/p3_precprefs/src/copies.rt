@@ -1,13 +1,18 @@
 //! A step split by its preferences.
 
-ghost use Rattle.std.specs.Prelude.{◌≡◌, ◌≤◌, ◌<◌, ◌+◌, ◌*◌, ◌^◌, ℕ, Bool, true, false, [], ◌∷◌, ◌++◌, length, sum_by, unwrap_or, IfOk, IsSome};
+ghost use Rattle.std.specs.Prelude.{◌≡◌, ◌≤◌, ◌<◌, ◌+◌, ◌++◌, ◌^◌, ℕ, Bool, true, false, [], length, map, sum_by, IfOk, IsSome, IsTrue, OnOk};
 ghost use Rattle.std.specs.List.{All};
 ghost use Rattle.p3_formula.specs.Forms.{State, truth};
-ghost use Rattle.p3_formula.specs.Weighted.{AreNamedBelow, HasNameBelow, weight_of, weighted, weighted_cost};
+ghost use Rattle.p3_formula.specs.Simplified.{is_value};
+ghost use Rattle.p3_formula.specs.Tidy.{is_tidy};
+ghost use Rattle.p3_formula.specs.Weighted.{AreNamedBelow, weight_of, weighted, weighted_cost};
+ghost use Rattle.p3_formula.specs.declared.modal.GroundPref.{GroundPref};
+ghost use Rattle.p3_precprefs.specs.Choices as chosen;
 ghost use Rattle.p3_precprefs.specs.Copies as made;
 
+use crate::choices::{Choice, choices, is_false};
 use p3_base::{List, NoMemory};
-use p3_formula::{Form, GroundPref, GroundStep, Weights, copied};
+use p3_formula::{Form, GroundStep, Weights, copied, push_spread, tidied};
 use std::alloc::Global;
 
 /// A copy of a step, for one choice of its weighted preferences that are violated.
@@ -21,7 +26,8 @@ pub struct StepCopy {
     pub cost: u64,
 }
 
-/// The copies of a step: one for each choice of its weighted preferences that are violated.
+/// The copies of a step: one for each choice of its weighted preferences that are violated, but none
+/// whose simplified precondition never holds.
 pub fn split(
     alloc: Global,
     step: &GroundStep,
@@ -40,26 +46,76 @@ pub fn split(
     // Elsewhere no copy fits.
     ensures no_copy { IfOk result (λ copies.
         (state : State) → truth state step.now.pre ≡ false → made.fitting state copies ≡ []) }
-    // Each choice has a copy.
-    ensures patterns { IfOk result (λ copies.
-        made.violated_lists copies
-        ≡ made.patterns (length (weighted weights.now.by_name step.now.prefs))) }
+    // They show some of the choices, in order.
+    ensures shown { IfOk result (λ copies. made.IsSublist (made.violated_lists copies)
+        (made.patterns (length (weighted weights.now.by_name step.now.prefs)))) }
     // No two copies show the same, and each has an entry for each weighted preference.
     ensures apart { IfOk result (λ copies. made.AreApart (made.violated_lists copies)) }
     ensures entries { IfOk result (λ copies.
         All (λ (copy : StepCopy). length copy.violated
         ≡ length (weighted weights.now.by_name step.now.prefs)) copies) }
-    // They read no atoms but those of the step.
+    // The precondition of none is the constant that never holds.
+    ensures possible { IfOk result (λ copies.
+        All (λ (copy : StepCopy). is_value false copy.pre ≡ false) copies) }
+    // Their preconditions are tidy, and read no atoms but those of the step.
+    ensures tidy { IfOk result (λ copies.
+        All (λ (copy : StepCopy). IsTrue (is_tidy copy.pre)) copies) }
     ensures atoms { IfOk result (λ copies.
-        (allowed : ℕ → Bool) → made.HasPartsIn allowed step.now
+        (allowed : ℕ → Bool) → made.HasAtomsIn allowed step.now.pre
+        → All (λ (pref : GroundPref). made.HasAtomsIn allowed pref.body) step.now.prefs
         → All (λ (copy : StepCopy). made.HasAtomsIn allowed copy.pre) copies) }
 {
-    split_all(alloc, step, weights)
+    split_under(alloc, copied(alloc, &step.pre)?, step, weights)
 }
 
-/// The copies, made by one preference after another.
-fn split_all(
+/// The copies of a step under that precondition in the place of its own: one for each choice of its
+/// weighted preferences that are violated, but none whose simplified precondition never holds.
+pub fn split_under(
     alloc: Global,
+    pre: Form,
+    step: &GroundStep,
+    weights: &Weights,
+) -> Result<List<StepCopy>, NoMemory>
+    requires cost { IsSome step.now.cost }
+    requires names { AreNamedBelow (length weights.now.by_name) step.now.prefs }
+    requires few { length (weighted weights.now.by_name step.now.prefs) ≤ 8 }
+    requires room { weighted_cost weights.now step.now + sum_by
+        (weight_of weights.now.by_name) step.now.prefs
+        < 2 ^ 62 }
+    // Where the precondition holds, one copy fits, which shows what is violated and costs its weights.
+    ensures one_copy { IfOk result (λ copies.
+        (state : State) → truth state pre ≡ true
+        → made.HasOneCopy weights.now step.now copies state) }
+    // Elsewhere no copy fits.
+    ensures no_copy { IfOk result (λ copies.
+        (state : State) → truth state pre ≡ false → made.fitting state copies ≡ []) }
+    // They show some of the choices, in order.
+    ensures shown { IfOk result (λ copies. made.IsSublist (made.violated_lists copies)
+        (made.patterns (length (weighted weights.now.by_name step.now.prefs)))) }
+    // No two copies show the same, and each has an entry for each weighted preference.
+    ensures apart { IfOk result (λ copies. made.AreApart (made.violated_lists copies)) }
+    ensures entries { IfOk result (λ copies.
+        All (λ (copy : StepCopy). length copy.violated
+        ≡ length (weighted weights.now.by_name step.now.prefs)) copies) }
+    // The precondition of none is the constant that never holds.
+    ensures possible { IfOk result (λ copies.
+        All (λ (copy : StepCopy). is_value false copy.pre ≡ false) copies) }
+    // Their preconditions are tidy, and read no atoms but those of the precondition and the preferences.
+    ensures tidy { IfOk result (λ copies.
+        All (λ (copy : StepCopy). IsTrue (is_tidy copy.pre)) copies) }
+    ensures atoms { IfOk result (λ copies.
+        (allowed : ℕ → Bool) → made.HasAtomsIn allowed pre
+        → All (λ (pref : GroundPref). made.HasAtomsIn allowed pref.body) step.now.prefs
+        → All (λ (copy : StepCopy). made.HasAtomsIn allowed copy.pre) copies) }
+{
+    let simple = tidied(alloc, pre)?;
+    split_simple(alloc, simple, step, weights)
+}
+
+/// The copies under a precondition that is tidy.
+fn split_simple(
+    alloc: Global,
+    pre: Form,
     step: &GroundStep,
     weights: &Weights,
 ) -> Result<List<StepCopy>, NoMemory>
@@ -67,99 +123,50 @@ fn split_all(
     requires room { weighted_cost weights.now step.now + sum_by
         (weight_of weights.now.by_name) step.now.prefs
         < 2 ^ 62 }
-    ensures { IfOk result (λ copies.
-        copies ≡ made.split_all weights.now.by_name step.now.prefs
-        (made.first_copy weights.now step.now ∷ [])) }
+    ensures { IfOk result (λ copies. copies
+        ≡ chosen.all_copies weights.now step.now pre) }
 {
-    let mut copies = first_copies(alloc, step, weights)?;
-    for pref in step.prefs.items() {
-        copies = split_by(alloc, &weights.by_name, copies, pref)?;
+    if is_false(&pre) {
+        return Ok(List::new(alloc));
     }
-    Ok(copies)
+    let choices = choices(alloc, &pre, step, weights)?;
+    copies_of(alloc, pre, choices)
 }
 
-/// One copy, for no preference yet.
-fn first_copies(
-    alloc: Global,
-    step: &GroundStep,
-    weights: &Weights,
-) -> Result<List<StepCopy>, NoMemory>
-    requires room { weighted_cost weights.now step.now < 2 ^ 62 }
-    ensures { IfOk result (λ copies. copies ≡ made.first_copy weights.now step.now ∷ []) }
+/// The copy of each choice, the last of which takes the precondition.
+fn copies_of(alloc: Global, pre: Form, choices: List<Choice>) -> Result<List<StepCopy>, NoMemory>
+    ensures { IfOk result (λ copies. copies ≡ map (chosen.copy_of pre) choices) }
 {
-    let mut copies = Vec::with_capacity(alloc, 1)?;
-    copies.push(StepCopy {
-        violated: List::new(alloc),
-        pre: copied(alloc, &step.pre)?,
-        cost: weighted_cost(weights.total_cost, step.cost),
-    })?;
+    let mut others = choices.into_items();
+    let Some(last) = others.pop() else {
+        return Ok(List::new(alloc));
+    };
+    let mut copies = other_copies(alloc, &pre, others)?;
+    copies.push(copy_of(alloc, pre, last)?)?;
     Ok(List::from(copies))
 }
 
-/// The cost of a step, weighted.
-pub(crate) fn weighted_cost(weight: u64, cost: Option<u128>) -> u64
-    requires { weight * unwrap_or cost 0 < 2 ^ 62 }
-    ensures { result ≡ weight * unwrap_or cost 0 }
+/// The copy of each choice, each with a precondition of its own.
+fn other_copies(alloc: Global, pre: &Form, choices: Vec<Choice>) -> Result<Vec<StepCopy>, NoMemory>
+    ensures { IfOk result (λ copies. copies.items ≡ map (chosen.copy_of pre.now) choices.items) }
 {
-    (u128::from(weight) * cost.unwrap_or(0)) as u64
-}
-
-/// The weight of a preference: without a name it has none.
-pub(crate) fn weight_of(by_name: &List<u64>, pref: &GroundPref) -> u64
-    requires { HasNameBelow (length by_name.now) pref.now.name }
-    ensures { result ≡ weight_of by_name.now pref.now }
-{
-    match pref.name {
-        Some(name) => by_name.items()[name as usize],
-        None => 0,
-    }
-}
-
-/// Twice the copies where the preference has a weight, and else the same.
-fn split_by(
-    alloc: Global,
-    by_name: &List<u64>,
-    copies: List<StepCopy>,
-    pref: &GroundPref,
-) -> Result<List<StepCopy>, NoMemory>
-    requires named { HasNameBelow (length by_name.now) pref.now.name }
-    requires weight { weight_of by_name.now pref.now < 2 ^ 62 }
-    requires costs { made.IsWithin (2 ^ 62) copies }
-    ensures { IfOk result (λ new. new ≡ made.split_by by_name.now copies pref.now) }
-{
-    let weight = weight_of(by_name, pref);
-    if weight > 0 {
-        return doubled(alloc, copies, &pref.body, weight);
+    let mut copies = Vec::with_capacity(alloc, choices.len().saturating_add(1))?;
+    for choice in choices {
+        copies.push(copy_of(alloc, copied(alloc, pre)?, choice)?)?;
     }
     Ok(copies)
 }
 
-/// Two of each copy: the preference is satisfied, or it is violated.
-fn doubled(
-    alloc: Global,
-    copies: List<StepCopy>,
-    body: &Form,
-    weight: u64,
-) -> Result<List<StepCopy>, NoMemory>
-    requires weight { weight < 2 ^ 62 }
-    requires costs { made.IsWithin (2 ^ 62) copies }
-    ensures { IfOk result (λ new. new ≡ made.doubled body.now weight copies) }
+/// The copy of a choice under the precondition.
+fn copy_of(alloc: Global, pre: Form, choice: Choice) -> Result<StepCopy, NoMemory>
+    ensures { IfOk result (λ copy. copy ≡ chosen.copy_of pre choice) }
 {
-    let mut new = Vec::with_capacity(alloc, copies.len().saturating_mul(2))?;
-    for copy in copies.into_items() {
-        new.push(satisfied(alloc, &copy, body)?)?;
-        new.push(violating(alloc, copy, body, weight)?)?;
-    }
-    Ok(List::from(new))
-}
-
-/// The copy where the preference is satisfied.
-fn satisfied(alloc: Global, copy: &StepCopy, body: &Form) -> Result<StepCopy, NoMemory>
-    ensures { IfOk result (λ new. new ≡ made.satisfied body.now copy.now) }
-{
-    let violated = entry_added(alloc, &copy.violated, false)?;
-    let pre = Form::both(alloc, copied(alloc, &copy.pre)?, copied(alloc, body)?)?;
-    let cost = copy.cost;
+    let Choice {
+        violated,
+        asked,
+        cost,
+    } = choice;
+    let pre = conjoined(alloc, pre, asked)?;
     Ok(StepCopy {
         violated,
         pre,
@@ -167,35 +174,36 @@ fn satisfied(alloc: Global, copy: &StepCopy, body: &Form) -> Result<StepCopy, No
     })
 }
 
-/// The copy where the preference is violated, at its weight.
-fn violating(alloc: Global, copy: StepCopy, body: &Form, weight: u64) -> Result<StepCopy, NoMemory>
-    requires { copy.cost + weight < 2 ^ 64 }
-    ensures { IfOk result (λ new. new ≡ made.violating body.now weight copy) }
+/// The conjunction of two tidy forms, without a conjunction in it.
+fn conjoined(alloc: Global, first: Form, second: Form) -> Result<Form, NoMemory>
+    ensures { IfOk result (λ form. form ≡ chosen.conjoined first second) }
 {
-    let StepCopy {
-        mut violated,
-        pre,
-        cost,
-    } = copy;
-    violated.push(true)?;
-    let opposite = Form::negation(alloc, copied(alloc, body)?)?;
-    let pre = Form::both(alloc, pre, opposite)?;
-    let cost = cost + weight;
-    Ok(StepCopy {
-        violated,
-        pre,
-        cost,
-    })
+    if is_true(&first) {
+        drop(first);
+        return Ok(second);
+    }
+    if is_true(&second) {
+        drop(second);
+        return Ok(first);
+    }
+    let room = part_count(&first).saturating_add(part_count(&second));
+    let mut parts = Vec::with_capacity(alloc, room)?;
+    push_spread(&mut parts, first)?;
+    push_spread(&mut parts, second)?;
+    Ok(Form::And(List::from(parts)))
 }
 
-/// The entries with one more.
-fn entry_added(alloc: Global, entries: &List<bool>, entry: bool) -> Result<List<bool>, NoMemory>
-    ensures { IfOk result (λ new. new ≡ entries.now ++ entry ∷ []) }
+/// Whether the form is the constant that always holds.
+fn is_true(form: &Form) -> bool
+    ensures { result ≡ is_value true form.now }
 {
-    let mut new = List::new(alloc);
-    for earlier in entries.items() {
-        new.push(*earlier)?;
+    matches!(form, Form::True)
+}
+
+/// How many parts the form has as a part of a conjunction.
+fn part_count(form: &Form) -> usize {
+    match form {
+        Form::And(parts) => parts.len(),
+        _ => 1,
     }
-    new.push(entry)?;
-    Ok(new)
 }

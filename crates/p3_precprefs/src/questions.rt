@@ -11,7 +11,7 @@ ghost use Rattle.p3_formula.specs.Targets.{is_sized_change};
 ghost use Rattle.p3_formula.specs.Weighted as weigh;
 ghost use Rattle.p3_precprefs.specs.Questions as made;
 
-use crate::copies::{weight_of, weighted_cost};
+use crate::weighing::{weight_of, weighted_cost};
 use p3_base::{List, Name, NoMemory};
 use p3_formula::{
     Effects, Form, GroundStep, TargetAction, Weights, copied, effects_copied, guarded, turned,

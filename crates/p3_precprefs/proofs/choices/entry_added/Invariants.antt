@@ -1,5 +1,5 @@
 use Rattle.std.proofs.Common.{◌≡◌, take}
-use Rattle.p3_precprefs.proofs.copies.entry_added.Given as goal
+use Rattle.p3_precprefs.proofs.choices.entry_added.Given as goal
 
 -- the entries passed stand there once more
 abbrev pub invariant-loop-earlier : goal.invariant-loop-earlier

@@ -1,0 +1,12 @@
+use Rattle.std.proofs.Common.{◌≡◌, ◌++◌, length, map}
+use Rattle.std.specs.Vec.Iter.{into_iter_items, into_iter_len}
+use Rattle.p3_precprefs.specs.Choices.{copy_of}
+use Rattle.p3_precprefs.proofs.copies.other_copies.Given as goal
+
+-- the choices passed have their copies, and they and those that are left are all
+abbrev pub invariant-loop-choice : goal.invariant-loop-choice
+invariant-loop-choice l = record {
+  whole : l.yielded ++ into_iter_items l.choice-iterator ≡ into_iter_items l.initial.choice-iterator;
+  made : l.copies.items ≡ map (copy_of l.pre) l.yielded;
+  counted : into_iter_len l.choice-iterator ≡ length (into_iter_items l.choice-iterator);
+}
