@@ -1,5 +1,5 @@
 -- The copies of a step, as its actions: the one that fits leads from open bits to open bits.
-use Rattle.std.proofs.Common.{◌≡◌, ◌∙◌, ◌⊎◌, inl, inr, ⊎_elim, ℕ, ◌+◌, ◌<◌, ◌≤◌, Bool, true, false, ◌&&◌, cond, List, [], ◌∷◌, refl, sym, ap, subst, arith, Option, Some, true≢false}
+use Rattle.std.proofs.Common.{◌≡◌, ◌∙◌, ◌⊎◌, inl, inr, ⊎_elim, ℕ, ◌+◌, ◌<◌, ◌≤◌, nat_lt, Bool, true, false, ◌&&◌, cond, List, [], ◌∷◌, refl, sym, ap, subst, arith, Option, Some, true≢false}
 use Rattle.std.specs.Prelude.{Contains}
 use Rattle.std.specs.List.{list_all}
 use Rattle.std.proofs.Math.Bool.{and-true}
@@ -51,6 +51,7 @@ module _ (go number : ℕ) (effects : List Change) (state : State) where
     pub own : Contains actions action
     pub is : IsCopyAction go number effects copy action
     pub holds : truth state action.pre ≡ true
+    pub met : truth state copy.pre ≡ true
     pub only : (other : TargetAction) → Contains actions other → truth state other.pre ≡ true → other ≡ action
 
   one_fits : (copies : List StepCopy) (actions : List TargetAction) → AreCopyActions go number effects copies actions → is_set state go ≡ true → (chosen : StepCopy) → fitting state copies ≡ chosen ∷ [] → OneAction chosen actions
@@ -67,6 +68,7 @@ module _ (go number : ℕ) (effects : List Change) (state : State) where
         own = is_head first actions;
         is = subst (λ (c : StepCopy). IsCopyAction go number effects c first) same are.0;
         holds = fits_first ∙ and_from (is_set state go) (truth state copy.pre) running e;
+        met = ap (λ (c : StepCopy). truth state c.pre) (sym same) ∙ e;
         only = λ other member holds. ⊎_elim (λ is. sym is) (λ later. absurd (none_fits copies actions are.1 none other later holds)) (head_or_tail first actions other member);
       }
 
@@ -87,6 +89,7 @@ module _ (go number : ℕ) (effects : List Change) (state : State) where
             own = is_behind first actions rest.action rest.own;
             is = rest.is;
             holds = rest.holds;
+            met = rest.met;
             only = λ other member holds. ⊎_elim (λ is. absurd (not_first e other is holds)) (λ later. rest.only other later holds) (head_or_tail first actions other member);
           }
 
@@ -96,7 +99,7 @@ module _ (go number : ℕ) (effects : List Change) where
     pub rest : Name
     pub named : action.name ≡ copy_name number rest
     pub running : (state : State) → truth state action.pre ≡ true → is_set state go ≡ true
-    pub does : action.effects ≡ effects
+    pub sized : list_all (is_sized_change go) effects ≡ true → list_all (is_sized_change go) action.effects ≡ true
 
   pub some_copy : (copies : List StepCopy) (actions : List TargetAction) → AreCopyActions go number effects copies actions → (action : TargetAction) → Contains actions action → IsSomeCopy action
   some_copy [] [] are action member = in_none action member
@@ -107,7 +110,7 @@ module _ (go number : ℕ) (effects : List Change) where
       rest = pattern copy.violated;
       named = are.0.named;
       running = λ state holds. (and_parts (is_set state go) (truth state copy.pre) (sym (fits_with go number effects copy first are.0 state) ∙ holds)).0;
-      does = are.0.does;
+      sized = are.0.atoms (λ atom. nat_lt atom go);
     })
     | inr later ↦ some_copy copies actions are.1 action later
   ]
@@ -120,11 +123,13 @@ module _ (go first size : ℕ) (behind_go : go < first) (counted : TargetAction 
   some action member = some_copy go step.number effects is.copies actions is.are action member
 
   stays_open : (bits : State) → IsOpen go first size bits → (action : TargetAction) → Contains actions action → IsOpen go first size (after bits action.effects)
-  stays_open bits opens action member = subst (λ changes. IsOpen go first size (after bits changes)) (sym (some action member).does) (record {
-    room = length-after bits effects ∙ opens.room;
-    running = is_set-unchanged bits effects go (unnamed_above go effects go below (omega arith)) ∙ opens.running;
-    clear = λ atom high. is_set-unchanged bits effects atom (unnamed_above go effects atom below (omega (arith, high))) ∙ opens.clear atom high;
-  })
+  stays_open bits opens action member = record {
+    room = length-after bits action.effects ∙ opens.room;
+    running = is_set-unchanged bits action.effects go (unnamed_above go action.effects go own (omega arith)) ∙ opens.running;
+    clear = λ atom high. is_set-unchanged bits action.effects atom (unnamed_above go action.effects atom own (omega (arith, high))) ∙ opens.clear atom high;
+  } where
+    own : list_all (is_sized_change go) action.effects ≡ true
+    own = (some action member).sized below
 
   holds_where : (bits : State) → IsOpen go first size bits → (action : TargetAction) → Contains actions action → truth bits action.pre ≡ true → truth bits pre ≡ true
   holds_where bits opens action member holds = by (truth bits pre) refl
@@ -160,7 +165,7 @@ module _ (go first size : ℕ) (behind_go : go < first) (counted : TargetAction 
       own = c.own;
       fits = c.holds;
       turns = Back (after bits c.action.effects) (stays_open bits opens c.action c.own);
-      same = λ atom low. ap (λ s. is_set s atom) (ap (after bits) c.is.does ∙ does bits fits);
+      same = λ atom low. ap (λ s. is_set s atom) (c.is.does bits c.met ∙ does bits fits);
       costs = add_nothing c.action.cost ∙ c.is.costs ∙ (is.one_copy bits fits).costs;
       count = sym narrow;
     };

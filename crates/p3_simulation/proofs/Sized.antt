@@ -49,7 +49,7 @@ module _ (go first size : ℕ) (behind_go : go < first) (room : first ≤ size) 
   copies_sized number effects (copy ∷ copies) [] are within sized = absurd are
   copies_sized number effects (copy ∷ copies) (action ∷ actions) are within sized =
       and_from (is_sized_action size action) _
-      (and_from _ _ (are.0.pre.reads (λ atom. nat_lt atom size) (λ i. lt-ltb go size (omega (arith, behind_go, room)) i && true) (All-head (λ (c : StepCopy). HasAtomsIn (λ atom. nat_lt atom size) c.pre) copy copies within)) (ap (list_all (is_sized_change size)) are.0.does ∙ sized))
+      (and_from _ _ (are.0.pre.reads (λ atom. nat_lt atom size) (λ i. lt-ltb go size (omega (arith, behind_go, room)) i && true) (All-head (λ (c : StepCopy). HasAtomsIn (λ atom. nat_lt atom size) c.pre) copy copies within)) (are.0.atoms (λ atom. nat_lt atom size) sized))
       (copies_sized number effects copies actions are.1 (All-tail (λ (c : StepCopy). HasAtomsIn (λ atom. nat_lt atom size) c.pre) copy copies within) sized)
 
   own_below : (current : ℕ) → first + width_limit < current → current < size → (atom : ℕ) → is_own go first current atom ≡ true → nat_lt atom size ≡ true

@@ -84,7 +84,7 @@ step_split = record {
   no_copy = λ state fails. absurd (true≢false fails);
   shown = Keeps [] [] [] Nothing;
   atoms = λ allowed pre bodies. All-cons (λ (c : StepCopy). HasAtomsIn allowed c.pre) copy [] refl (All-nil (λ (c : StepCopy). HasAtomsIn allowed c.pre));
-  are = (record { named = refl; pre = step_pre; does = refl; costs = refl }, tt);
+  are = (record { named = refl; pre = step_pre; does = λ state met. refl; atoms = λ allowed all. all; costs = refl }, tt);
 }
 
 step_effects : IsEffects 1 (monitor ∷ []) only_step (sets 0 ∷ [])

@@ -1,9 +1,11 @@
 -- What the body of a ground compiler shows of a target: names, truth of preconditions, effects and costs of its actions.
 use Rattle.std.specs.Prelude.{◌≡◌, ℕ, ◌+◌, ◌-◌, ◌^◌, ◌<◌, ◌≤◌, Bool, true, false, ◌&&◌, List, [], ◌∷◌, ◌++◌, length, is_some, take, drop}
-use Rattle.std.specs.List.{All}
+use Rattle.std.specs.List.{All, list_all}
 use Rattle.p3_base.specs.Copies.{copy_name}
 use Rattle.p3_formula.specs.Forms.{State, truth, IsBelow}
 use Rattle.p3_formula.specs.Guards.{IsGuardedForm}
+use Rattle.p3_formula.specs.Next.{after}
+use Rattle.p3_formula.specs.Targets.{has_change_atoms}
 use Rattle.p3_formula.specs.Weighted.{width_of}
 use Rattle.p3_formula.specs.declared.form.Change.{Change}
 use Rattle.p3_formula.specs.declared.form.Form.{Form}
@@ -29,7 +31,9 @@ use Rattle.p3_simulation.specs.Watching.{all_modals, AreMonitors, AreSoftEnds, I
 pub record IsCopyAction (go number : ℕ) (effects : List Change) (copy : StepCopy) (action : TargetAction) : Type 0 where
   pub named : action.name ≡ copy_name number (pattern copy.violated)
   pub pre : IsGuardedForm (go ∷ []) copy.pre action.pre
-  pub does : action.effects ≡ effects
+  -- where the copy fits, its changes do what those of the step do; they have no other atoms
+  pub does : (state : State) → truth state copy.pre ≡ true → after state action.effects ≡ after state effects
+  pub atoms : (allowed : ℕ → Bool) → list_all (has_change_atoms allowed) effects ≡ true → list_all (has_change_atoms allowed) action.effects ≡ true
   pub costs : action.cost ≡ copy.cost
 
 abbrev pub AreCopyActions : ℕ → ℕ → List Change → List StepCopy → List TargetAction → Type 0
