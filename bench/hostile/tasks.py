@@ -352,6 +352,89 @@ def constraint_long_form_many_steps(n):
     )
 
 
+def one_constraint(n, constraint, *changes):
+    """One constraint over n facts, of which each of n steps changes one, where another fact says so."""
+    return dict(
+        d=domain(
+            '(:predicates (c ?x) (p ?x))',
+            *['(:action a%d :parameters (?x) :effect %s)' % (i, change) for i, change in enumerate(changes)]
+        ),
+        p=problem(
+            '(:objects ' + numbered(n) + ')',
+            '(:init ' + each('(p o%d)', n // 2) + ')',
+            '(:goal ())',
+            '(:constraints (preference g %s))' % constraint,
+            '(:metric minimize (is-violated g))',
+        ),
+    )
+
+
+CLEARS = '(and (c ?x) (when (c ?x) (not (p ?x))))'
+SETS = '(and (not (c ?x)) (when (c ?x) (p ?x)))'
+
+
+@family([1250, 2500, 5000, 10000])
+def one_part_of_always(n):
+    return one_constraint(n, '(always (forall (?x) (p ?x)))', CLEARS)
+
+
+@family([1250, 2500, 5000, 10000])
+def one_part_of_sometime(n):
+    return one_constraint(n, '(sometime (exists (?x) (p ?x)))', CLEARS, SETS)
+
+
+@family([1250, 2500, 5000, 10000])
+def one_part_of_always_turned_back(n):
+    # the steps can turn no part false
+    return one_constraint(n, '(always (forall (?x) (p ?x)))', SETS)
+
+
+@family([1250, 2500, 5000, 10000])
+def all_parts_by_one_step(n):
+    # each change of one step touches a part of its own, and its precondition fixes half of them
+    return dict(
+        d=domain(
+            '(:predicates ' + each('(c%d) (p%d)', n) + ')',
+            '(:action a :precondition (and ' + each('(c%d) (not (p%d))', n // 2) + ')',
+            ':effect (and ' + each('(when (c%d) (not (p%d)))', n) + '))',
+            '(:action b :effect (and ' + each('(when (p%d) (not (c%d))) (p%d)', n) + '))',
+        ),
+        p=problem(
+            '(:init ' + each('(c%d)', n) + ')',
+            '(:goal ())',
+            '(:constraints (and (always (and ' + each('(or (p%d) (c%d))', n) + ')) (at-most-once (and ' + each('(c%d)', n) + '))))',
+        ),
+    )
+
+
+@family([5000, 10000, 20000, 40000])
+def many_parts_of_one_form(n):
+    # no two parts are equal, or one the negation of the other
+    return dict(
+        d=domain(
+            '(:predicates ' + each('(p%d)', n) + ')',
+            '(:action a :precondition (and ' + each('(not (and (p0) (p%d)))', n) + ') :effect (and ' + each('(p%d)', n) + '))',
+        ),
+        p=problem('(:init)', '(:goal (or ' + each('(and (p0) (p%d))', n) + '))'),
+    )
+
+
+@family([2500, 5000, 10000, 20000])
+def hard_constraints_of_one_step(n):
+    return dict(
+        d=domain(
+            '(:predicates (q) ' + each('(p%d)', n) + ')',
+            '(:action a :effect (and ' + each('(when (q) (not (p%d)))', n) + '))',
+            '(:action b :effect (and (q) ' + each('(p%d)', n) + '))',
+        ),
+        p=problem(
+            '(:init ' + each('(p%d)', n) + ')',
+            '(:goal ())',
+            '(:constraints (and ' + each('(always (p%d)) (at-most-once (p%d))', n) + '))',
+        ),
+    )
+
+
 @family([250, 500, 1000, 2000])
 def condition_times_occurrences(n):
     # p stands n times (each with another atom); one step changes it under a condition of n atoms: the update has n*n nodes
