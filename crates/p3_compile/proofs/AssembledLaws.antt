@@ -1,5 +1,5 @@
 -- What is put together is an assembled target.
-use Rattle.std.proofs.Common.{◌≡◌, ◌∙◌, ℕ, zero, suc, ◌+◌, ◌-◌, ◌<◌, ◌≤◌, Bool, true, false, List, [], ◌∷◌, ◌++◌, length, get_or, replicate, refl, ap, arith, append_assoc, length-append}
+use Rattle.std.proofs.Common.{◌≡◌, ◌∙◌, ℕ, zero, suc, ◌+◌, ◌-◌, ◌<◌, ◌≤◌, Bool, true, false, List, [], ◌∷◌, ◌++◌, length, get_or, replicate, take, refl, ap, subst, arith, append_assoc, length-append}
 use Rattle.std.specs.Prelude.{codes}
 use Rattle.std.specs.List.{All, flat_map, list_all}
 use Rattle.std.proofs.lemmas.Bool.{and_parts, and_from}
@@ -17,7 +17,7 @@ use Rattle.p3_formula.specs.declared.target.Weights.{Weights}
 use Rattle.p3_formula.specs.declared.task.GroundStep.{GroundStep}
 use Rattle.p3_formula.specs.declared.task.GroundTask.{GroundTask}
 use Rattle.p3_monitors.specs.declared.watching.Monitor.{Monitor}
-use Rattle.p3_simulation.specs.Assembled.{Assembly, IsAssembled}
+use Rattle.p3_simulation.specs.Assembled.{AreOfSteps, Assembly, IsAssembled}
 use Rattle.p3_simulation.specs.Naming.{all_numbered, atom_names, current_name, numbered, question_names, wide_steps}
 use Rattle.p3_simulation.specs.Watching.{AreMonitors, all_modals}
 use Rattle.p3_simulation.proofs.Bounds.{step_more}
@@ -136,7 +136,7 @@ module _ (G : GroundTask) (weights : Weights) (begun : BegunTarget) (is : IsBegu
       idle = length begun.names - begun.frame.go - 1;
       initial = is.initial_is;
       bits = bits_long ready;
-      steps = steps.are;
+      steps = subst (λ hard. AreOfSteps begun.frame.go begun.frame.first weights (take hard begun.frame.monitors) begun.frame.monitors (begun.frame.first + 201) (begun.frame.first + 201 + length wide) G.steps actions) is.frame_is.hard steps.are;
       actions = refl;
       goal = refl;
       accepts = is.ends.accepts;

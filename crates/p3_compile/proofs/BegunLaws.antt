@@ -14,7 +14,7 @@ use Rattle.p3_simulation.specs.Assembled.{NoSteps, OneStep}
 use Rattle.p3_simulation.specs.Naming.{is_wide, wide_steps}
 use Rattle.p3_simulation.proofs.Sized.{steps_sized}
 use Rattle.p3_compile.specs.Compiling.{IsBegun}
-use Rattle.p3_compile.specs.Stepping.{AreMade, HasActions, HasNextActions, IsNextStep, IsStepReady}
+use Rattle.p3_compile.specs.Stepping.{AreMade, HasActions, HasNextActions, IsNextStep, IsStepReady, hard_monitors}
 use Rattle.p3_compile.specs.declared.begun.BegunTarget.{BegunTarget}
 use Rattle.p3_compile.proofs.AssembledLaws.{current_first, currents_inside, first_inside, frame_is, steps_ready}
 use Rattle.p3_compile.proofs.StepLists.{current_room, one_more}
@@ -47,7 +47,7 @@ module _ (begun : BegunTarget) (weights : Weights) (step : GroundStep) (old new 
           → (is_wide weights.by_name step ≡ true → from ≡ old) → list_all (is_sized_action (length begun.names)) actions ≡ true
       from_to from far fits current =
           ap (list_all (is_sized_action (length begun.names))) (sym (append-nil actions))
-          ∙ steps_sized begun.frame.go begun.frame.first (length begun.names) next.frame_is.questions next.room weights begun.frame.monitors from _ (step ∷ []) (actions ++ [])
+          ∙ steps_sized begun.frame.go begun.frame.first (length begun.names) next.frame_is.questions next.room weights (hard_monitors begun.frame) begun.frame.monitors from _ (step ∷ []) (actions ++ [])
           (OneStep from _ _ step [] actions [] (has.are from current) (NoSteps _))
           (and_from (is_step_below begun.frame.go step) true next.ready.below refl)
           (All-cons (IsWithinLimits weights) step [] next.ready.limits (All-nil (IsWithinLimits weights)))

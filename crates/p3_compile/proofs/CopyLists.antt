@@ -8,7 +8,7 @@ use Rattle.p3_formula.specs.Tidy.{is_tidy}
 use Rattle.p3_formula.specs.declared.form.Change.{Change}
 use Rattle.p3_formula.specs.declared.target.TargetAction.{TargetAction}
 use Rattle.p3_precprefs.specs.declared.copies.StepCopy.{StepCopy}
-use Rattle.p3_compile.specs.Tidied.{HasTidyConditions}
+use Rattle.p3_compile.specs.Updated.{HasTidyConditions}
 use Rattle.p3_simulation.specs.Assembled.{IsCopyAction, AreCopyActions}
 
 module _ (go number : ℕ) (effects : List Change) where

@@ -33,7 +33,7 @@ use Rattle.p3_compile.proofs.WatchedLists.{monitors-append}
 -- ---- the frame
 
 module _ (G : GroundTask) (frame : Frame) (n1 n2 n3 n4 : List Name) (ready : IsReadyTask G) (sources : n1 ≡ all_numbered (codes "f") 0 G.atoms) (watched : IsWatched G n1 n2 frame.monitors) (running : frame.go ≡ length n2)
-    (named_go : n3 ≡ n2 ++ codes "go" ∷ []) (named_chain : n4 ≡ named_more (codes "e") (length n3) n3 (length G.soft + 1)) (end : frame.first ≡ length n4) where
+    (named_go : n3 ≡ n2 ++ codes "go" ∷ []) (named_chain : n4 ≡ named_more (codes "e") (length n3) n3 (length G.soft + 1)) (end : frame.first ≡ length n4) (hard : frame.hard ≡ length G.hard) where
   first_count : length n1 ≡ G.atoms
   first_count = ap length sources ∙ length-map-range_with_len (numbered (codes "f")) 0 G.atoms
 
@@ -75,6 +75,7 @@ module _ (G : GroundTask) (frame : Frame) (n1 n2 n3 n4 : List Name) (ready : IsR
           (subst (λ from. AreMonitors G.initial from (length watched.between) G.hard watched.hard.monitors) first_count
           (subst (λ to. AreMonitors G.initial (length n1) to G.hard watched.hard.monitors) (sym hard_count) watched.hard.made))
           (subst (λ to. AreMonitors G.initial (length watched.between) to (soft_modals G.soft) watched.soft.monitors) (sym soft_count ∙ sym running) watched.soft.made));
+      hard = hard;
       read = read;
       rising = rising;
       questions = end ∙ chain_count ∙ ap (λ n. n + (length G.soft + 2)) (sym running);

@@ -1,14 +1,11 @@
 -- The actions of a step have few changes.
-use Rattle.std.proofs.Common.{◌≡◌, ◌∙◌, ℕ, ◌+◌, ◌*◌, ◌≤◌, nat_lt, Bool, true, false, not, cond, List, [], ◌∷◌, ◌++◌, length, refl, sym, ap, subst, arith, true≢false, length-append}
+use Rattle.std.proofs.Common.{◌≡◌, ◌∙◌, ℕ, ◌+◌, ◌*◌, ◌≤◌, nat_lt, true, false, cond, List, [], ◌∷◌, ◌++◌, length, refl, sym, ap, subst, arith, length-append}
 use Rattle.std.specs.Prelude.{count_by, if◌then◌else◌}
 use Rattle.std.specs.List.{All}
 use Rattle.std.proofs.lemmas.List.Elements.{All-append, All-cons, All-nil}
-use Rattle.std.proofs.lemmas.List.Sums.{count_by-le-length, sum_by-append, sum_by-cons}
-use Rattle.p3_formula.specs.Simplified.{is_value}
+use Rattle.std.proofs.lemmas.List.Sums.{count_by-le-length, sum_by-append}
 use Rattle.p3_formula.specs.Weighted.{weighted, width_of}
 use Rattle.p3_formula.specs.declared.form.Change.{Change}
-use Rattle.p3_formula.specs.declared.form.Form.{Form}
-use Rattle.p3_formula.specs.declared.form.Form.TheVariants.{True, False, Atom, Not', And', Or'}
 use Rattle.p3_formula.specs.declared.modal.GroundPref.{GroundPref}
 use Rattle.p3_formula.specs.declared.target.TargetAction.{TargetAction}
 use Rattle.p3_formula.specs.declared.target.Weights.{Weights}
@@ -20,68 +17,25 @@ use Rattle.p3_precprefs.specs.declared.copies.StepCopy.{StepCopy}
 use Rattle.p3_simulation.specs.Assembled.{AreCopyActions}
 use Rattle.p3_simulation.specs.Naming.{pattern}
 use Rattle.p3_compile.specs.Lean.{HasFew, IsStepAction, chain_changes, is_conditional}
-use Rattle.p3_compile.specs.Tidied.{AreTidied, NoChange, IsKept, IsLeftOut}
 use Rattle.p3_compile.specs.Updated.{HasChanges, busy_count}
-
--- ---- counts
-
-is_true : (form : Form) → is_value true form ≡ true → form ≡ True
-is_true True h = refl
-is_true False h = absurd (true≢false (sym h))
-is_true (Atom atom) h = absurd (true≢false (sym h))
-is_true (Not' shape part) h = absurd (true≢false (sym h))
-is_true (And' shape parts) h = absurd (true≢false (sym h))
-is_true (Or' shape parts) h = absurd (true≢false (sym h))
-
-abbrev one : Bool → ℕ
-one b = cond b 1 0
-
-at_most_one : (b : Bool) → one b ≤ 1
-at_most_one true = omega arith
-at_most_one false = omega arith
-
-stays_certain : (old new : Form) → (old ≡ True → new ≡ True) → one (not (is_value true new)) ≤ one (not (is_value true old))
-stays_certain old new always = by (is_value true old) refl
-  where
-    by : (b : Bool) → is_value true old ≡ b → one (not (is_value true new)) ≤ one (not b)
-    by true e = subst (λ form. one (not (is_value true form)) ≤ 0) (sym (always (is_true old e))) (omega arith)
-    by false e = at_most_one (not (is_value true new))
 
 abbrev conditions : List Change → ℕ
 conditions changes = count_by is_conditional changes
 
-tidied_length : (olds news : List Change) → AreTidied olds news → length news ≤ length olds
-tidied_length _ _ NoChange = omega arith
-tidied_length _ _ (IsKept old new olds news is may are) = let rest = tidied_length olds news are in omega (arith, rest)
-tidied_length _ _ (IsLeftOut old olds news never are) = let rest = tidied_length olds news are in omega (arith, rest)
-
-tidied_conditions : (olds news : List Change) → AreTidied olds news → conditions news ≤ conditions olds
-tidied_conditions _ _ NoChange = omega arith
-tidied_conditions _ _ (IsLeftOut old olds news never are) =
-    let rest = tidied_conditions olds news are in
-    let a = sum_by-cons (λ (change : Change). one (is_conditional change)) old olds in
-    omega (arith, rest, a)
-tidied_conditions _ _ (IsKept old new olds news is may are) =
-    let first = stays_certain old.cond new.cond is.always in
-    let rest = tidied_conditions olds news are in
-    let a = sum_by-cons (λ (change : Change). one (is_conditional change)) old olds in
-    let b = sum_by-cons (λ (change : Change). one (is_conditional change)) new news in
-    omega (arith, first, rest, a, b)
-
-module _ (by_name : List ℕ) (monitors : List Monitor) (step : GroundStep) (effects : List Change) (has : HasChanges step.effects monitors effects) where
+module _ (by_name : List ℕ) (monitors : List Monitor) (step : GroundStep) (effects : List Change) (has : HasChanges step.pre step.effects monitors effects) where
   abbrev busy : ℕ
   busy = busy_count step.effects monitors
 
   few_changes : length effects ≤ length step.effects + 2 * busy
   few_changes =
-      let same = tidied_length (step.effects ++ has.updates) effects has.same in
+      let same = has.simpler.fewer in
       let joined = length-append step.effects has.updates in
       let few = has.few in omega (arith, same, joined, few)
 
   few_conditions : conditions effects ≤ conditions step.effects + 2 * busy
   few_conditions =
-      let same = tidied_conditions (step.effects ++ has.updates) effects has.same in
-      let joined = sum_by-append (λ (change : Change). one (is_conditional change)) step.effects has.updates in
+      let same = has.simpler.conditional in
+      let joined = sum_by-append (λ (change : Change). cond (is_conditional change) 1 0) step.effects has.updates in
       let most = count_by-le-length is_conditional has.updates in
       let few = has.few in omega (arith, same, joined, most, few)
 
@@ -140,7 +94,7 @@ module _ (by_name : List ℕ) (monitors : List Monitor) (step : GroundStep) (eff
           named = subst (IsNamedFor step.number) (sym chain.ends.has_name) (Question (end_name step.number) End);
           few = record {
             all = let a = few_changes in let l = ap length chain.ends.does ∙ length-append effects _ in let t = three in omega (arith, a, l, t);
-            conditional = let a = few_conditions in let l = ap conditions chain.ends.does ∙ sum_by-append (λ (change : Change). one (is_conditional change)) effects _ in omega (arith, a, l);
+            conditional = let a = few_conditions in let l = ap conditions chain.ends.does ∙ sum_by-append (λ (change : Change). cond (is_conditional change) 1 0) effects _ in omega (arith, a, l);
           };
         })
         (All-nil IsOf))))

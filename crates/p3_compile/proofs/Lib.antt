@@ -3,7 +3,7 @@ pub mod CopyNames
 pub mod NumberedNames
 pub mod ReaderLemmas
 pub mod WatchedLists
-pub mod TidiedLists
+pub mod SimplerChanges
 pub mod Touched
 pub mod UpdateLists
 pub mod EndLists

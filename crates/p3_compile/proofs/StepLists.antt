@@ -1,19 +1,19 @@
 -- The actions of one step, and of one step more.
-use Rattle.std.proofs.Common.{◌≡◌, ◌∙◌, ℕ, ◌+◌, ◌<◌, ◌≤◌, ◌==◌, nat_lt, Bool, true, false, not, ◌&&◌, ◌||◌, List, [], ◌∷◌, ◌++◌, length, map, take, drop, get_or, refl, sym, ap, subst, arith, append_assoc, length-append}
+use Rattle.std.proofs.Common.{◌≡◌, ◌∙◌, ℕ, ◌+◌, ◌<◌, ◌≤◌, nat_lt, Bool, true, false, ◌&&◌, List, [], ◌∷◌, ◌++◌, length, take, drop, get_or, refl, sym, ap, subst, arith, append_assoc, length-append}
 use Rattle.std.specs.Prelude.{Contains, is_some, IfOk, OnOk, Result, Ok, Err}
-use Rattle.std.specs.List.{list_all, list_any, range_with_len}
-use Rattle.std.proofs.Math.Bool.{and-false}
+use Rattle.std.specs.List.{list_all}
+use Rattle.std.proofs.Math.Bool.{and-true}
 use Rattle.std.proofs.lemmas.Bool.{and_parts, and_from, ltb-true, ltb-false}
 use Rattle.std.proofs.lemmas.List.{append-nil, take-append-drop}
 use Rattle.std.proofs.lemmas.List.Elements.{All-append, All-nil, All-weaker, Contains-append_left, Contains-push, filter-append}
 use Rattle.std.proofs.lemmas.List.Folds.{list_all-append}
 use Rattle.p3_formula.specs.Conditions.{width_limit, is_step_below, is_tidy_action}
-use Rattle.p3_formula.specs.Forms.{State, is_set, truth}
-use Rattle.p3_formula.specs.Next.{after}
+use Rattle.p3_formula.specs.Forms.{is_below, truth}
 use Rattle.p3_formula.specs.Targets.{is_sized_change}
 use Rattle.p3_formula.specs.Tidy.{is_tidy}
 use Rattle.p3_formula.specs.Weighted.{width_of}
 use Rattle.p3_formula.specs.declared.form.Change.{Change}
+use Rattle.p3_formula.specs.declared.form.Form.{Form}
 use Rattle.p3_formula.specs.declared.modal.GroundPref.{GroundPref}
 use Rattle.p3_formula.specs.declared.target.TargetAction.{TargetAction}
 use Rattle.p3_formula.specs.declared.target.Weights.{Weights}
@@ -23,60 +23,42 @@ use Rattle.p3_monitors.specs.declared.watching.Monitor.{Monitor}
 use Rattle.p3_simulation.specs.Assembled.{AreOfStep, AreOfSteps, Costless, Narrow, Wide, NoSteps, OneStep, IsSplit}
 use Rattle.p3_simulation.specs.Naming.{is_wide, wide_steps}
 use Rattle.p3_simulation.specs.Parts.{AreBefore}
-use Rattle.p3_simulation.specs.Watching.{IsEffects}
-use Rattle.p3_compile.specs.Tidied.{AreTidied, NoChange, IsKept, IsLeftOut, NeverHappens, HasTidyConditions}
+use Rattle.p3_simulation.specs.Watching.{AreGuards, NoGuards, Unguarded, IsEffects, IsGuardedPre}
 use Rattle.p3_compile.specs.Lean.{IsOfSteps, IsStepAction}
-use Rattle.p3_compile.specs.Updated.{HasChanges}
-use Rattle.p3_compile.specs.Stepping.{AreMade, HasActions, busy_in}
+use Rattle.p3_compile.specs.Updated.{HasChanges, HasTidyConditions}
+use Rattle.p3_compile.specs.Stepping.{AreMade, HasActions, busy_in, hard_monitors}
 use Rattle.p3_compile.specs.declared.stepping.Frame.{Frame}
 use Rattle.p3_compile.proofs.LeanLists.{copies_lean, chain_lean}
 use Rattle.p3_compile.proofs.WideSteps.{next_steps, wide_next, wide_one}
 
 -- ---- the changes of a step
 
-module _ (state : State) where
-  never : (first second : Bool) (change : Change) → NeverHappens change → (first && second && truth state change.cond) ≡ false
-  never first second change none = ap (λ b. first && second && b) (none state) ∙ and-false (first && second)
-
-  any_tidied : (pick : Bool → Bool) (atom : ℕ) (olds news : List Change) → AreTidied olds news
-      → list_any (λ (change : Change). (change.atom == atom) && pick change.add && truth state change.cond) news ≡ list_any (λ (change : Change). (change.atom == atom) && pick change.add && truth state change.cond) olds
-  any_tidied pick atom _ _ NoChange = refl
-  any_tidied pick atom _ _ (IsKept old new olds news is may are) =
-      λ i. ((is.atom i == atom) && pick (is.add i) && is.cond state i) || any_tidied pick atom olds news are i
-  any_tidied pick atom _ _ (IsLeftOut old olds news none are) =
-      any_tidied pick atom olds news are ∙ sym (ap (λ b. b || list_any (λ (change : Change). (change.atom == atom) && pick change.add && truth state change.cond) olds) (never (old.atom == atom) (pick old.add) old none))
-
-  -- such changes make the same state
-  after_tidied : (olds news : List Change) → AreTidied olds news → after state news ≡ after state olds
-  unfolding after
-  after_tidied olds news are =
-      λ i. map (λ atom. any_tidied (λ add. add) atom olds news are i || is_set state atom && not (any_tidied not atom olds news are i)) (range_with_len 0 (length state))
-
-sized : (bound : ℕ) (olds news : List Change) → AreTidied olds news → list_all (is_sized_change bound) olds ≡ true → list_all (is_sized_change bound) news ≡ true
-sized bound _ _ NoChange below = refl
-sized bound _ _ (IsLeftOut old olds news none are) below = sized bound olds news are (and_parts (is_sized_change bound old) _ below).1
-sized bound _ _ (IsKept old new olds news is may are) below =
-    let parts = and_parts (is_sized_change bound old) _ below in
-    let one = and_parts (nat_lt old.atom bound) _ parts.0 in
-    and_from (is_sized_change bound new) _ (and_from (nat_lt new.atom bound) _ (ap (λ atom. nat_lt atom bound) is.atom ∙ one.0) (is.reads (λ atom. nat_lt atom bound) one.1)) (sized bound olds news are parts.1)
-
-pub tidied_tidy : (olds news : List Change) → AreTidied olds news → HasTidyConditions news
-tidied_tidy _ _ NoChange = refl
-tidied_tidy _ _ (IsKept old new olds news is may are) = and_from (is_tidy new.cond) _ is.tidy (tidied_tidy olds news are)
-tidied_tidy _ _ (IsLeftOut old olds news none are) = tidied_tidy olds news are
-
-module _ (go : ℕ) (monitors : List Monitor) (step : GroundStep) (before : AreBefore go go monitors) (below : list_all (is_sized_change go) step.effects ≡ true) (effects : List Change) (has : HasChanges step.effects monitors effects) where
+module _ (go : ℕ) (monitors : List Monitor) (step : GroundStep) (before : AreBefore go go monitors) (below : list_all (is_sized_change go) step.effects ≡ true) (effects : List Change) (has : HasChanges step.pre step.effects monitors effects) where
   pub is_effects : IsEffects go monitors step effects
   is_effects = record {
     updates = has.updates;
     watched = has.watched;
-    does = λ state. after_tidied state (step.effects ++ has.updates) effects has.same;
-    below = sized go (step.effects ++ has.updates) effects has.same
+    does = has.simpler.does;
+    below = has.simpler.atoms (λ atom. nat_lt atom go)
         (list_all-append (is_sized_change go) step.effects has.updates ∙ and_from (list_all (is_sized_change go) step.effects) _ below (has.atoms.inside go go (omega arith) before below));
   }
 
 pub changed_below : (go : ℕ) (step : GroundStep) → is_step_below go step ≡ true → list_all (is_sized_change go) step.effects ≡ true
 changed_below go step below = (and_parts _ (list_all (is_sized_change go) step.effects) below).1
+
+-- ---- the precondition of a step
+
+no_guards : (step : List Change) (monitors : List Monitor) → AreGuards step monitors []
+no_guards step [] = NoGuards
+no_guards step (monitor ∷ monitors) = Unguarded monitor monitors [] (no_guards step monitors)
+
+pub unguarded : (frame : Frame) (step : GroundStep) → is_step_below frame.go step ≡ true → (pre : Form) → pre ≡ step.pre → IsGuardedPre frame.go (hard_monitors frame) step pre
+unguarded frame step below pre same = record {
+  guards = [];
+  are = no_guards step.effects (hard_monitors frame);
+  holds = λ state. ap (truth state) same ∙ sym (and-true (truth state step.pre));
+  below = ap (is_below frame.go) same ∙ (and_parts (is_below frame.go step.pre) _ (and_parts _ (list_all (is_sized_change frame.go) step.effects) below).0).0;
+}
 
 -- ---- a chain is tidy
 
@@ -107,9 +89,9 @@ module _ (frame : Frame) (weights : Weights) (step : GroundStep) where
   costs_wide costs b many = (λ i. costs i && nat_lt 8 (width_of weights.by_name step)) ∙ many
 
   -- a step that is not wide has no current atom
-  unnamed : (from : ℕ) (actions : List TargetAction) → is_wide weights.by_name step ≡ false → AreOfStep frame.go frame.first weights frame.monitors from from step actions
-      → AreOfStep frame.go frame.first weights frame.monitors from (from + length (wide_steps weights.by_name (step ∷ []))) step actions
-  unnamed from actions plain are = subst (λ n. AreOfStep frame.go frame.first weights frame.monitors from n step actions) (nothing from ∙ ap (λ list. from + length list) (sym (wide_one weights.by_name step false plain))) are
+  unnamed : (from : ℕ) (actions : List TargetAction) → is_wide weights.by_name step ≡ false → AreOfStep frame.go frame.first weights (hard_monitors frame) frame.monitors from from step actions
+      → AreOfStep frame.go frame.first weights (hard_monitors frame) frame.monitors from (from + length (wide_steps weights.by_name (step ∷ []))) step actions
+  unnamed from actions plain are = subst (λ n. AreOfStep frame.go frame.first weights (hard_monitors frame) frame.monitors from n step actions) (nothing from ∙ ap (λ list. from + length list) (sym (wide_one weights.by_name step false plain))) are
     where
       nothing : (n : ℕ) → n ≡ n + 0
       nothing n = omega arith
@@ -126,19 +108,19 @@ module _ (frame : Frame) (weights : Weights) (step : GroundStep) where
       subst (HasActions frame weights step old old) (sym empty)
       (record { next = same_number old plain; are = λ from current. unnamed from [] plain (Costless step none); tidy = refl; lean = All-nil (IsStepAction weights.by_name (busy_in frame step) step) })
 
-  pub narrow : (old : ℕ) (effects : List Change) (actions : List TargetAction) → is_some step.cost ≡ true → nat_lt 8 (width_of weights.by_name step) ≡ false → IsEffects frame.go frame.monitors step effects → HasChanges step.effects frame.monitors effects
-      → IsSplit frame.go weights step effects actions → list_all is_tidy_action actions ≡ true → HasActions frame weights step old old actions
-  narrow old effects actions costs few is has split tidy =
+  pub narrow : (old : ℕ) (pre : Form) (effects : List Change) (actions : List TargetAction) → is_some step.cost ≡ true → nat_lt 8 (width_of weights.by_name step) ≡ false → IsEffects frame.go frame.monitors step effects → HasChanges step.pre step.effects frame.monitors effects
+      → IsGuardedPre frame.go (hard_monitors frame) step pre → IsSplit frame.go weights step pre effects actions → list_all is_tidy_action actions ≡ true → HasActions frame weights step old old actions
+  narrow old pre effects actions costs few is has guarded split tidy =
       let plain = costs_wide costs false few in
-      record { next = same_number old plain; are = λ from current. unnamed from actions plain (Narrow step effects actions costs (ltb-false 8 (width_of weights.by_name step) few) is split); tidy = tidy; lean = copies_lean weights.by_name frame.monitors step effects has frame.go split.copies actions split.are }
+      record { next = same_number old plain; are = λ from current. unnamed from actions plain (Narrow step pre effects actions costs (ltb-false 8 (width_of weights.by_name step) few) is guarded split); tidy = tidy; lean = copies_lean weights.by_name frame.monitors step effects has frame.go split.copies actions split.are }
 
-  pub wide : (old new : ℕ) (effects : List Change) (actions : List TargetAction) → is_some step.cost ≡ true → nat_lt 8 (width_of weights.by_name step) ≡ true → IsEffects frame.go frame.monitors step effects → HasChanges step.effects frame.monitors effects
+  pub wide : (old new : ℕ) (effects : List Change) (actions : List TargetAction) → is_some step.cost ≡ true → nat_lt 8 (width_of weights.by_name step) ≡ true → IsEffects frame.go frame.monitors step effects → HasChanges step.pre step.effects frame.monitors effects
       → new ≡ old + 1 → IsChain frame.go frame.first old weights step effects actions → list_all is_tidy_action actions ≡ true → HasActions frame weights step old new actions
   wide old new effects actions costs many is has next chain tidy =
       let broad = costs_wide costs true many in
       record {
         next = next ∙ ap (λ list. old + length list) (sym (wide_one weights.by_name step true broad));
-        are = λ from current. subst (λ n. AreOfStep frame.go frame.first weights frame.monitors from n step actions) (ap (λ list. from + length list) (sym (wide_one weights.by_name step true broad)))
+        are = λ from current. subst (λ n. AreOfStep frame.go frame.first weights (hard_monitors frame) frame.monitors from n step actions) (ap (λ list. from + length list) (sym (wide_one weights.by_name step true broad)))
             (Wide step effects actions costs (ltb-true 8 (width_of weights.by_name step) many) is (subst (λ n. IsChain frame.go frame.first n weights step effects actions) (sym (current broad)) chain));
         tidy = tidy;
         lean = chain_lean weights.by_name frame.monitors step effects has many frame.go frame.first old weights actions refl chain;
@@ -146,13 +128,13 @@ module _ (frame : Frame) (weights : Weights) (step : GroundStep) where
 
 -- ---- one step more
 
-steps_more : (go first : ℕ) (weights : Weights) (monitors : List Monitor) (from mid next : ℕ) (steps : List GroundStep) (actions : List TargetAction) (step : GroundStep) (own : List TargetAction)
-    → AreOfSteps go first weights monitors from mid steps actions → AreOfStep go first weights monitors mid next step own → AreOfSteps go first weights monitors from next (steps ++ step ∷ []) (actions ++ own)
-steps_more go first weights monitors from mid next steps actions step own (NoSteps _) is =
-    subst (AreOfSteps go first weights monitors from next (step ∷ [])) (append-nil own) (OneStep from next next step [] own [] is (NoSteps next))
-steps_more go first weights monitors from mid next steps actions step own (OneStep _ between _ other others front rest is_other more) is =
-    subst (AreOfSteps go first weights monitors from next (other ∷ (others ++ step ∷ []))) (sym (append_assoc front rest own))
-    (OneStep from between next other (others ++ step ∷ []) front (rest ++ own) is_other (steps_more go first weights monitors between mid next others rest step own more is))
+steps_more : (go first : ℕ) (weights : Weights) (hard monitors : List Monitor) (from mid next : ℕ) (steps : List GroundStep) (actions : List TargetAction) (step : GroundStep) (own : List TargetAction)
+    → AreOfSteps go first weights hard monitors from mid steps actions → AreOfStep go first weights hard monitors mid next step own → AreOfSteps go first weights hard monitors from next (steps ++ step ∷ []) (actions ++ own)
+steps_more go first weights hard monitors from mid next steps actions step own (NoSteps _) is =
+    subst (AreOfSteps go first weights hard monitors from next (step ∷ [])) (append-nil own) (OneStep from next next step [] own [] is (NoSteps next))
+steps_more go first weights hard monitors from mid next steps actions step own (OneStep _ between _ other others front rest is_other more) is =
+    subst (AreOfSteps go first weights hard monitors from next (other ∷ (others ++ step ∷ []))) (sym (append_assoc front rest own))
+    (OneStep from between next other (others ++ step ∷ []) front (rest ++ own) is_other (steps_more go first weights hard monitors between mid next others rest step own more is))
 
 module _ (frame : Frame) (weights : Weights) (steps : List GroundStep) (index : ℕ) (step : GroundStep) (within : index < length steps) (at : step ≡ get_or steps index step) where
   -- a wide step is one of those of which some are left
@@ -188,9 +170,9 @@ module _ (frame : Frame) (weights : Weights) (steps : List GroundStep) (index : 
         record {
           next = omega (arith, more, passed, next);
           has = record {
-            are = subst (λ list. AreOfSteps frame.go frame.first weights frame.monitors (frame.first + 201) (frame.first + 201 + length (wide_steps weights.by_name (take (index + 1) steps))) list (actions ++ own)) (sym (next_steps steps index step within at))
-                (subst (λ n. AreOfSteps frame.go frame.first weights frame.monitors (frame.first + 201) n (take index steps ++ step ∷ []) (actions ++ own)) counted
-                (steps_more frame.go frame.first weights frame.monitors (frame.first + 201) (frame.first + 201 + length (wide_steps weights.by_name (take index steps))) _ (take index steps) actions step own made.has.are
+            are = subst (λ list. AreOfSteps frame.go frame.first weights (hard_monitors frame) frame.monitors (frame.first + 201) (frame.first + 201 + length (wide_steps weights.by_name (take (index + 1) steps))) list (actions ++ own)) (sym (next_steps steps index step within at))
+                (subst (λ n. AreOfSteps frame.go frame.first weights (hard_monitors frame) frame.monitors (frame.first + 201) n (take index steps ++ step ∷ []) (actions ++ own)) counted
+                (steps_more frame.go frame.first weights (hard_monitors frame) frame.monitors (frame.first + 201) (frame.first + 201 + length (wide_steps weights.by_name (take index steps))) _ (take index steps) actions step own made.has.are
                 (has.are (frame.first + 201 + length (wide_steps weights.by_name (take index steps))) current_is)));
             tidy = list_all-append is_tidy_action actions own ∙ and_from (list_all is_tidy_action actions) _ made.has.tidy has.tidy;
             lean = All-append (IsOfSteps weights.by_name (busy_in frame) (take (index + 1) steps)) actions own
@@ -205,7 +187,7 @@ pub no_steps : (frame : Frame) (weights : Weights) (first : ℕ) → AreMade fra
 no_steps frame weights first = record {
   next = nothing first;
   has = record {
-    are = subst (λ n. AreOfSteps frame.go frame.first weights frame.monitors (frame.first + 201) n [] []) (nothing (frame.first + 201)) (NoSteps (frame.first + 201));
+    are = subst (λ n. AreOfSteps frame.go frame.first weights (hard_monitors frame) frame.monitors (frame.first + 201) n [] []) (nothing (frame.first + 201)) (NoSteps (frame.first + 201));
     tidy = refl;
     lean = All-nil (IsOfSteps weights.by_name (busy_in frame) []);
   };

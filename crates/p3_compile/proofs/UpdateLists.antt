@@ -23,8 +23,6 @@ use Rattle.p3_simulation.specs.Watching.{AreUpdates, NoMore, Untouched, Touched}
 use Rattle.p3_simulation.proofs.Bounds.{all_weaker, below_more}
 use Rattle.p3_compile.specs.Updated.{AreApart, AreTouched, HasUpdate, HasUpdates, HasOwnAtoms, busy_count}
 use Rattle.p3_compile.specs.Lean.{is_busy}
-use Rattle.p3_compile.specs.Tidied.{NoChange}
-use Rattle.p3_compile.proofs.TidiedLists.{tidied-append}
 
 module _ (step : List Change) where
   updates-append : (monitors others : List Monitor) (updates more : List Change) → AreUpdates step monitors updates → AreUpdates step others more → AreUpdates step (monitors ++ others) (updates ++ more)
@@ -116,7 +114,7 @@ module _ (step : List Change) where
   -- ---- the changes as they are made
 
   pub begun : (all : List Change) → HasUpdates step [] all all
-  begun all = record { updates = []; tidied = []; watched = NoMore; few = none_counted.few; atoms = none_counted.atoms; are = sym (append-nil all); same = NoChange }
+  begun all = record { updates = []; watched = NoMore; few = none_counted.few; atoms = none_counted.atoms; are = sym (append-nil all) }
 
   pub counted_of : {monitors : List Monitor} {old all : List Change} (has : HasUpdates step monitors old all) → Counted monitors has.updates
   counted_of has = record { watched = has.watched; few = has.few; atoms = has.atoms }
@@ -136,7 +134,7 @@ module _ (step : List Change) where
         let whole : take (next + count) monitors ++ get_or monitors (next + count) d ∷ [] ≡ take place monitors = sym (next_is (next + count) d here) ∙ ap (λ n. take n monitors) (let e : next + count + 1 ≡ place = omega (arith, at) in e) in
         let counted = subst (λ list. Counted list (before.updates ++ [])) whole both in
         let plain = subst (Counted (take place monitors)) (append-nil before.updates) counted in
-        record { updates = before.updates; tidied = before.tidied; watched = plain.watched; few = plain.few; atoms = plain.atoms; are = before.are; same = before.same }
+        record { updates = before.updates; watched = plain.watched; few = plain.few; atoms = plain.atoms; are = before.are }
 
     -- the monitors up to the place of the next one that is busy, and this one
     pub one_more : (old all new : List Change) (next place : ℕ) (monitor : Monitor) → next ≤ place → place < length monitors → monitor ≡ get_or monitors place monitor → is_busy step monitor.modal ≡ true
@@ -149,12 +147,10 @@ module _ (step : List Change) where
         let counted = subst (λ list. Counted list (before.updates ++ update.updates)) whole both in
         record {
           updates = before.updates ++ update.updates;
-          tidied = before.tidied ++ update.tidied;
           watched = counted.watched;
           few = counted.few;
           atoms = counted.atoms;
-          are = update.are ∙ ap (λ list. list ++ update.tidied) before.are ∙ append_assoc old before.tidied update.tidied;
-          same = tidied-append before.updates update.updates before.tidied update.tidied before.same update.same;
+          are = update.are ∙ ap (λ list. list ++ update.updates) before.are ∙ append_assoc old before.updates update.updates;
         }
       where
         gap : (low high : ℕ) → low ≤ high → (count : ℕ) × (high ≡ low + count)

@@ -35,9 +35,10 @@ pub record IsReadyTask (G : GroundTask) : Type 0 where
 abbrev pub first_names : GroundTask → ℕ → List Name
 first_names G go = all_numbered (codes "f") 0 G.atoms ++ (all_numbered (codes "m") 0 (go - G.atoms) ++ (codes "go" ∷ all_numbered (codes "e") 0 (length G.soft + 1)))
 
--- the monitors of the constraints of the task stand one behind another, and the running atom and the chain behind them
+-- the monitors of the constraints of the task stand one behind another, those of the hard ones first, and the running atom and the chain behind them
 pub record IsFrameOf (G : GroundTask) (frame : Frame) : Type 0 where
   pub monitors : AreMonitors G.initial G.atoms frame.go (all_modals G) frame.monitors
+  pub hard : frame.hard ≡ length G.hard
   pub read : IsPermutation (readers_from 0 frame.monitors) frame.readers.items
   pub rising : IsRising frame.readers.items
   pub questions : frame.first ≡ frame.go + (length G.soft + 2)

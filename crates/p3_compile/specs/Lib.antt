@@ -3,6 +3,5 @@ pub mod Ending
 pub mod Lean
 pub mod Readers
 pub mod Stepping
-pub mod Tidied
 pub mod Updated
 pub mod Watched

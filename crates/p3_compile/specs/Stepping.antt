@@ -1,5 +1,5 @@
 -- The actions of the steps, one step after another.
-use Rattle.std.specs.Prelude.{◌≡◌, ℕ, ◌+◌, ◌^◌, ◌<◌, ◌≤◌, true, List, [], ◌∷◌, length, map, IsTrue}
+use Rattle.std.specs.Prelude.{◌≡◌, ℕ, ◌+◌, ◌^◌, ◌<◌, ◌≤◌, true, List, [], ◌∷◌, length, map, take, IsTrue}
 use Rattle.std.specs.List.{All, list_all}
 use Rattle.std.specs.List.Sorted.{IsPermutation}
 use Rattle.p3_base.specs.Words.{Name}
@@ -9,6 +9,7 @@ use Rattle.p3_formula.specs.Weighted.{AreNamedBelow}
 use Rattle.p3_formula.specs.declared.target.TargetAction.{TargetAction}
 use Rattle.p3_formula.specs.declared.target.Weights.{Weights}
 use Rattle.p3_formula.specs.declared.task.GroundStep.{GroundStep}
+use Rattle.p3_monitors.specs.declared.watching.Monitor.{Monitor}
 use Rattle.p3_simulation.specs.Assembled.{AreOfStep, AreOfSteps}
 use Rattle.p3_simulation.specs.Naming.{current_name, is_wide, wide_steps}
 use Rattle.p3_simulation.specs.Parts.{AreBefore}
@@ -17,6 +18,10 @@ use Rattle.p3_compile.specs.Lean.{IsOfSteps, IsStepAction}
 use Rattle.p3_compile.specs.Updated.{AreApart, busy_count}
 use Rattle.p3_compile.specs.declared.begun.BegunTarget.{BegunTarget}
 use Rattle.p3_compile.specs.declared.stepping.Frame.{Frame}
+
+-- the monitors of the hard constraints, which are the first ones
+abbrev pub hard_monitors : Frame → List Monitor
+hard_monitors frame = take frame.hard frame.monitors
 
 -- the monitors' atoms stand before the running atom, and the readers are those of the monitors
 pub record IsFrame (frame : Frame) : Type 0 where
@@ -53,14 +58,14 @@ busy_in frame step = busy_count step.effects frame.monitors
 -- tidy actions of the step, with few changes, and the next current atom
 pub record HasActions (frame : Frame) (weights : Weights) (step : GroundStep) (old new : ℕ) (actions : List TargetAction) : Type 0 where
   pub next : new ≡ old + length (wide_steps weights.by_name (step ∷ []))
-  pub are : (from : ℕ) → HasCurrentAtom from weights step old → AreOfStep frame.go frame.first weights frame.monitors from (from + length (wide_steps weights.by_name (step ∷ []))) step actions
+  pub are : (from : ℕ) → HasCurrentAtom from weights step old → AreOfStep frame.go frame.first weights (hard_monitors frame) frame.monitors from (from + length (wide_steps weights.by_name (step ∷ []))) step actions
   pub tidy : list_all is_tidy_action actions ≡ true
   pub lean : All (IsStepAction weights.by_name (busy_in frame step) step) actions
 
 -- ---- the actions of all steps
 
 pub record HasStepActions (frame : Frame) (weights : Weights) (steps : List GroundStep) (actions : List TargetAction) : Type 0 where
-  pub are : AreOfSteps frame.go frame.first weights frame.monitors (frame.first + 201) (frame.first + 201 + length (wide_steps weights.by_name steps)) steps actions
+  pub are : AreOfSteps frame.go frame.first weights (hard_monitors frame) frame.monitors (frame.first + 201) (frame.first + 201 + length (wide_steps weights.by_name steps)) steps actions
   pub tidy : list_all is_tidy_action actions ≡ true
   pub lean : All (IsOfSteps weights.by_name (busy_in frame) steps) actions
 

@@ -54,8 +54,10 @@ fn framed(alloc: Global, names: &mut List<Name>, task: &GroundTask) -> Result<Fr
     let chain = names.len();
     push_numbered(alloc, names, "e", chain, task.soft.len() + 1)?;
     let first = names.len();
+    let hard = task.hard.len();
     Ok(Frame {
         monitors,
+        hard,
         readers,
         go,
         first,

@@ -5,14 +5,14 @@ ghost use Rattle.std.specs.List.{list_all};
 ghost use Rattle.p3_base.specs.Copies.{copy_name};
 ghost use Rattle.p3_formula.specs.Conditions.{weight_bound, is_tidy_action};
 ghost use Rattle.p3_formula.specs.Weighted as weigh;
-ghost use Rattle.p3_compile.specs.Tidied.{HasTidyConditions};
+ghost use Rattle.p3_compile.specs.Updated.{HasTidyConditions};
 ghost use Rattle.p3_simulation.specs.Assembled.{IsCopyAction, AreCopyActions, IsSplit};
 ghost use Rattle.p3_simulation.specs.Naming.{pattern};
 
 use itoa::Buffer;
 use p3_base::{List, Name, NoMemory};
-use p3_formula::{Effects, GroundStep, TargetAction, Weights, effects_copied, guarding};
-use p3_precprefs::{StepCopy, split};
+use p3_formula::{Effects, Form, GroundStep, TargetAction, Weights, effects_copied, guarding};
+use p3_precprefs::{StepCopy, split_under};
 use std::alloc::Global;
 
 /// Behind the text a digit for each preference: 1 where it is violated, and else 0.
@@ -122,11 +122,12 @@ fn actions_of_copies(
     Ok(List::from(actions))
 }
 
-/// The actions of a step with at most 8 weighted preferences, where these are the changes that the
-/// step makes in the target.
+/// The actions of a step with at most 8 weighted preferences, where this is the precondition of its
+/// copies in the place of its own, and these are the changes that it makes in the target.
 pub(crate) fn narrow_actions(
     alloc: Global,
     step: &GroundStep,
+    pre: Form,
     effects: Effects,
     weights: &Weights,
     go: usize,
@@ -136,11 +137,11 @@ pub(crate) fn narrow_actions(
     requires few { weigh.width_of weights.now.by_name step.now ≤ 8 }
     requires room { weigh.weighted_cost weights.now step.now
         + sum_by (weigh.weight_of weights.now.by_name) step.now.prefs < weight_bound }
-    ensures split { IfOk result (IsSplit go weights.now step.now effects) }
+    ensures split { IfOk result (IsSplit go weights.now step.now pre effects) }
     // They are tidy where the changes are.
     ensures tidy { HasTidyConditions effects
         → IfOk result (λ actions. IsTrue (list_all is_tidy_action actions)) }
 {
-    let copies = split(alloc, step, weights)?;
+    let copies = split_under(alloc, pre, step, weights)?;
     actions_of_copies(alloc, step.number, effects, copies, go)
 }

@@ -9,14 +9,14 @@ ghost use Rattle.p3_formula.specs.declared.task.GroundStep.{GroundStep};
 ghost use Rattle.p3_precprefs.specs.Questions.{IsChain};
 ghost use Rattle.p3_simulation.specs.Naming.{is_wide};
 ghost use Rattle.p3_compile.specs.Stepping.{IsFrame, IsStepReady, HasActions, HasRoom};
-ghost use Rattle.p3_compile.specs.Tidied.{HasTidyConditions};
+ghost use Rattle.p3_compile.specs.Updated.{HasTidyConditions};
 
 use crate::changes::step_changes;
 use crate::narrow::narrow_actions;
 use crate::reading::Reader;
 use crate::weighing::{has_many_weights, is_wide};
 use p3_base::{List, NoMemory};
-use p3_formula::{Effects, GroundStep, TargetAction, Weights};
+use p3_formula::{Effects, GroundStep, TargetAction, Weights, copied};
 use p3_monitors::Monitor;
 use p3_precprefs::ask;
 use std::alloc::Global;
@@ -24,8 +24,10 @@ use std::alloc::Global;
 /// What the actions of all steps share.
 #[derive(Drop)]
 pub(crate) struct Frame {
-    /// The monitors of all constraints.
+    /// The monitors of all constraints, those of the hard ones first.
     pub(crate) monitors: List<Monitor>,
+    /// How many of them are of hard constraints.
+    pub(crate) hard: usize,
     /// Which of them read an atom, by rising atom.
     pub(crate) readers: Vec<Reader>,
     /// The running atom.
@@ -90,11 +92,12 @@ fn costed_actions(
     requires room { HasRoom frame.now weights.now step.now current.old }
     ensures { IfOk result (HasActions frame.now weights.now step.now current.old current.new) }
 {
-    let effects = step_changes(alloc, frame.monitors.items(), &frame.readers, &step.effects)?;
+    let effects = step_changes(alloc, frame.monitors.items(), &frame.readers, step)?;
     if has_many_weights(&weights.by_name, step) {
         return chain_actions(alloc, current, frame, weights, step, &effects);
     }
-    narrow_actions(alloc, step, effects, weights, frame.go)
+    let pre = copied(alloc, &step.pre)?;
+    narrow_actions(alloc, step, pre, effects, weights, frame.go)
 }
 
 /// The actions stand behind the others.

@@ -23,6 +23,7 @@ returns c = framed_is c.args.task.now _ c.push_numbered.new.names c.monitors.new
     (c.in_ok-push.ensures.ok ∙ ap (λ name. c.monitors.new.names ++ name ∷ []) c.in_ok-running_name.ensures)
     (c.in_ok-push_numbered-2.ensures ∙ (λ i. named_more (codes "e") (c.len-chain.ensures i) c.push.new.self (c.len.ensures i + 1)))
     c.len-first.ensures
+    c.len-hard.ensures
     (subst (λ monitors. IsPermutation (readers_from 0 monitors) c.in_ok-readers.readers.items) c.items.ensures c.in_ok-readers.ensures.same)
     c.in_ok-readers.ensures.rising
     c.len-first.type_inv

@@ -1,7 +1,6 @@
-use Rattle.std.proofs.Common.{take}
-use Rattle.p3_compile.specs.Tidied.{HasTidied}
+use Rattle.std.proofs.Common.{◌≡◌, ◌++◌, take}
 use Rattle.p3_compile.proofs.changes.push_own.Given as goal
 
--- the changes passed stand there
+-- copies of the changes passed stand there
 abbrev pub invariant-loop-change : goal.invariant-loop-change
-invariant-loop-change l = HasTidied (take l.change-index l.changes) l.fn.all l.all
+invariant-loop-change l = l.all.items ≡ l.fn.all.items ++ take l.change-index l.changes
