@@ -1,6 +1,7 @@
 -- The actions of copies: one more, and that they are tidy.
 use Rattle.std.proofs.Common.{◌≡◌, ◌∙◌, ◌<◌, ◌+◌, ℕ, true, List, [], ◌∷◌, ◌++◌, length, take, get_or, refl, sym, ap, subst}
-use Rattle.std.specs.List.{list_all}
+use Rattle.std.specs.List.{All, list_all}
+use Rattle.std.proofs.lemmas.List.Elements.{All-append, All-cons, All-head, All-nil, All-tail}
 use Rattle.std.proofs.lemmas.Bool.{and_from}
 use Rattle.std.proofs.lemmas.List.{take_more}
 use Rattle.p3_formula.specs.Conditions.{is_tidy_action}
@@ -8,7 +9,7 @@ use Rattle.p3_formula.specs.Tidy.{is_tidy}
 use Rattle.p3_formula.specs.declared.form.Change.{Change}
 use Rattle.p3_formula.specs.declared.target.TargetAction.{TargetAction}
 use Rattle.p3_precprefs.specs.declared.copies.StepCopy.{StepCopy}
-use Rattle.p3_compile.specs.Updated.{HasTidyConditions}
+use Rattle.p3_compile.specs.Updated.{HasSimpler}
 use Rattle.p3_simulation.specs.Assembled.{IsCopyAction, AreCopyActions}
 
 module _ (go number : ℕ) (effects : List Change) where
@@ -23,12 +24,15 @@ module _ (go number : ℕ) (effects : List Change) where
   copies_next copies actions index copy action within at are is =
       subst (λ list. AreCopyActions go number effects list (actions ++ action ∷ [])) (sym (take_more copies index copy within ∙ ap (λ one. take index copies ++ one ∷ []) (sym at))) (copies_more (take index copies) actions copy action are is)
 
-  module _ (tidy : HasTidyConditions effects) where
-    pub copies_tidy : (copies : List StepCopy) (actions : List TargetAction) → AreCopyActions go number effects copies actions → list_all is_tidy_action actions ≡ true
-    copies_tidy [] [] are = refl
-    copies_tidy [] (other ∷ actions) are = absurd are
-    copies_tidy (copy ∷ copies) [] are = absurd are
-    copies_tidy (copy ∷ copies) (action ∷ actions) are =
-        and_from (is_tidy_action action) _
-        (and_from (is_tidy action.pre) _ are.0.pre.tidy (subst HasTidyConditions (sym are.0.does) tidy))
-        (copies_tidy copies actions are.1)
+  pub copies_tidy : (copies : List StepCopy) (actions : List TargetAction) → AreCopyActions go number effects copies actions → All (HasSimpler effects) actions → list_all is_tidy_action actions ≡ true
+  copies_tidy [] [] are simpler = refl
+  copies_tidy [] (other ∷ actions) are simpler = absurd are
+  copies_tidy (copy ∷ copies) [] are simpler = absurd are
+  copies_tidy (copy ∷ copies) (action ∷ actions) are simpler =
+      and_from (is_tidy_action action) _
+      (and_from (is_tidy action.pre) _ are.0.pre.tidy (All-head (HasSimpler effects) action actions simpler).tidy)
+      (copies_tidy copies actions are.1 (All-tail (HasSimpler effects) action actions simpler))
+
+  -- the actions so far, and one more
+  pub simpler_more : (actions : List TargetAction) (action : TargetAction) → All (HasSimpler effects) actions → HasSimpler effects action → All (HasSimpler effects) (actions ++ action ∷ [])
+  simpler_more actions action all one = All-append (HasSimpler effects) actions (action ∷ []) all (All-cons (HasSimpler effects) action [] one (All-nil (HasSimpler effects)))

@@ -2,7 +2,7 @@
 use Rattle.std.proofs.Common.{◌≡◌, ◌∙◌, ℕ, ◌+◌, ◌*◌, ◌≤◌, nat_lt, true, false, cond, List, [], ◌∷◌, ◌++◌, length, refl, sym, ap, subst, arith, length-append}
 use Rattle.std.specs.Prelude.{count_by, if◌then◌else◌}
 use Rattle.std.specs.List.{All}
-use Rattle.std.proofs.lemmas.List.Elements.{All-append, All-cons, All-nil}
+use Rattle.std.proofs.lemmas.List.Elements.{All-append, All-cons, All-head, All-nil, All-tail}
 use Rattle.std.proofs.lemmas.List.Sums.{count_by-le-length, sum_by-append}
 use Rattle.p3_formula.specs.Weighted.{weighted, width_of}
 use Rattle.p3_formula.specs.declared.form.Change.{Change}
@@ -17,7 +17,7 @@ use Rattle.p3_precprefs.specs.declared.copies.StepCopy.{StepCopy}
 use Rattle.p3_simulation.specs.Assembled.{AreCopyActions}
 use Rattle.p3_simulation.specs.Naming.{pattern}
 use Rattle.p3_compile.specs.Lean.{HasFew, IsStepAction, chain_changes, is_conditional}
-use Rattle.p3_compile.specs.Updated.{HasChanges, busy_count}
+use Rattle.p3_compile.specs.Updated.{HasChanges, HasSimpler, busy_count}
 
 abbrev conditions : List Change → ℕ
 conditions changes = count_by is_conditional changes
@@ -44,19 +44,21 @@ module _ (by_name : List ℕ) (monitors : List Monitor) (step : GroundStep) (eff
 
   -- ---- copies
 
-  pub copies_lean : (go : ℕ) (copies : List StepCopy) (actions : List TargetAction) → AreCopyActions go step.number effects copies actions → All IsOf actions
-  copies_lean go [] [] are = All-nil IsOf
-  copies_lean go [] (action ∷ actions) are = absurd are
-  copies_lean go (copy ∷ copies) [] are = absurd are
-  copies_lean go (copy ∷ copies) (action ∷ actions) are = All-cons IsOf action actions
+  pub copies_lean : (go : ℕ) (copies : List StepCopy) (actions : List TargetAction) → AreCopyActions go step.number effects copies actions → All (HasSimpler effects) actions → All IsOf actions
+  copies_lean go [] [] are simpler = All-nil IsOf
+  copies_lean go [] (action ∷ actions) are simpler = absurd are
+  copies_lean go (copy ∷ copies) [] are simpler = absurd are
+  copies_lean go (copy ∷ copies) (action ∷ actions) are simpler =
+      let own = All-head (HasSimpler effects) action actions simpler in
+      All-cons IsOf action actions
       (record {
         named = subst (IsNamedFor step.number) (sym are.0.named) (Copy (pattern copy.violated));
         few = record {
-          all = let a = few_changes in let l = ap length are.0.does in omega (arith, a, l);
-          conditional = let a = few_conditions in let l = ap conditions are.0.does in omega (arith, a, l);
+          all = let a = few_changes in let l = own.fewer in omega (arith, a, l);
+          conditional = let a = few_conditions in let l = own.conditional in omega (arith, a, l);
         };
       })
-      (copies_lean go copies actions are.1)
+      (copies_lean go copies actions are.1 (All-tail (HasSimpler effects) action actions simpler))
 
   -- ---- a chain
 

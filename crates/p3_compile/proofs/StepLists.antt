@@ -1,7 +1,7 @@
 -- The actions of one step, and of one step more.
 use Rattle.std.proofs.Common.{◌≡◌, ◌∙◌, ℕ, ◌+◌, ◌<◌, ◌≤◌, nat_lt, Bool, true, false, ◌&&◌, List, [], ◌∷◌, ◌++◌, length, take, drop, get_or, refl, sym, ap, subst, arith, append_assoc, length-append}
 use Rattle.std.specs.Prelude.{Contains, is_some, IfOk, OnOk, Result, Ok, Err}
-use Rattle.std.specs.List.{list_all}
+use Rattle.std.specs.List.{All, list_all}
 use Rattle.std.proofs.Math.Bool.{and-true}
 use Rattle.std.proofs.lemmas.Bool.{and_parts, and_from, ltb-true, ltb-false}
 use Rattle.std.proofs.lemmas.List.{append-nil, take-append-drop}
@@ -25,7 +25,7 @@ use Rattle.p3_simulation.specs.Naming.{is_wide, wide_steps}
 use Rattle.p3_simulation.specs.Parts.{AreBefore}
 use Rattle.p3_simulation.specs.Watching.{AreGuards, NoGuards, Unguarded, IsEffects, IsGuardedPre}
 use Rattle.p3_compile.specs.Lean.{IsOfSteps, IsStepAction}
-use Rattle.p3_compile.specs.Updated.{HasChanges, HasTidyConditions}
+use Rattle.p3_compile.specs.Updated.{HasChanges, HasSimpler, HasTidyConditions}
 use Rattle.p3_compile.specs.Stepping.{AreMade, HasActions, busy_in, hard_monitors}
 use Rattle.p3_compile.specs.declared.stepping.Frame.{Frame}
 use Rattle.p3_compile.proofs.LeanLists.{copies_lean, chain_lean}
@@ -109,10 +109,10 @@ module _ (frame : Frame) (weights : Weights) (step : GroundStep) where
       (record { next = same_number old plain; are = λ from current. unnamed from [] plain (Costless step none); tidy = refl; lean = All-nil (IsStepAction weights.by_name (busy_in frame step) step) })
 
   pub narrow : (old : ℕ) (pre : Form) (effects : List Change) (actions : List TargetAction) → is_some step.cost ≡ true → nat_lt 8 (width_of weights.by_name step) ≡ false → IsEffects frame.go frame.monitors step effects → HasChanges step.pre step.effects frame.monitors effects
-      → IsGuardedPre frame.go (hard_monitors frame) step pre → IsSplit frame.go weights step pre effects actions → list_all is_tidy_action actions ≡ true → HasActions frame weights step old old actions
-  narrow old pre effects actions costs few is has guarded split tidy =
+      → IsGuardedPre frame.go (hard_monitors frame) step pre → IsSplit frame.go weights step pre effects actions → list_all is_tidy_action actions ≡ true → All (HasSimpler effects) actions → HasActions frame weights step old old actions
+  narrow old pre effects actions costs few is has guarded split tidy simpler =
       let plain = costs_wide costs false few in
-      record { next = same_number old plain; are = λ from current. unnamed from actions plain (Narrow step pre effects actions costs (ltb-false 8 (width_of weights.by_name step) few) is guarded split); tidy = tidy; lean = copies_lean weights.by_name frame.monitors step effects has frame.go split.copies actions split.are }
+      record { next = same_number old plain; are = λ from current. unnamed from actions plain (Narrow step pre effects actions costs (ltb-false 8 (width_of weights.by_name step) few) is guarded split); tidy = tidy; lean = copies_lean weights.by_name frame.monitors step effects has frame.go split.copies actions split.are simpler }
 
   pub wide : (old new : ℕ) (effects : List Change) (actions : List TargetAction) → is_some step.cost ≡ true → nat_lt 8 (width_of weights.by_name step) ≡ true → IsEffects frame.go frame.monitors step effects → HasChanges step.pre step.effects frame.monitors effects
       → new ≡ old + 1 → IsChain frame.go frame.first old weights step effects actions → list_all is_tidy_action actions ≡ true → HasActions frame weights step old new actions
@@ -205,3 +205,7 @@ both_known (Err e) p q n f = tt
 pub both_of : {A E : Type 0} {P Q R : A → Type 0} (result : Result A E) → IfOk result P → IfOk result Q → ((x : A) → P x → Q x → R x) → IfOk result R
 both_of (Ok x) p q f = f x p q
 both_of (Err e) p q f = tt
+
+pub three_of : {A E : Type 0} {P Q R S : A → Type 0} (result : Result A E) → IfOk result P → IfOk result Q → IfOk result R → ((x : A) → P x → Q x → R x → S x) → IfOk result S
+three_of (Ok x) p q r f = f x p q r
+three_of (Err e) p q r f = tt

@@ -9,6 +9,7 @@ use Rattle.p3_formula.specs.Targets.{has_change_atoms, is_sized_change}
 use Rattle.p3_formula.specs.Tidy.{is_tidy}
 use Rattle.p3_formula.specs.declared.form.Change.{Change}
 use Rattle.p3_formula.specs.declared.form.Form.{Form}
+use Rattle.p3_formula.specs.declared.target.TargetAction.{TargetAction}
 use Rattle.p3_monitors.specs.KeepsOn.{HasNone, HasConditions, AreOwn, KeepsOn}
 use Rattle.p3_monitors.specs.declared.watching.Monitor.{Monitor}
 use Rattle.p3_simulation.specs.Parts.{AreBefore}
@@ -69,6 +70,12 @@ pub record AreSimpler (pre : Form) (old new : List Change) : Type 0 where
   pub fewer : length new ≤ length old
   pub conditional : count_by is_conditional new ≤ count_by is_conditional old
   pub atoms : (allowed : ℕ → Bool) → list_all (has_change_atoms allowed) old ≡ true → list_all (has_change_atoms allowed) new ≡ true
+
+-- the action has tidy changes, which are no more than those, and of which no more have a condition
+pub record HasSimpler (effects : List Change) (action : TargetAction) : Type 0 where
+  pub tidy : HasTidyConditions action.effects
+  pub fewer : length action.effects ≤ length effects
+  pub conditional : count_by is_conditional action.effects ≤ count_by is_conditional effects
 
 -- what the changes of the step and of the monitors that it touches become where it fits
 pub record HasChanges (pre : Form) (step : List Change) (monitors : List Monitor) (changes : List Change) : Type 0 where

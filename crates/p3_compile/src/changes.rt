@@ -122,7 +122,7 @@ fn are_certain(changes: &[Change]) -> bool
 }
 
 /// Changes that do the same where the precondition holds, with tidy conditions.
-fn simpler(alloc: Global, pre: &Form, changes: Effects) -> Result<Effects, NoMemory>
+pub(crate) fn simpler(alloc: Global, pre: &Form, changes: Effects) -> Result<Effects, NoMemory>
     ensures { IfOk result (AreSimpler pre.now changes) }
 {
     if are_certain(changes.items()) {
