@@ -1,5 +1,5 @@
 -- What is put together is an assembled target.
-use Rattle.std.proofs.Common.{◌≡◌, ◌∙◌, ℕ, zero, suc, ◌+◌, ◌-◌, ◌<◌, ◌≤◌, Bool, true, false, List, [], ◌∷◌, ◌++◌, length, get_or, replicate, take, refl, ap, subst, arith, append_assoc, length-append}
+use Rattle.std.proofs.Common.{◌≡◌, ◌∙◌, ℕ, zero, suc, ◌+◌, ◌-◌, ◌<◌, ◌≤◌, Bool, true, false, List, [], ◌∷◌, ◌++◌, length, get_or, replicate, take, refl, sym, ap, subst, arith, append_assoc, length-append}
 use Rattle.std.specs.Prelude.{codes}
 use Rattle.std.specs.List.{All, flat_map, list_all}
 use Rattle.std.proofs.lemmas.Bool.{and_parts, and_from}
@@ -26,6 +26,7 @@ use Rattle.p3_compile.specs.Compiling.{IsBegun, IsFrameOf, first_names, target_o
 use Rattle.p3_compile.specs.Stepping.{HasStepActions, IsFrame, IsStepReady, current_names}
 use Rattle.p3_compile.specs.declared.begun.BegunTarget.{BegunTarget}
 use Rattle.p3_compile.specs.declared.stepping.Frame.{Frame}
+use Rattle.p3_compile.proofs.EndLaws.{hard_inside}
 use Rattle.p3_compile.proofs.FrameLaws.{frame_before, frame_behind, sources_inside}
 use Rattle.p3_compile.proofs.StepLists.{changed_below}
 
@@ -38,7 +39,7 @@ all_at test (x ∷ xs) (suc k) d all within = all_at test xs k d (and_parts (tes
 
 module _ (G : GroundTask) (weights : Weights) (frame : Frame) (ready : IsReady G weights) (is : IsFrameOf G frame) where
   pub frame_is : IsFrame frame
-  frame_is = record { questions = let q = is.questions in omega (arith, q); before = frame_before G frame is ready.atoms; read = is.read; rising = is.rising }
+  frame_is = record { questions = let q = is.questions in omega (arith, q); before = frame_before G frame is ready.atoms; hard = subst (λ n. n ≤ length frame.monitors) (sym is.hard) (hard_inside G frame is); read = is.read; rising = is.rising }
 
   pub steps_ready : All (IsStepReady frame weights) G.steps
   steps_ready = λ k d within.

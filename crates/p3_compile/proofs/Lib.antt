@@ -6,6 +6,7 @@ pub mod WatchedLists
 pub mod SimplerChanges
 pub mod Touched
 pub mod UpdateLists
+pub mod GuardLists
 pub mod EndLists
 pub mod WideSteps
 pub mod StepLists

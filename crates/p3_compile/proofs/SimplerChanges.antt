@@ -25,16 +25,16 @@ is_true (Or' shape parts) h = absurd (true≢false (sym h))
 
 -- ---- changes that happen always
 
-certain_tidy : (changes : List Change) → list_all (λ (change : Change). is_value true change.cond) changes ≡ true → list_all (λ (change : Change). is_tidy change.cond) changes ≡ true
+pub certain_tidy : (changes : List Change) → list_all (λ (change : Change). is_value true change.cond) changes ≡ true → list_all (λ (change : Change). is_tidy change.cond) changes ≡ true
 certain_tidy [] all = refl
 certain_tidy (change ∷ changes) all =
     let parts = and_parts (is_value true change.cond) _ all in
     and_from (is_tidy change.cond) _ (ap is_tidy (is_true change.cond parts.0)) (certain_tidy changes parts.1)
 
-pub certain_simpler : (pre : Form) (changes : List Change) → list_all (λ (change : Change). is_value true change.cond) changes ≡ true → AreSimpler pre changes changes
-certain_simpler pre changes all = record {
+-- changes as they are
+pub certain_simpler : (pre : Form) (changes : List Change) → AreSimpler pre changes changes
+certain_simpler pre changes = record {
   does = λ state holds. refl;
-  tidy = certain_tidy changes all;
   fewer = omega arith;
   conditional = omega arith;
   atoms = λ allowed within. within;

@@ -2,13 +2,12 @@
 use Rattle.std.proofs.Common.{◌≡◌, ◌∙◌, ℕ, ◌+◌, ◌<◌, ◌≤◌, nat_lt, Bool, true, false, ◌&&◌, List, [], ◌∷◌, ◌++◌, length, take, drop, get_or, refl, sym, ap, subst, arith, append_assoc, length-append}
 use Rattle.std.specs.Prelude.{Contains, is_some, IfOk, OnOk, Result, Ok, Err}
 use Rattle.std.specs.List.{All, list_all}
-use Rattle.std.proofs.Math.Bool.{and-true}
 use Rattle.std.proofs.lemmas.Bool.{and_parts, and_from, ltb-true, ltb-false}
 use Rattle.std.proofs.lemmas.List.{append-nil, take-append-drop}
 use Rattle.std.proofs.lemmas.List.Elements.{All-append, All-nil, All-weaker, Contains-append_left, Contains-push, filter-append}
 use Rattle.std.proofs.lemmas.List.Folds.{list_all-append}
 use Rattle.p3_formula.specs.Conditions.{width_limit, is_step_below, is_tidy_action}
-use Rattle.p3_formula.specs.Forms.{is_below, truth}
+use Rattle.p3_formula.specs.Forms.{is_below}
 use Rattle.p3_formula.specs.Targets.{is_sized_change}
 use Rattle.p3_formula.specs.Tidy.{is_tidy}
 use Rattle.p3_formula.specs.Weighted.{width_of}
@@ -23,11 +22,12 @@ use Rattle.p3_monitors.specs.declared.watching.Monitor.{Monitor}
 use Rattle.p3_simulation.specs.Assembled.{AreOfStep, AreOfSteps, Costless, Narrow, Wide, NoSteps, OneStep, IsSplit}
 use Rattle.p3_simulation.specs.Naming.{is_wide, wide_steps}
 use Rattle.p3_simulation.specs.Parts.{AreBefore}
-use Rattle.p3_simulation.specs.Watching.{AreGuards, NoGuards, Unguarded, IsEffects, IsGuardedPre}
+use Rattle.p3_simulation.specs.Watching.{IsEffects, IsGuardedPre}
 use Rattle.p3_compile.specs.Lean.{IsOfSteps, IsStepAction}
-use Rattle.p3_compile.specs.Updated.{HasChanges, HasSimpler, HasTidyConditions}
+use Rattle.p3_compile.specs.Updated.{AreSimpler, HasChanges, HasMade, HasSimpler, HasTidyConditions}
 use Rattle.p3_compile.specs.Stepping.{AreMade, HasActions, busy_in, hard_monitors}
 use Rattle.p3_compile.specs.declared.stepping.Frame.{Frame}
+use Rattle.p3_compile.proofs.SimplerChanges.{certain_simpler}
 use Rattle.p3_compile.proofs.LeanLists.{copies_lean, chain_lean}
 use Rattle.p3_compile.proofs.WideSteps.{next_steps, wide_next, wide_one}
 
@@ -43,22 +43,23 @@ module _ (go : ℕ) (monitors : List Monitor) (step : GroundStep) (before : AreB
         (list_all-append (is_sized_change go) step.effects has.updates ∙ and_from (list_all (is_sized_change go) step.effects) _ below (has.atoms.inside go go (omega arith) before below));
   }
 
+-- changes that are not simplified do the same
+pub made_same : (pre : Form) (step : List Change) (monitors : List Monitor) (changes : List Change) → HasMade step monitors changes → HasChanges pre step monitors changes
+made_same pre step monitors changes made = record {
+  updates = made.updates;
+  watched = made.watched;
+  few = made.few;
+  atoms = made.atoms;
+  simpler = subst (λ old. AreSimpler pre old changes) made.are (certain_simpler pre changes);
+}
+
 pub changed_below : (go : ℕ) (step : GroundStep) → is_step_below go step ≡ true → list_all (is_sized_change go) step.effects ≡ true
 changed_below go step below = (and_parts _ (list_all (is_sized_change go) step.effects) below).1
 
 -- ---- the precondition of a step
 
-no_guards : (step : List Change) (monitors : List Monitor) → AreGuards step monitors []
-no_guards step [] = NoGuards
-no_guards step (monitor ∷ monitors) = Unguarded monitor monitors [] (no_guards step monitors)
-
-pub unguarded : (frame : Frame) (step : GroundStep) → is_step_below frame.go step ≡ true → (pre : Form) → pre ≡ step.pre → IsGuardedPre frame.go (hard_monitors frame) step pre
-unguarded frame step below pre same = record {
-  guards = [];
-  are = no_guards step.effects (hard_monitors frame);
-  holds = λ state. ap (truth state) same ∙ sym (and-true (truth state step.pre));
-  below = ap (is_below frame.go) same ∙ (and_parts (is_below frame.go step.pre) _ (and_parts _ (list_all (is_sized_change frame.go) step.effects) below).0).0;
-}
+pub pre_below : (go : ℕ) (step : GroundStep) → is_step_below go step ≡ true → is_below go step.pre ≡ true
+pre_below go step below = (and_parts (is_below go step.pre) _ (and_parts _ (list_all (is_sized_change go) step.effects) below).0).0
 
 -- ---- a chain is tidy
 

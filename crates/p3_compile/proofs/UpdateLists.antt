@@ -38,11 +38,11 @@ module _ (step : List Change) where
     pub few : length updates ≤ 2 * busy_count step monitors
     pub atoms : HasOwnAtoms step monitors updates
 
-  before_front : (sources bound : ℕ) (monitors others : List Monitor) → AreBefore sources bound (monitors ++ others) → AreBefore sources bound monitors
+  pub before_front : (sources bound : ℕ) (monitors others : List Monitor) → AreBefore sources bound (monitors ++ others) → AreBefore sources bound monitors
   before_front sources bound [] others before = tt
   before_front sources bound (monitor ∷ monitors) others before = (before.0, before.1, before_front sources bound monitors others before.2)
 
-  before_back : (sources bound : ℕ) (monitors others : List Monitor) → AreBefore sources bound (monitors ++ others) → AreBefore sources bound others
+  pub before_back : (sources bound : ℕ) (monitors others : List Monitor) → AreBefore sources bound (monitors ++ others) → AreBefore sources bound others
   before_back sources bound [] others before = before
   before_back sources bound (monitor ∷ monitors) others before = before_back sources bound monitors others before.2
 
@@ -93,6 +93,19 @@ module _ (step : List Change) where
       let second = and_parts (has_atoms (λ atom. nat_lt atom bound) change.cond) _ read in
       and_from (is_sized_change bound change) _ (and_from (nat_lt change.atom bound) _ first.0 second.0) (both_tests bound changes first.1 second.1)
 
+  -- the monitor's own atoms, those of its constraint and those of the step's conditions are below a number
+  pub record IsInside (monitor : Monitor) (bound : ℕ) : Type 0 where
+    pub own : (atom : ℕ) → is_own monitor.base monitor.modal atom ≡ true → nat_lt atom bound ≡ true
+    pub modal : list_all (has_atoms (λ atom. nat_lt atom bound)) (forms_of monitor.modal) ≡ true
+    pub conds : list_all (λ (change : Change). has_atoms (λ atom. nat_lt atom bound) change.cond) step ≡ true
+
+  pub parts_inside : (monitor : Monitor) (others : List Monitor) (sources bound : ℕ) → sources ≤ bound → AreBefore sources bound (monitor ∷ others) → list_all (is_sized_change sources) step ≡ true → IsInside monitor bound
+  parts_inside monitor others sources bound wider before sized = record {
+    own = λ atom is. let end = ltb-true atom (monitor.base + atom_count monitor.modal) (and_parts (nat_le monitor.base atom) _ is).1 in let most = before.1 in lt-ltb atom bound (omega (arith, end, most));
+    modal = all_have_more_of (λ atom. nat_lt atom sources) (λ atom. nat_lt atom bound) (λ atom low. let l = ltb-true atom sources low in lt-ltb atom bound (omega (arith, l, wider))) (forms_of monitor.modal) before.0;
+    conds = all_weaker (is_sized_change sources) (λ (change : Change). has_atoms (λ atom. nat_lt atom bound) change.cond) (λ change is. below_more sources bound wider change.cond (and_parts (nat_lt change.atom sources) _ is).1) step sized;
+  }
+
   busy_counted : (monitor : Monitor) (updates : List Change) → AreOwn monitor.base monitor.modal updates → KeepsOn monitor.base monitor.modal step updates → length updates ≤ 2 → HasConditions monitor.base monitor.modal step updates
       → is_busy step monitor.modal ≡ true → Counted (monitor ∷ []) updates
   busy_counted monitor updates own keeps few reads busy = record {
@@ -100,14 +113,10 @@ module _ (step : List Change) where
     few = let one = sum_by-cons (λ (monitor : Monitor). cond (is_busy step monitor.modal) 1 0) monitor [] ∙ ap (λ b. cond b 1 0 + count_by (λ (monitor : Monitor). is_busy step monitor.modal) []) busy in omega (arith, one, few);
     atoms = record {
       inside = λ sources bound wider before sized.
-          let mine : (atom : ℕ) → is_own monitor.base monitor.modal atom ≡ true → nat_lt atom bound ≡ true = λ atom is.
-          let end = ltb-true atom (monitor.base + atom_count monitor.modal) (and_parts (nat_le monitor.base atom) _ is).1 in let most = before.1 in lt-ltb atom bound (omega (arith, end, most)) in
+          let parts = parts_inside monitor [] sources bound wider before sized in
           both_tests bound updates
-          (all_weaker (λ (change : Change). is_own monitor.base monitor.modal change.atom) (λ (change : Change). nat_lt change.atom bound) (λ change is. mine change.atom is) updates own)
-          (reads (λ atom. nat_lt atom bound)
-          (all_have_more_of (λ atom. nat_lt atom sources) (λ atom. nat_lt atom bound) (λ atom low. let l = ltb-true atom sources low in lt-ltb atom bound (omega (arith, l, wider))) (forms_of monitor.modal) before.0)
-          mine
-          (all_weaker (is_sized_change sources) (λ (change : Change). has_atoms (λ atom. nat_lt atom bound) change.cond) (λ change is. below_more sources bound wider change.cond (and_parts (nat_lt change.atom sources) _ is).1) step sized));
+          (all_weaker (λ (change : Change). is_own monitor.base monitor.modal change.atom) (λ (change : Change). nat_lt change.atom bound) (λ change is. parts.own change.atom is) updates own)
+          (reads (λ atom. nat_lt atom bound) parts.modal parts.own parts.conds);
     };
   }
 

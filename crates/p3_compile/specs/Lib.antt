@@ -1,5 +1,6 @@
 pub mod Compiling
 pub mod Ending
+pub mod Guarding
 pub mod Lean
 pub mod Readers
 pub mod Stepping

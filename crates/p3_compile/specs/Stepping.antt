@@ -27,6 +27,7 @@ hard_monitors frame = take frame.hard frame.monitors
 pub record IsFrame (frame : Frame) : Type 0 where
   pub questions : frame.go < frame.first
   pub before : AreBefore frame.go frame.go frame.monitors
+  pub hard : frame.hard ≤ length frame.monitors
   pub read : IsPermutation (readers_from 0 frame.monitors) frame.readers.items
   pub rising : IsRising frame.readers.items
 

@@ -63,10 +63,9 @@ pub record HasMade (step : List Change) (monitors : List Monitor) (changes : Lis
 abbrev pub HasTidyConditions : List Change → Type 0
 HasTidyConditions effects = IsTrue (list_all (λ (change : Change). is_tidy change.cond) effects)
 
--- changes that do the same where the precondition holds: tidy ones, which are no more, of which no more have a condition, and which have no other atoms
+-- changes that do the same where the precondition holds: they are no more, no more of them have a condition, and they have no other atoms
 pub record AreSimpler (pre : Form) (old new : List Change) : Type 0 where
   pub does : (state : State) → truth state pre ≡ true → after state new ≡ after state old
-  pub tidy : HasTidyConditions new
   pub fewer : length new ≤ length old
   pub conditional : count_by is_conditional new ≤ count_by is_conditional old
   pub atoms : (allowed : ℕ → Bool) → list_all (has_change_atoms allowed) old ≡ true → list_all (has_change_atoms allowed) new ≡ true

@@ -1,6 +1,6 @@
 //! The changes of a step in a target: its own, and those of the monitors that it touches.
 
-ghost use Rattle.std.specs.Prelude.{◌≡◌, ◌++◌, [], IfOk, OnOk, IsTrue, true};
+ghost use Rattle.std.specs.Prelude.{◌≡◌, ◌≤◌, ◌++◌, [], length, take, IfOk, OnOk, IsTrue, true};
 ghost use Rattle.std.specs.List.{list_all};
 ghost use Rattle.std.specs.List.Sorted.{IsPermutation};
 ghost use Rattle.p3_formula.specs.Kept.{is_own};
@@ -8,9 +8,11 @@ ghost use Rattle.p3_formula.specs.Simplified.{is_value};
 ghost use Rattle.p3_formula.specs.declared.form.Change.{Change as Made};
 ghost use Rattle.p3_monitors.specs.KeepsOn.{HasNone};
 ghost use Rattle.p3_regress.specs.Memory.{Extends};
+ghost use Rattle.p3_compile.specs.Guarding.{IsGuardedBy};
 ghost use Rattle.p3_compile.specs.Readers.{readers_from, IsRising};
-ghost use Rattle.p3_compile.specs.Updated.{AreApart, AreSimpler, AreTouched, HasUpdates, HasUpdate, HasChanges, HasMade};
+ghost use Rattle.p3_compile.specs.Updated.{AreApart, AreSimpler, AreTouched, HasUpdates, HasUpdate, HasChanges, HasMade, HasTidyConditions};
 
+use crate::guarding::guarded_pre;
 use crate::reading::Reader;
 use crate::touching::touched;
 use p3_base::{List, NoMemory};
@@ -123,7 +125,8 @@ fn are_certain(changes: &[Change]) -> bool
 
 /// Changes that do the same where the precondition holds, with tidy conditions.
 pub(crate) fn simpler(alloc: Global, pre: &Form, changes: Effects) -> Result<Effects, NoMemory>
-    ensures { IfOk result (AreSimpler pre.now changes) }
+    ensures simpler { IfOk result (AreSimpler pre.now changes) }
+    ensures tidy { IfOk result HasTidyConditions }
 {
     if are_certain(changes.items()) {
         return Ok(changes);
@@ -144,11 +147,46 @@ pub(crate) fn step_changes(
     requires apart { AreApart monitors.now step.now.effects }
     requires readers { IsPermutation (readers_from 0 monitors.now) readers.now }
     requires rising { IsRising readers.now }
-    ensures { IfOk result (HasChanges step.now.pre step.now.effects monitors.now) }
+    ensures changes { IfOk result (HasChanges step.now.pre step.now.effects monitors.now) }
+    ensures tidy { IfOk result HasTidyConditions }
 {
     let places = touched(alloc, readers, &step.effects)?;
     let mut regressed = Regressed::open(alloc, Table::new(alloc), &step.effects)?;
     let made = made_changes(alloc, monitors, &places, &step.effects, &mut regressed)?;
-    let simple = simpler(alloc, &step.pre, made)?;
-    Ok(fitted(simple))
+    simpler(alloc, &step.pre, made)
+}
+
+/// The precondition of a step's copies, and its changes in the target.
+#[derive(Drop)]
+pub(crate) struct GuardedStep {
+    /// Its own precondition, and that it breaks no hard constraint for good.
+    pub(crate) pre: Form,
+    /// Its own changes, and those of the monitors that it touches, which each copy simplifies.
+    pub(crate) effects: Effects,
+}
+
+/// The precondition and the changes of a step whose copies are made, where the first monitors, so
+/// many, are those of the hard constraints.
+pub(crate) fn guarded_step(
+    alloc: Global,
+    monitors: &[Monitor],
+    hard: usize,
+    readers: &[Reader],
+    step: &GroundStep,
+) -> Result<GuardedStep, NoMemory>
+    requires apart { AreApart monitors.now step.now.effects }
+    requires hard { hard ≤ length monitors.now }
+    requires readers { IsPermutation (readers_from 0 monitors.now) readers.now }
+    requires rising { IsRising readers.now }
+    ensures pre { IfOk result (λ (made : GuardedStep).
+        IsGuardedBy step.now.effects (take hard monitors.now) step.now.pre made.pre) }
+    ensures changes { IfOk result (λ (made : GuardedStep).
+        HasMade step.now.effects monitors.now made.effects) }
+{
+    let places = touched(alloc, readers, &step.effects)?;
+    let mut regressed = Regressed::open(alloc, Table::new(alloc), &step.effects)?;
+    let effects = made_changes(alloc, monitors, &places, &step.effects, &mut regressed)?;
+    let (hard, _) = monitors.split_at(hard);
+    let pre = guarded_pre(alloc, &step.pre, hard, &places, &mut regressed)?;
+    Ok(GuardedStep { pre, effects })
 }

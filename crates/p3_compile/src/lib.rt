@@ -6,6 +6,7 @@ mod bits;
 mod changes;
 mod compiling;
 mod ending;
+mod guarding;
 mod laws;
 mod names;
 mod narrow;

@@ -5,7 +5,7 @@ ghost use Rattle.std.specs.List.{All, list_all};
 ghost use Rattle.p3_base.specs.Copies.{copy_name};
 ghost use Rattle.p3_formula.specs.Conditions.{weight_bound, is_tidy_action};
 ghost use Rattle.p3_formula.specs.Weighted as weigh;
-ghost use Rattle.p3_compile.specs.Updated.{AreSimpler, HasSimpler, HasTidyConditions};
+ghost use Rattle.p3_compile.specs.Updated.{HasSimpler};
 ghost use Rattle.p3_simulation.specs.Assembled.{IsCopyAction, AreCopyActions, IsSplit};
 ghost use Rattle.p3_simulation.specs.Naming.{pattern};
 
@@ -47,33 +47,14 @@ fn name_of_copy(alloc: Global, number: u32, violated: &List<bool>) -> Result<Nam
     Name::of(alloc, &text)
 }
 
-/// The changes of a copy of a step, which are simplified by what its precondition fixes. Those of an
-/// only copy are so already.
-fn copy_changes(
-    alloc: Global,
-    pre: &Form,
-    effects: Effects,
-    is_only: bool,
-) -> Result<Effects, NoMemory>
-    requires tidy { HasTidyConditions effects }
-    ensures { IfOk result (AreSimpler pre.now effects) }
-{
-    if is_only {
-        return Ok(effects);
-    }
-    simpler(alloc, pre, effects)
-}
-
-/// The action of a copy, which takes the changes, or else of an only one.
+/// The action of a copy, which takes the changes and simplifies them by what its precondition fixes.
 fn copy_action(
     alloc: Global,
     number: u32,
     effects: Effects,
     copy: StepCopy,
     go: usize,
-    is_only: bool,
 ) -> Result<TargetAction, NoMemory>
-    requires tidy { HasTidyConditions effects }
     ensures is { IfOk result (IsCopyAction go number effects copy) }
     ensures simpler { IfOk result (HasSimpler effects) }
 {
@@ -83,7 +64,7 @@ fn copy_action(
         cost,
     } = copy;
     let name = name_of_copy(alloc, number, &violated)?;
-    let effects = copy_changes(alloc, &pre, effects, is_only)?;
+    let effects = simpler(alloc, &pre, effects)?;
     let pre = guarding(alloc, [go].as_slice(), pre)?;
     Ok(TargetAction {
         name,
@@ -101,12 +82,11 @@ fn other_action(
     copy: StepCopy,
     go: usize,
 ) -> Result<TargetAction, NoMemory>
-    requires tidy { HasTidyConditions effects.now }
     ensures is { IfOk result (IsCopyAction go number effects.now copy) }
     ensures simpler { IfOk result (HasSimpler effects.now) }
 {
     let effects = effects_copied(alloc, effects)?;
-    copy_action(alloc, number, effects, copy, go, false)
+    copy_action(alloc, number, effects, copy, go)
 }
 
 /// An action for each copy.
@@ -117,7 +97,6 @@ fn copy_actions(
     copies: Vec<StepCopy>,
     go: usize,
 ) -> Result<Vec<TargetAction>, NoMemory>
-    requires tidy { HasTidyConditions effects.now }
     ensures are { IfOk result (λ actions.
         AreCopyActions go number effects.now copies.items actions.items) }
     ensures simpler { IfOk result (λ actions. All (HasSimpler effects.now) actions.items) }
@@ -137,7 +116,6 @@ fn actions_of_copies(
     copies: List<StepCopy>,
     go: usize,
 ) -> Result<List<TargetAction>, NoMemory>
-    requires tidy { HasTidyConditions effects }
     ensures are { IfOk result (AreCopyActions go number effects copies) }
     ensures simpler { IfOk result (All (HasSimpler effects)) }
 {
@@ -145,9 +123,8 @@ fn actions_of_copies(
     let Some(last) = others.pop() else {
         return Ok(List::new(alloc));
     };
-    let is_only = others.is_empty();
     let mut actions = copy_actions(alloc, number, &effects, others, go)?;
-    actions.push(copy_action(alloc, number, effects, last, go, is_only)?)?;
+    actions.push(copy_action(alloc, number, effects, last, go)?)?;
     Ok(List::from(actions))
 }
 
@@ -166,7 +143,6 @@ pub(crate) fn narrow_actions(
     requires few { weigh.width_of weights.now.by_name step.now ≤ 8 }
     requires room { weigh.weighted_cost weights.now step.now
         + sum_by (weigh.weight_of weights.now.by_name) step.now.prefs < weight_bound }
-    requires tidy { HasTidyConditions effects }
     ensures split { IfOk result (IsSplit go weights.now step.now pre effects) }
     ensures tidy { IfOk result (λ actions. IsTrue (list_all is_tidy_action actions)) }
     // Their changes are no more than those.

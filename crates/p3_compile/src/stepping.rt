@@ -11,12 +11,12 @@ ghost use Rattle.p3_simulation.specs.Naming.{is_wide};
 ghost use Rattle.p3_compile.specs.Stepping.{IsFrame, IsStepReady, HasActions, HasRoom};
 ghost use Rattle.p3_compile.specs.Updated.{HasTidyConditions};
 
-use crate::changes::step_changes;
+use crate::changes::{GuardedStep, guarded_step, step_changes};
 use crate::narrow::narrow_actions;
 use crate::reading::Reader;
 use crate::weighing::{has_many_weights, is_wide};
 use p3_base::{List, NoMemory};
-use p3_formula::{Effects, GroundStep, TargetAction, Weights, copied};
+use p3_formula::{Effects, GroundStep, TargetAction, Weights};
 use p3_monitors::Monitor;
 use p3_precprefs::ask;
 use std::alloc::Global;
@@ -92,11 +92,13 @@ fn costed_actions(
     requires room { HasRoom frame.now weights.now step.now current.old }
     ensures { IfOk result (HasActions frame.now weights.now step.now current.old current.new) }
 {
-    let effects = step_changes(alloc, frame.monitors.items(), &frame.readers, step)?;
+    let monitors = frame.monitors.items();
     if has_many_weights(&weights.by_name, step) {
+        let effects = step_changes(alloc, monitors, &frame.readers, step)?;
         return chain_actions(alloc, current, frame, weights, step, &effects);
     }
-    let pre = copied(alloc, &step.pre)?;
+    let made = guarded_step(alloc, monitors, frame.hard, &frame.readers, step)?;
+    let GuardedStep { pre, effects } = made;
     narrow_actions(alloc, step, pre, effects, weights, frame.go)
 }
 
