@@ -80,7 +80,8 @@ class Task:
             try:
                 return self.evaluate(plan)
             except Error as error:
-                return error
+                # (a traceback would keep the folder)
+                return error.with_traceback(None)
 
         if self._program is None:
             self._program = find_program()
