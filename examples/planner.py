@@ -29,14 +29,9 @@ from collections import Counter
 from functools import reduce
 from operator import or_
 
-DEPTH = 30  # of the tests in each other that find the actions which fit
-
 
 class Unread(Exception):
     """Says what cannot be read."""
-
-
-# ---- texts
 
 
 def read(path):
@@ -50,13 +45,11 @@ def read(path):
         elif word == ")" and len(outer) > 1:
             inner = outer.pop()
             outer[-1].append(inner)
-        elif word == ")":
-            raise Unread(f"{path}: a parenthesis is closed that was not opened")
         else:
             outer[-1].append(word)
-    if len(outer) != 1 or len(outer[0]) != 1 or not isinstance(outer[0][0], list):
-        raise Unread(f"{path}: it is not one expression")
-    return outer[0][0]
+    if len(outer) == 1 and len(outer[0]) == 1 and isinstance(outer[0][0], list):
+        return outer[0][0]
+    raise Unread(f"{path}: it is not one expression")
 
 
 def sections(task, key):
@@ -64,7 +57,7 @@ def sections(task, key):
     return [section[1:] for section in task[1:] if section[:1] == [key]]
 
 
-# ---- conditions: each is True, False, a literal (atom, positive), or ("and" or "or", parts); `not` is at atoms
+# ---- conditions: each is True, False, a literal (atom, positive), or ("and" or "or", parts)
 
 
 class Atoms:
@@ -147,9 +140,6 @@ def may_come(condition, added, deleted):
     return joined(condition[0], [may_come(part, added, deleted) for part in condition[1]])
 
 
-# ---- actions
-
-
 class Action:
     """Is an action of the written task: its condition, its changes and its cost."""
 
@@ -159,6 +149,8 @@ class Action:
         if parts.get(":parameters"):
             raise Unread(f"{self.name} has parameters")
         self.condition = atoms.condition(parts.get(":precondition", ["and"]))
+        needed, self.others = literals(self.condition)
+        self.needed = frozenset(needed)
         self.cost, self.adds, self.dels, self.changes = 0, 0, 0, []
         effect = parts.get(":effect", ["and"])
         for part in effect[1:] if effect[:1] == ["and"] else [effect]:
@@ -193,36 +185,34 @@ class Action:
         return lines + [f"found.append((s & ~d | a, {self.cost}, {number}))"]
 
 
-def function(name, lines):
+def function(lines):
     """Makes a function of the state of lines of Python."""
     room = {}
-    exec(compile("\n".join([f"def {name}(s):", *("    " + line for line in lines)]), name, "exec"), room)  # noqa: S102
-    return room[name]
+    exec("\n".join(["def made(s):", *("    " + line for line in lines)]), room)  # noqa: S102
+    return room["made"]
 
 
 def tests(actions, numbers, known=frozenset()):
     """Writes the lines that find which actions fit: what many of them need is asked once."""
     left, lines = numbers, []
-    while len(left) > 3 and len(known) < DEPTH:
-        common = Counter(literal for number in left for literal in set(literals(actions[number].condition)[0]) - known)
-        if not common or common.most_common(1)[0][1] < 2:
+    while len(left) > 3 and len(known) < 30:
+        common = Counter(literal for number in left for literal in actions[number].needed - known)
+        literal, count = min(common.items(), key=lambda one: (-one[1], one[0]), default=(None, 0))
+        if count < 2:
             break
-        literal = min(common, key=lambda one: (-common[one], one))
-        inside = [number for number in left if literal in literals(actions[number].condition)[0]]
+        inside = [number for number in left if literal in actions[number].needed]
         lines.append(f"if {code(literal)}:")
         lines += ["    " + line for line in tests(actions, inside, known | {literal})]
-        left = [number for number in left if number not in set(inside)]
+        left = [number for number in left if literal not in actions[number].needed]
     for number in left:
-        needed, others = literals(actions[number].condition)
-        rest = joined("and", [literal for literal in needed if literal not in known] + others)
-        lines.append(f"if {code(rest)}:")
-        lines += ["    " + line for line in actions[number].code(number)]
+        rest = joined("and", sorted(actions[number].needed - known) + actions[number].others)
+        lines += [f"if {code(rest)}:", *("    " + line for line in actions[number].code(number))]
     return lines or ["pass"]
 
 
-def successors(name, actions, numbers):
+def successors(actions, numbers):
     """Makes the function that gives, of a state, the states behind each action that fits, with cost and number."""
-    return function(name, ["found = []", *tests(actions, numbers), "return found"])
+    return function(["found = []", *tests(actions, numbers), "return found"])
 
 
 # ---- the search
@@ -240,10 +230,10 @@ class Task:
         chain = self.chain(goal) if is_literal(goal) and goal[1] else []
         ends = {number for _, link in chain for number in link}
         steps = [number for number in range(len(self.actions)) if number not in ends]
-        self.after = successors("after", self.actions, steps)
-        self.links = [successors("link", self.actions, link) for _, link in chain]
-        self.has_goal = function("has_goal", [f"return {code(goal)}"])
-        self.at_least = function("at_least", ["h = 0", *self.bounds(chain, steps), "return h"])
+        self.after = successors(self.actions, steps)
+        self.links = [successors(self.actions, link) for _, link in chain]
+        self.has_goal = function([f"return {code(goal)}"])
+        self.at_least = function(["h = 0", *self.bounds(chain, steps), "return h"])
 
     def drop_needless(self, needed):
         """Drops the atoms that nothing on the way to the goal asks for, and the actions that change no others."""
@@ -256,9 +246,8 @@ class Task:
                     needed |= reduce(or_, map(atoms_of, asked), atoms_of(action.condition))
         self.actions = [action for action in self.actions if (action.added | action.deleted) & needed]
         for action in self.actions:
-            action.adds, action.dels, action.added, action.deleted = (
-                bits & needed for bits in (action.adds, action.dels, action.added, action.deleted)
-            )
+            for name in ("adds", "dels", "added", "deleted"):
+                setattr(action, name, getattr(action, name) & needed)
             action.changes = [change for change in action.changes if change[1] & needed]
         self.start &= needed
 
@@ -268,16 +257,16 @@ class Task:
         while True:
             link = [number for number, action in enumerate(self.actions) if action.added & bit]
             links.insert(0, (bit, link))
-            needed = [{one for one, positive in literals(self.actions[number].condition)[0] if positive} for number in link]
+            needed = [{one for one, positive in self.actions[number].needed if positive} for number in link]
             before = [one for one in (set.intersection(*needed) if needed else ()) if all(self.actions[number].dels & one for number in link)]
             if len(before) != 1:
                 return []
             bit = before[0]
             # What all other actions need, and what nothing brings back, is where the end phase begins.
             if not any(action.added & bit for action in self.actions):
-                rest = set(range(len(self.actions))) - {number for _, link in links for number in link}
-                is_gate = all((bit, True) in literals(self.actions[number].condition)[0] for number in rest)
-                return links if is_gate and all(not self.actions[number].changes for _, link in links for number in link) else []
+                ends = {number for _, link in links for number in link}
+                is_end = [not action.changes if number in ends else (bit, True) in action.needed for number, action in enumerate(self.actions)]
+                return links if all(is_end) else []
             if len(links) > len(self.actions):
                 return []
 
@@ -311,12 +300,12 @@ class Task:
 
 
 def plan_of(task, came, state, end):
-    """Gives the names of the actions that lead to a state, and of those of its end."""
-    numbers = end[::-1]
+    """Gives the names of the actions that lead to a state, and of its end."""
+    path = []
     while state in came:
         state, number = came[state]
-        numbers.append(number)
-    return [task.actions[number].name for number in reversed(numbers)]
+        path.append(number)
+    return [task.actions[number].name for number in [*reversed(path), *end]]
 
 
 def search(task, seconds, tell, stop):
@@ -351,9 +340,6 @@ def search(task, seconds, tell, stop):
                     best[after], came[after] = cost, (state, number)
                     heapq.heappush(queue, (bound, -cost, after))
     return (plan_of(task, came, *found), least, True) if found else None
-
-
-# ---- the command
 
 
 def asked(words):
