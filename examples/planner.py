@@ -12,7 +12,7 @@ is violated and can never be mended has to be forgone. A state's end is looked a
 found, so there is a plan soon, then better ones, and the last is a cheapest one where nothing
 cheaper is left to look at. All states that were seen are kept.
 
-  --seconds N  stops after N seconds, as by Ctrl-C, with the best plan so far
+  --seconds N  stops after N seconds, as by Ctrl-C, with the best plan so far; Ctrl-C twice ends at once
   --quiet      shows no progress on standard error
 
 It prints the plan's cost, and whether that is the least. The status is 0 where it wrote a plan, 1 where
@@ -367,14 +367,14 @@ def main(words):
         return 64
     seconds, loud, (domain, problem, plan) = wish
     sys.setrecursionlimit(10_000)
+    stop = []
+    for number in (signal.SIGINT, signal.SIGTERM):
+        signal.signal(number, lambda number, _: sys.exit(128 + number) if stop else stop.append(number))
     try:
         task = Task(read(domain), read(problem))
     except (Unread, OSError, IndexError, ValueError, TypeError, AttributeError) as error:
         print(f"planner.py: this is no task that compile wrote: {error}", file=sys.stderr)
         return 2
-    stop = []
-    for number in (signal.SIGINT, signal.SIGTERM):
-        signal.signal(number, lambda number, _: stop.append(number))
     found = search(task, seconds, lambda said: print(f"planner.py: {said}", file=sys.stderr) if loud else None, stop)
     if found is None:
         print("planner.py: no plan was found in time" if stop or seconds < float("inf") else "planner.py: there is no plan", file=sys.stderr)
