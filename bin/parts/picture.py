@@ -20,7 +20,7 @@ text { font-family: system-ui, -apple-system, "Segoe UI", "DejaVu Sans", sans-se
 .small { font-size: 12px } .mute, .mute tspan { fill: #57606a } .end { text-anchor: end } .mid { text-anchor: middle }
 .back { fill: #ffffff } .grid { stroke: #e3e7eb } .axis { stroke: #8c959f } .gap { fill: #57606a; fill-opacity: .08 }
 .hatch { stroke: #57606a; stroke-opacity: .35; stroke-width: 1.2 }
-.value { fill: none; stroke: #1f2328; stroke-width: 2; stroke-linejoin: round; stroke-linecap: round } .fine { stroke-width: 1.2 }
+.value { fill: none; stroke: #1f2328; stroke-width: 2; stroke-linejoin: round; stroke-linecap: round } .band { fill: #1f2328; fill-opacity: .55; stroke: #1f2328; stroke-width: 1; stroke-linejoin: round } .told { fill-opacity: 0 }
 .lane { stroke-width: 2 } .mark { stroke-width: 2.4; stroke-linecap: round; fill: none }
 .yes .lane, .yes .mark { stroke: #0068a8 } .yes .dot { fill: #0068a8 } .yes .word { fill: #005a92 }
 .no .lane, .no .mark { stroke: #c24e00 } .no .dot { fill: #c24e00 } .no .word { fill: #a84300 }
@@ -28,6 +28,7 @@ text { font-family: system-ui, -apple-system, "Segoe UI", "DejaVu Sans", sans-se
 @media (prefers-color-scheme: dark) {
 text { fill: #e6edf3 } .head { stroke: #0d1117 } .mute, .mute tspan { fill: #a2acb7 } .back { fill: #0d1117 } .grid { stroke: #262c34 }
 .axis { stroke: #6e7681 } .gap { fill: #a2acb7; fill-opacity: .1 } .hatch { stroke: #a2acb7 } .value { stroke: #e6edf3 }
+.band { fill: #e6edf3; stroke: #e6edf3 }
 .yes .lane, .yes .mark { stroke: #58b0ea } .yes .dot { fill: #58b0ea } .yes .word { fill: #6cbcf2 }
 .no .lane, .no .mark, .no .thin { stroke: #f0934a } .no .dot { fill: #f0934a } .no .word { fill: #f7a463 }
 }
@@ -45,6 +46,7 @@ class Lane:
     said: str
     marks: list  # pairs of a state and whether it holds there; or the numbers of steps
     of_steps: bool = False
+    folds: int = 0  # how many lanes it stands for, all satisfied
 
     def label(self):
         """Gives the lane's name, cut where it is long."""
@@ -55,6 +57,8 @@ class Lane:
         """Says what the lane comes to."""
         if self.of_steps:
             return f"violated {self.said}"
+        if self.folds:
+            return f"all {self.folds} satisfied"
         if self.said == "holds":
             return "satisfied"
         return f"{'satisfied' if self.satisfied else 'violated'}: {self.said}"
@@ -64,7 +68,8 @@ class Lane:
 class Story:
     """What is told of a plan."""
 
-    names: list  # of the domain, the problem and the plan
+    task: str
+    names: list  # of the files of the domain, the problem and the plan
     verdict: str
     steps: list
     values: list  # of the metric, by state; None where there is none
@@ -74,7 +79,7 @@ class Story:
 
     def title(self):
         """Says what the picture is of."""
-        return f"{self.names[2]}: {self.verdict}"
+        return f"{self.task + ', ' if self.task else ''}{self.names[2]}: {self.verdict}"
 
     def subtitle(self):
         """Says how long the plan is, and what it is worth."""
@@ -177,6 +182,22 @@ def chosen(lanes, most):
     return [lane for at, lane in enumerate(lanes) if at in kept], [lane for at, lane in enumerate(lanes) if at not in kept]
 
 
+def folded(lanes):
+    """Gives the lanes where those of a name that are satisfied are one, if they are four or more."""
+    alike = {}
+    for lane in lanes:
+        if lane.satisfied:
+            alike.setdefault((lane.group, lane.name), []).append(lane)
+    made = []
+    for lane in lanes:
+        same = alike.get((lane.group, lane.name), []) if lane.satisfied else []
+        if len(same) < 4:
+            made.append(lane)
+        elif lane is same[0]:
+            made.append(Lane(lane.group, lane.name, f"{lane.number} .. {same[-1].number}", True, "holds", [], False, len(same)))
+    return made
+
+
 # ---- the metric
 
 
@@ -193,29 +214,41 @@ def ticks(values):
     return [(at * apart, f"{at * apart:.{places}f}") for at in range(first, last + 1)]
 
 
-def groups(plan, values):
-    """Gives the states behind state 0, those that share half a pixel together: the first one, the one
-    behind the last, and the values that they have."""
-    many = max(1, ceil(0.5 / plan.cell))
-    for start in range(1, len(values), many):
+def groups(plan, values, least):
+    """Gives the states, those that share so many pixels together: the first one, the one behind the
+    last, and the values that they have."""
+    many = max(1, ceil(least / plan.cell))
+    for start in range(0, len(values), many):
         end = min(start + many, len(values))
         yield start, end, [value for value in values[start:end] if value is not None]
 
 
 def stretches(plan, values):
     """Gives the longest stretches of groups that all have a value, or all have none."""
-    return [list(group) for _, group in groupby(groups(plan, values), lambda group: bool(group[2]))]
+    return [list(group) for _, group in groupby(groups(plan, values, 1), lambda group: bool(group[2]))]
 
 
 def curve(plan, stretch, height):
-    """Gives the path of the values of a stretch. Of a group with many values the extremes are drawn."""
-    path = []
-    for start, end, part in stretch:
-        path.append(("L" if path else "M") + f"{number(plan.border(start))} {number(height(part[0]))}")
-        if len(part) > 1:
-            path.append(f"V{number(height(min(part)))}V{number(height(max(part)))}V{number(height(part[-1]))}")
-        path.append(f"H{number(plan.border(end))}")
-    return f'<path d="{"".join(path)}" class="{"value" if plan.cell >= 3 else "value fine"}"/>'
+    """Gives the path of the values of a stretch; where a pixel has many, the band of the least and the greatest."""
+    if all(end == start + 1 for start, end, _ in stretch):
+        path = [f"L{number(plan.border(start))} {number(height(part[0]))}H{number(plan.border(end))}" for start, end, part in stretch]
+        return f'<path d="M{"".join(path)[1:]}" class="value"/>'
+    there = [f"L{number(plan.border(start))} {number(height(max(part)))}H{number(plan.border(end))}" for start, end, part in stretch]
+    back = [f"L{number(plan.border(end))} {number(height(min(part)))}H{number(plan.border(start))}" for start, end, part in reversed(stretch)]
+    return f'<path d="M{"".join(there + back)[1:]}z" class="band"/>'
+
+
+def told(plan, top):
+    """Tells of each state, where the mouse rests, the whole step before it and the value."""
+    steps, values = plan.story.steps, plan.story.values
+    for start, end, _ in groups(plan, plan.values, 3):
+        lines = []
+        for state in range(start, min(end, start + 8)):
+            step = f", behind step {state} {steps[state - 1]}" if state else ", the first one"
+            lines.append(f"state {state}{step}: " + (f"metric {values[state]}" if values[state] is not None else "no value"))
+        lines += [f"and {end - start - 8} more"] if end - start > 8 else []
+        box = f'x="{number(plan.border(start))}" y="{top}" width="{number(plan.cell * (end - start))}" height="{PANEL}"'
+        yield f'<rect {box} class="told"><title>{escape(chr(10).join(lines))}</title></rect>'
 
 
 def value_labels(plan, values, height):
@@ -227,7 +260,7 @@ def value_labels(plan, values, height):
             continue
         if state == last:
             yield text(plan.right + 8, height(values[state]) + 4.5, escape(word), "head")
-        elif widest + 4 <= plan.cell and (state == 1 or said[state - 1] != word):
+        elif widest + 4 <= plan.cell and (state == 0 or said[state - 1] != word):
             yield text(plan.middle(state), height(values[state]) - 6, escape(word), "small mid")
 
 
@@ -238,7 +271,7 @@ def metric_panel(plan, top):
     def height(value):
         return top + 8 + (PANEL - 16) * (high - value) / (high - low)
 
-    yield text(PAD, top - 14, "Metric after each step", "head")
+    yield text(PAD, top - 14, "Metric at first and after each step", "head")
     for value, word in plan.ticks:
         yield line(plan.left, height(value), plan.right, height(value), "grid")
         yield text(plan.left - 8, height(value) + 4, word, "small mute end")
@@ -251,6 +284,7 @@ def metric_panel(plan, top):
             yield f'<rect {box} class="gap"/><rect {box} fill="url(#gap)"/>'
     yield from value_labels(plan, values, height)
     yield line(plan.left, top + PANEL, plan.right, top + PANEL, "axis")
+    yield from told(plan, top)
 
 
 def state_numbers(plan, y):
@@ -265,22 +299,24 @@ def state_numbers(plan, y):
 # ---- the lanes
 
 
-def apart(places):
-    """Gives where marks are drawn so that none hides another: as they stand, or a little to the right."""
-    drawn = []
-    for place in sorted(places):
-        drawn.append(max(place, drawn[-1] + 12 if drawn else place))
-    return drawn
+def staggered(places):
+    """Gives how far above or below its lane each mark is drawn, so that none hides another; places rise."""
+    runs = []
+    for at, place in enumerate(places):
+        if at and place - places[at - 1] < 10:
+            runs[-1] += 1
+        else:
+            runs.append(1)
+    return [(at - (run - 1) / 2) * 7.5 for run in runs for at in range(run)]
 
 
 def state_marks(plan, lane, y):
     """Marks the states that show whether a lane is satisfied."""
     marks = sorted(lane.marks)
     places = [plan.middle(state) for state, _ in marks]
-    for (_, holds), true, drawn in zip(marks, places, apart(places)):
-        if drawn != true:
-            yield line(true, y - 8, true, y + 8, "thin")
-        yield dot(drawn, y) if holds else cross(drawn, y)
+    for (state, holds), place, shift in zip(marks, places, staggered(places)):
+        drawn = dot(place, y + shift) if holds else cross(place, y + shift)
+        yield f"<g><title>{'holds' if holds else 'fails'} in state {state}</title>{drawn}</g>"
 
 
 def step_marks(plan, lane, y):
@@ -339,11 +375,12 @@ def step_names(plan, y):
     if plan.story.steps:
         parts.append(text(plan.left - 14, y + 10, "step", "small mute end"))
     for at in range(every, len(plan.story.steps) + 1, every):
-        words = f"{at} {plan.story.steps[at - 1]}"
-        words = words if len(words) <= 44 else words[:43] + "…"
+        whole = f"{at} {plan.story.steps[at - 1]}"
+        words = whole if len(whole) <= 44 else whole[:43] + "…"
         x = plan.border(at)
         parts.append(line(x, y - 10, x, y - 4, "axis"))
-        parts.append(text(0, 0, escape(words), "small", f' transform="translate({number(x - 3)} {number(y + 8)}) rotate({slope})"'))
+        title = f"<title>{escape(whole)}</title>" if words != whole else ""
+        parts.append(text(0, 0, escape(words) + title, "small", f' transform="translate({number(x - 3)} {number(y + 8)}) rotate({slope})"'))
         depth = max(depth, width_of(words, SMALL) * sin(radians(slope)))
         reach = max(reach, x + width_of(words, SMALL) * cos(radians(slope)) + PAD)
     return parts, y + depth + 20, ceil(reach)
@@ -359,7 +396,7 @@ def legend_items(plan):
         "holds in this state": (True in marks, "yes", dot(12, 0)),
         "fails in this state": (False in marks, "no", cross(12, 0)),
         "violated by this step": (any(lane.of_steps for lane in plan.lanes), "no", diamond(12, 0)),
-        "no value: no valid plan ends here": (None in plan.story.values[1:], "", '<rect y="-7" width="24" height="14" class="gap"/><rect y="-7" width="24" height="14" fill="url(#gap)"/>'),
+        "no value: no valid plan ends here": (None in plan.story.values, "", '<rect y="-7" width="24" height="14" class="gap"/><rect y="-7" width="24" height="14" fill="url(#gap)"/>'),
     }
     return [(words, kind, drawn) for words, (there, kind, drawn) in samples.items() if there]
 

@@ -18,35 +18,52 @@ json_text() {
     text=\"$text\"
 }
 
-# Splits a numbered line of the list into `number` and `names`, which are three names; of a line that
-# is not three names, all of it is the first, and `is_line` is empty.
-split_line() {
-    number=${1%%$'\t'*}
-    local rest=${1#*$'\t'} tabs
-    tabs=${rest//[!$'\t']/}
-    if [ ${#tabs} = 2 ]; then
-        names=("${rest%%$'\t'*}" "${rest#*$'\t'}" "${rest##*$'\t'}")
-        names[1]=${names[1]%$'\t'*}
-        is_line=yes
-    else
-        names=("${rest//$'\t'/ }" '' '')
-        is_line=
-    fi
+# Sets `fields` to the fields of a line, between tabs; some may be empty.
+split_fields() {
+    local rest=$1
+    fields=()
+    while [[ $rest == *$'\t'* ]]; do
+        fields+=("${rest%%$'\t'*}")
+        rest=${rest#*$'\t'}
+    done
+    fields+=("$rest")
 }
 
-# Sets `head` to what the row of a numbered line begins with.
+# Sets `head` to what a row begins with: row_head FORMAT NUMBER DOMAIN PROBLEM PLAN.
 row_head() {
-    local format=$1 text
-    split_line "$2"
-    if [ "$format" = json ]; then
-        head="{\"line\":$number"
-        local keys=(domain problem plan) place
-        for place in 0 1 2; do
-            json_text "${names[place]}"
-            head+=",\"${keys[place]}\":$text"
+    if [ "$1" = json ]; then
+        local text key
+        head="{\"line\":$2"
+        for key in domain problem plan; do
+            json_text "$3"
+            head+=",\"$key\":$text"
+            shift
         done
         head+=','
     else
-        printf -v head '%s\t' "$number" "${names[@]}"
+        printf -v head '%s\t' "${@:2:4}"
+    fi
+}
+
+# Sets `tail` to what a row ends with, while no best value is known: row_tail FORMAT DIRECTION BY.
+row_tail() {
+    if [ "$1" = json ]; then
+        local text
+        json_text "$3"
+        tail="\"direction\":${2:+\"}${2:-null}${2:+\"},\"best\":null,\"score\":null,\"by\":$text}"
+    else
+        tail=$2$'\t\t\t'$3
+    fi
+}
+
+# Sets `row` to the row of a line that was not judged: bare_row FORMAT HEAD STATUS VERDICT BY.
+bare_row() {
+    local tail text
+    row_tail "$1" '' "$5"
+    if [ "$1" = json ]; then
+        json_text "$4"
+        row="$2\"status\":$3,\"verdict\":$text,\"steps\":null,\"cost\":null,\"metric\":null,\"violated\":{},$tail"
+    else
+        row="$2$3"$'\t'"$4"$'\t\t\t\t\t'"$tail"
     fi
 }
