@@ -1,8 +1,9 @@
--- Changes that are simplified do the same where the precondition holds, and are no more.
+-- Changes that are simplified may happen, and no more of them have a condition.
 use Rattle.std.proofs.Common.{◌≡◌, ◌∙◌, ℕ, ◌≤◌, Bool, true, false, not, cond, List, [], ◌∷◌, ◌++◌, Option, refl, sym, ap, subst, arith, true≢false}
 use Rattle.std.specs.Prelude.{count_by, if◌then◌else◌}
-use Rattle.std.specs.List.{list_all}
+use Rattle.std.specs.List.{All, list_all}
 use Rattle.std.proofs.lemmas.Bool.{and_parts, and_from}
+use Rattle.std.proofs.lemmas.List.Elements.{All-cons, All-nil}
 use Rattle.std.proofs.lemmas.List.Sums.{sum_by-cons}
 use Rattle.p3_formula.specs.Settled.{also, settled}
 use Rattle.p3_formula.specs.Simplified.{is_value}
@@ -13,7 +14,7 @@ use Rattle.p3_formula.specs.declared.form.Form.{Form}
 use Rattle.p3_formula.specs.declared.form.Form.TheVariants.{True, False, Atom, Not', And', Or'}
 use Rattle.p3_formula.proofs.SettledLaws.{settled-True}
 use Rattle.p3_compile.specs.Lean.{is_conditional}
-use Rattle.p3_compile.specs.Updated.{AreSimpler}
+use Rattle.p3_compile.specs.Updated.{AreSimpler, MayHappen}
 
 is_true : (form : Form) → is_value true form ≡ true → form ≡ True
 is_true True h = refl
@@ -30,6 +31,12 @@ certain_tidy [] all = refl
 certain_tidy (change ∷ changes) all =
     let parts = and_parts (is_value true change.cond) _ all in
     and_from (is_tidy change.cond) _ (ap is_tidy (is_true change.cond parts.0)) (certain_tidy changes parts.1)
+
+pub certain_possible : (changes : List Change) → list_all (λ (change : Change). is_value true change.cond) changes ≡ true → All MayHappen changes
+certain_possible [] all = All-nil MayHappen
+certain_possible (change ∷ changes) all =
+    let parts = and_parts (is_value true change.cond) _ all in
+    All-cons MayHappen change changes (ap (is_value false) (is_true change.cond parts.0)) (certain_possible changes parts.1)
 
 -- changes as they are
 pub certain_simpler : (pre : Form) (changes : List Change) → AreSimpler pre changes changes
@@ -61,6 +68,22 @@ stays_certain known form = by (is_value true form) refl
     by false is = at_most_one (not (is_value true (settled known form)))
 
 -- one change more, where it may happen
+one_possible : (new : Change) (news : List Change) → All MayHappen news → All MayHappen (unless_never new ++ news)
+one_possible new news rest = by (is_value false new.cond) refl
+  where
+    by : (never : Bool) → is_value false new.cond ≡ never → All MayHappen ((if never then [] else (new ∷ [])) ++ news)
+    by true is = rest
+    by false is = All-cons MayHappen new news is rest
+
+possible_by : (known : ℕ → Option Bool) (cleared : ℕ → Bool) (changes : List Change) → All MayHappen (trimmed_by known cleared changes)
+possible_by known cleared [] = All-nil MayHappen
+possible_by known cleared (change ∷ changes) =
+    one_possible (settled_change known (granted_to change.add (cleared change.atom) change.atom) change) (trimmed_by known cleared changes) (possible_by known cleared changes)
+
+pub trimmed_possible : (known : ℕ → Option Bool) (changes new : List Change) → new ≡ trimmed known changes → All MayHappen new
+trimmed_possible known changes new is = subst (All MayHappen) (sym is) (possible_by known (is_cleared_by changes) changes)
+
+-- so are their conditions, one change after another
 one_more : (new old : Change) (news olds : List Change) → one (is_conditional new) ≤ one (is_conditional old) → conditions news ≤ conditions olds → conditions (unless_never new ++ news) ≤ conditions (old ∷ olds)
 one_more new old news olds first rest = by (is_value false new.cond)
   where

@@ -1,10 +1,11 @@
 -- The changes of the monitors that a step touches.
-use Rattle.std.specs.Prelude.{◌≡◌, ℕ, ◌*◌, ◌<◌, ◌≤◌, Bool, true, List, ◌++◌, length, count_by, slice_index_or, Contains, IsTrue}
+use Rattle.std.specs.Prelude.{◌≡◌, ℕ, ◌*◌, ◌<◌, ◌≤◌, Bool, true, false, List, ◌++◌, length, count_by, slice_index_or, Contains, IsTrue}
 use Rattle.std.specs.List.{All, list_all}
 use Rattle.std.specs.List.Sorted.{IsNonDecreasing}
 use Rattle.p3_formula.specs.Forms.{State, truth}
 use Rattle.p3_formula.specs.Kept.{is_own}
 use Rattle.p3_formula.specs.Next.{after}
+use Rattle.p3_formula.specs.Simplified.{is_value}
 use Rattle.p3_formula.specs.Targets.{has_change_atoms, is_sized_change}
 use Rattle.p3_formula.specs.Tidy.{is_tidy}
 use Rattle.p3_formula.specs.declared.form.Change.{Change}
@@ -63,6 +64,10 @@ pub record HasMade (step : List Change) (monitors : List Monitor) (changes : Lis
 abbrev pub HasTidyConditions : List Change → Type 0
 HasTidyConditions effects = IsTrue (list_all (λ (change : Change). is_tidy change.cond) effects)
 
+-- the condition of the change is not the constant that never holds
+abbrev pub MayHappen : Change → Type 0
+MayHappen change = is_value false change.cond ≡ false
+
 -- changes that do the same where the precondition holds: they are no more, no more of them have a condition, and they have no other atoms
 pub record AreSimpler (pre : Form) (old new : List Change) : Type 0 where
   pub does : (state : State) → truth state pre ≡ true → after state new ≡ after state old
@@ -70,9 +75,10 @@ pub record AreSimpler (pre : Form) (old new : List Change) : Type 0 where
   pub conditional : count_by is_conditional new ≤ count_by is_conditional old
   pub atoms : (allowed : ℕ → Bool) → list_all (has_change_atoms allowed) old ≡ true → list_all (has_change_atoms allowed) new ≡ true
 
--- the action has tidy changes, which are no more than those, and of which no more have a condition
+-- the action has tidy changes that may happen, which are no more than those, and of which no more have a condition
 pub record HasSimpler (effects : List Change) (action : TargetAction) : Type 0 where
   pub tidy : HasTidyConditions action.effects
+  pub possible : All MayHappen action.effects
   pub fewer : length action.effects ≤ length effects
   pub conditional : count_by is_conditional action.effects ≤ count_by is_conditional effects
 

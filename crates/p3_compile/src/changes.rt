@@ -1,7 +1,7 @@
 //! The changes of a step in a target: its own, and those of the monitors that it touches.
 
 ghost use Rattle.std.specs.Prelude.{◌≡◌, ◌≤◌, ◌++◌, [], length, take, IfOk, OnOk, IsTrue, true};
-ghost use Rattle.std.specs.List.{list_all};
+ghost use Rattle.std.specs.List.{All, list_all};
 ghost use Rattle.std.specs.List.Sorted.{IsPermutation};
 ghost use Rattle.p3_formula.specs.Kept.{is_own};
 ghost use Rattle.p3_formula.specs.Simplified.{is_value};
@@ -10,7 +10,7 @@ ghost use Rattle.p3_monitors.specs.KeepsOn.{HasNone};
 ghost use Rattle.p3_regress.specs.Memory.{Extends};
 ghost use Rattle.p3_compile.specs.Guarding.{IsGuardedBy};
 ghost use Rattle.p3_compile.specs.Readers.{readers_from, IsRising};
-ghost use Rattle.p3_compile.specs.Updated.{AreApart, AreSimpler, AreTouched, HasUpdates, HasUpdate, HasChanges, HasMade, HasTidyConditions};
+ghost use Rattle.p3_compile.specs.Updated.{AreApart, AreSimpler, AreTouched, HasUpdates, HasUpdate, HasChanges, HasMade, HasTidyConditions, MayHappen};
 
 use crate::guarding::guarded_pre;
 use crate::reading::Reader;
@@ -123,10 +123,12 @@ fn are_certain(changes: &[Change]) -> bool
     true
 }
 
-/// Changes that do the same where the precondition holds, with tidy conditions.
+/// Changes that do the same where the precondition holds, with tidy conditions, and none that never
+/// happens.
 pub(crate) fn simpler(alloc: Global, pre: &Form, changes: Effects) -> Result<Effects, NoMemory>
     ensures simpler { IfOk result (AreSimpler pre.now changes) }
     ensures tidy { IfOk result HasTidyConditions }
+    ensures possible { IfOk result (All MayHappen) }
 {
     if are_certain(changes.items()) {
         return Ok(changes);
@@ -149,6 +151,7 @@ pub(crate) fn step_changes(
     requires rising { IsRising readers.now }
     ensures changes { IfOk result (HasChanges step.now.pre step.now.effects monitors.now) }
     ensures tidy { IfOk result HasTidyConditions }
+    ensures possible { IfOk result (All MayHappen) }
 {
     let places = touched(alloc, readers, &step.effects)?;
     let mut regressed = Regressed::open(alloc, Table::new(alloc), &step.effects)?;

@@ -3,7 +3,7 @@ use Rattle.std.specs.List.{list_all}
 use Rattle.p3_formula.specs.Literals.{said_of}
 use Rattle.p3_formula.specs.Simplified.{is_value}
 use Rattle.p3_formula.specs.declared.form.Change.{Change}
-use Rattle.p3_compile.proofs.SimplerChanges.{certain_simpler, certain_tidy, trimmed_conditions}
+use Rattle.p3_compile.proofs.SimplerChanges.{certain_possible, certain_simpler, certain_tidy, trimmed_conditions, trimmed_possible}
 use Rattle.p3_compile.proofs.changes.simpler.Goals as goal
 
 pub returns-then-are_certain-clause-simpler : goal.returns-then-are_certain-clause-simpler
@@ -12,6 +12,13 @@ returns-then-are_certain-clause-simpler c = certain_simpler c.args.pre.now c.arg
 pub returns-then-are_certain-clause-tidy : goal.returns-then-are_certain-clause-tidy
 returns-then-are_certain-clause-tidy c = certain_tidy c.args.changes
     (ap (list_all (λ (change : Change). is_value true change.cond)) (sym c.items.ensures) ∙ sym c.are_certain.ensures ∙ c.if-are_certain.true)
+
+pub returns-then-are_certain-clause-possible : goal.returns-then-are_certain-clause-possible
+returns-then-are_certain-clause-possible c = certain_possible c.args.changes
+    (ap (list_all (λ (change : Change). is_value true change.cond)) (sym c.items.ensures) ∙ sym c.are_certain.ensures ∙ c.if-are_certain.true)
+
+pub returns-clause-possible : goal.returns-clause-possible
+returns-clause-possible c = trimmed_possible (said_of c.in_ok-known.known) c.args.changes c.in_ok-trimmed.trimmed c.in_ok-trimmed.ensures.value
 
 pub returns-clause-simpler : goal.returns-clause-simpler
 returns-clause-simpler c = record {
