@@ -4,7 +4,7 @@ use Rattle.std.specs.Prelude.{unwrap_or, slice_get}
 use Rattle.std.specs.List.{find, list_all}
 use Rattle.std.proofs.lemmas.List.{get_or_default}
 use Rattle.std.proofs.lemmas.List.Quantifiers.{position-Some}
-use Rattle.std.proofs.lemmas.Option.{get_or_from_slice_get, slice_get_within}
+use Rattle.std.proofs.lemmas.Option.{get_or_from_slice_get, slice_get-get_or, slice_get_within}
 use Rattle.p3_base.specs.declared.refusal.Code.TheVariants.{FlatTooWide}
 use Rattle.p3_base.specs.declared.refusal.Refusal.{Refusal}
 use Rattle.p3_base.specs.declared.refusal.Role.TheVariants as role
@@ -34,11 +34,12 @@ use Rattle.p3_flat.specs.Flattened.{IsFlattened, first_too_wide}
 use Rattle.p3_flat.proofs.FlatLaws.{can_be_flattened, flat_free, flat_sized, flat_translates, flat_well_named}
 use Rattle.p3_writer.specs.TaskOf.{task_of}
 use Rattle.p3_writer.proofs.UnconditionalLaws.{task_unconditional}
-use Rattle.p3_compile.specs.Lean.{IsLean}
-use Rattle.p3_cli.specs.Flattening.{HasFlatText, IsOfWideStep}
+use Rattle.p3_compile.specs.Compiling.{IsCompiledTo}
+use Rattle.p3_cli.specs.Flattening.{HasFlatText, IsOfWideStep, IsRefusedByName, IsRefusedFirst}
 use Rattle.p3_cli.specs.Translation.{AreTextsOf, CanBeCompiled}
 use Rattle.p3_cli.proofs.FaithfulLaws.{faithful_read, text_of_task, translation_faithful}
 use Rattle.p3_cli.proofs.UnconditionalLemmas.{same_unconditional}
+use Rattle.p3_cli.proofs.TranslationLemmas.{is_target_of}
 use Rattle.p3_cli.proofs.WideLaws.{wide_actions_are_of_wide_steps}
 
 -- ---- texts
@@ -69,13 +70,28 @@ module _ (T : Task) (G : GroundTask) (w : Weights) (X Y : Target) (can : CanBeCo
 
 -- ---- the step of an action
 
-module _ (T : Task) (G : GroundTask) (w : Weights) (X : Target) (can : CanBeCompiled T G w) (lean : IsLean G w X) (place : ℕ) (first : first_too_wide X ≡ Some place) where
+module _ (T : Task) (G : GroundTask) (w : Weights) (X : Target) (can : CanBeCompiled T G w) (is : IsCompiledTo G w X) (place : ℕ) (first : first_too_wide X ≡ Some place) where
   -- the first action that has too many conditions is one of a step that may have too many
   pub first_of_wide_step : (d : TargetAction) → IsOfWideStep T (get_or X.actions place d).name
   first_of_wide_step d =
       let found = position-Some is_too_wide X.actions place d first in
       let action = get_or X.actions place d in
-      wide_actions_are_of_wide_steps T G w X can.grounding lean action (place, found.0, get_or_default X.actions place action d found.0) found.1
+      wide_actions_are_of_wide_steps T G w X can.grounding is.lean action (place, found.0, get_or_default X.actions place action d found.0) found.1
+
+  -- and so the refusal of that step is the one of the first such action
+  pub first_refused : (d : TargetAction) (refusal : Refusal) → IsRefusedByName T (get_or X.actions place d).name refusal → IsRefusedFirst T refusal
+  first_refused d refusal by = record {
+    at = by.at;
+    first = record {
+      target = X;
+      of = is_target_of T G w X can is;
+      place = place;
+      first = first;
+      action = get_or X.actions place d;
+      stands = slice_get-get_or X.actions place d (position-Some is_too_wide X.actions place d first).0;
+      is = by.is;
+    };
+  }
 
 module _ (T : Task) (name : List ℕ) (of : IsOfWideStep T name) where
   pub number_within : of.number < length (steps T)

@@ -9,7 +9,6 @@ use Rattle.p3_tree.specs.declared.command.CommandKind.TheVariants.{Compile, Comp
 use Rattle.p3_tree.specs.PlanTexts.{IsPlanText, plan_offence, step_limit}
 use Rattle.p3_tree.specs.Plans.{Plan}
 use Rattle.p3_tree.specs.Refusals.First.{given_task}
-use Rattle.p3_tree.specs.Refusals.Flat.{IsFlatRefusal, IsWideStepAt}
 use Rattle.p3_tree.specs.Samples.{sample_domain, sample_plan, sample_problem}
 use Rattle.p3_tree.specs.declared.task.Task.{Task}
 use Rattle.p3_tree.proofs.RefusalLaws.{nothing_is_refused}
@@ -19,13 +18,13 @@ use Rattle.p3_cli.specs.Embedding.{IsEmbedding}
 use Rattle.p3_cli.specs.Ending.{Ending}
 use Rattle.p3_cli.specs.Evaluation.{AreOfPlan, IsEvaluation, IsFaultOf, IsRejectedPlan, IsReportOf, OfText, RejectsPlan, given_plan}
 use Rattle.p3_cli.specs.Explaining.{IsExplained, IsExplanation, IsUnexplained, IsUnfit, RejectsExplaining}
-use Rattle.p3_cli.specs.Flattening.{IsFlatTranslation, IsStoppedFlat, StopsFlat}
+use Rattle.p3_cli.specs.Flattening.{IsFlatTranslation, IsStoppedFlat, IsTooWide, StopsFlat}
 use Rattle.p3_cli.specs.Following.{IsFollowed}
 use Rattle.p3_lift.specs.Lifting.{IsLiftFail}
 use Rattle.p3_lift.specs.declared.answers.LiftFail.{LiftFail}
 use Rattle.p3_cli.specs.Lifting.{IsLifting, RejectsLift, TellsFail}
 use Rattle.p3_cli.specs.Product.{AcceptsBy, IsTold, ProducesBy, Stops, StopsBy}
-use Rattle.p3_cli.specs.Refusing.{AllTexts, AreAcceptedFor, IsRefusal, IsRefusedFor, IsRefusedTask, IsRejectedBy, Says, for_lift, only_task, with_plan}
+use Rattle.p3_cli.specs.Refusing.{AllTexts, AreAcceptedFor, IsRefusal, IsRefusedTask, IsRejectedBy, Says, for_lift, only_task, with_plan}
 use Rattle.p3_cli.specs.Sampling.{IsSampling}
 use Rattle.p3_cli.specs.Store.{AreWithin, nameless}
 use Rattle.p3_cli.specs.Translation.{HasLayout, IsTranslation}
@@ -68,7 +67,7 @@ module _ (n : ℕ) (read : List (List ℕ)) (texts : AllTexts) (is : read ≡ te
 
   flat_stops : texts ≡ only_task texts.domain texts.problem → (end : Ending) → StopsFlat texts end → StopsBy CompileFlat n (texts.domain ∷ texts.problem ∷ []) end
   flat_stops only end (inl said) = inl (subst (λ all. Refuses all end) only said)
-  flat_stops only end (inr said) = inr (subst (λ all. Says all (IsFlatRefusal texts.domain texts.problem) end) only said)
+  flat_stops only end (inr said) = inr (subst (λ all. Says all (IsTooWide texts.domain texts.problem) end) only said)
 
   pub flat_rejects : texts ≡ only_task texts.domain texts.problem → (how : code.Ending) → IsStoppedFlat texts how → IsRejectedBy (StopsBy CompileFlat n read) how
   flat_rejects only how told =
@@ -230,12 +229,6 @@ unfit_plan texts task accepted plan spelled few =
       texts = record { accepted = accepted; spelled = spelled; few = few };
       unfit = wrong;
     }))
-
--- a step of an accepted task has too many conditions
-pub wide_step_stops : (texts : AllTexts) (task : Task) → AreAcceptedFor Source texts task → (how : code.Ending) → IsRefusedFor texts (IsWideStepAt task) how → IsStoppedFlat texts how
-wide_step_stops texts task accepted =
-    says_more (Says texts (IsWideStepAt task)) (StopsFlat texts)
-    (λ how said. inr (record { refusal = said.refusal; shows = record { task = task; accepted = accepted; at = said.shows }; says = said.says }))
 
 pub refused_flat : (texts : AllTexts) (how : code.Ending) → IsRefusedTask texts how → IsStoppedFlat texts how
 refused_flat texts = says_more (IsRefusal (given_task Source texts.domain texts.problem) texts) (StopsFlat texts) (λ how said. inl said)

@@ -1,20 +1,25 @@
 -- What `compile-flat` makes of a task, and why it may make nothing of it.
-use Rattle.std.specs.Prelude.{ℕ, ◌≡◌, ◌⊎◌, ◌<◌, List}
+use Rattle.std.specs.Prelude.{ℕ, ◌≡◌, ◌⊎◌, ◌<◌, List, Some, slice_get}
 use Rattle.p3_base.specs.Copies.{IsNamedFor}
 use Rattle.p3_base.specs.Words.{Name}
+use Rattle.p3_base.specs.declared.refusal.Refusal.{Refusal}
 use Rattle.p3_base.specs.declared.refusal.Side.TheVariants.{Source}
 use Rattle.p3_tree.specs.Faithful.{Faithful}
 use Rattle.p3_tree.specs.Grammar.Texts.{Reads}
 use Rattle.p3_tree.specs.Refusals.First.{AreAccepted, given_task}
-use Rattle.p3_tree.specs.Refusals.Flat.{IsFlatRefusal, most_conditions}
+use Rattle.p3_tree.specs.Refusals.Flat.{IsFlatRefusal, IsWideStepAt, most_conditions}
 use Rattle.p3_tree.specs.Reports.Tasks.{compiled_lines}
 use Rattle.p3_tree.specs.StepNumbers.{HasNumber}
 use Rattle.p3_tree.specs.Touching.{conds}
 use Rattle.p3_tree.specs.Unconditional.{IsUnconditional}
 use Rattle.p3_tree.specs.declared.task.Step.{Step}
 use Rattle.p3_tree.specs.declared.task.Task.{Task}
+use Rattle.p3_flat.specs.Flattened.{first_too_wide}
+use Rattle.p3_formula.specs.declared.target.Target.{Target}
+use Rattle.p3_formula.specs.declared.target.TargetAction.{TargetAction}
 use Rattle.p3_cli.specs.Ending.{Ending}
 use Rattle.p3_cli.specs.Refusing.{AllTexts, IsRefusal, IsRejectedBy, Says, only_task}
+use Rattle.p3_cli.specs.Translation.{IsTargetOf}
 use Rattle.p3_cli.specs.declared.ending.Ending as code
 
 -- the grammar reads the texts as a faithful translation of the task, and no effect of it has a condition
@@ -31,18 +36,39 @@ pub record IsFlatTranslation (d p od op report : List ℕ) : Type 0 where
   pub text : HasFlatText od op task
   pub told : report ≡ compiled_lines task
 
--- nothing is refused of d and p, but a step of their task may have too many conditions, and the ending says so
+-- ---- the cause of too many conditions
+
+-- the step to which an action of that name belongs
+pub record IsStepOfName (T : Task) (name : Name) (step : Step) : Type 0 where
+  pub number : ℕ
+  pub named : IsNamedFor number name
+  pub has : HasNumber T step number
+
+-- the step of the first action that has too many conditions, of a target of the task
+pub record IsFirstTooWide (T : Task) (step : Step) : Type 0 where
+  pub target : Target
+  pub of : IsTargetOf T target
+  pub place : ℕ
+  pub first : first_too_wide target ≡ Some place
+  pub action : TargetAction
+  pub stands : slice_get target.actions place ≡ Some action
+  pub is : IsStepOfName T action.name step
+
+-- nothing is refused of d and p, but a step of their task may have too many conditions, and it has that first action
+pub record IsTooWide (d p : List ℕ) (refusal : Refusal) : Type 0 where
+  pub is : IsFlatRefusal d p refusal
+  pub first : IsFirstTooWide is.task is.at.step
+
+-- the ending says so
 abbrev pub MayBeTooWide : List ℕ → List ℕ → Ending → Type 0
-MayBeTooWide d p how = Says (only_task d p) (IsFlatRefusal d p) how
+MayBeTooWide d p how = Says (only_task d p) (IsTooWide d p) how
 
 -- the ending says why nothing is made of a task that is read alone: its first refusal, or a step that may have too many conditions
 abbrev pub StopsFlat : AllTexts → Ending → Type 0
-StopsFlat texts how = IsRefusal (given_task Source texts.domain texts.problem) texts how ⊎ Says texts (IsFlatRefusal texts.domain texts.problem) how
+StopsFlat texts how = IsRefusal (given_task Source texts.domain texts.problem) texts how ⊎ Says texts (IsTooWide texts.domain texts.problem) how
 
 abbrev pub IsStoppedFlat : AllTexts → code.Ending → Type 0
 IsStoppedFlat texts how = IsRejectedBy (StopsFlat texts) how
-
--- ---- the cause of too many conditions
 
 -- an action of that name is one of a step of the task, and the step may have more conditions than an action may have
 pub record IsOfWideStep (T : Task) (name : Name) : Type 0 where
@@ -51,3 +77,13 @@ pub record IsOfWideStep (T : Task) (name : Name) : Type 0 where
   pub step : Step
   pub has : HasNumber T step number
   pub wide : most_conditions < conds T step
+
+-- the refusal is of that step
+pub record IsRefusedByName (T : Task) (name : Name) (refusal : Refusal) : Type 0 where
+  pub at : IsWideStepAt T refusal
+  pub is : IsStepOfName T name at.step
+
+-- the refusal is of the step of the first action that has too many conditions
+pub record IsRefusedFirst (T : Task) (refusal : Refusal) : Type 0 where
+  pub at : IsWideStepAt T refusal
+  pub first : IsFirstTooWide T at.step

@@ -5,14 +5,13 @@ use Rattle.p3_tree.specs.Offences.{WellFormed}
 use Rattle.p3_tree.specs.Refusals.First.{AreAccepted}
 use Rattle.p3_tree.specs.Reports.Tasks.{compiled_lines}
 use Rattle.p3_tree.specs.declared.task.Task.{Task}
-use Rattle.p3_formula.specs.Conditions.{HasTidyForms, IsReady}
-use Rattle.p3_formula.specs.Targets.{Compiled}
+use Rattle.p3_formula.specs.Conditions.{IsReady}
 use Rattle.p3_formula.specs.declared.target.Target.{Target}
 use Rattle.p3_formula.specs.declared.target.Weights.{Weights}
 use Rattle.p3_formula.specs.declared.task.GroundTask.{GroundTask}
 use Rattle.p3_ground.specs.Sparse.{IsGroundingOf}
 use Rattle.p3_metric.specs.Weighed.{HasWeights, IsLinearMetric}
-use Rattle.p3_compile.specs.Lean.{IsLean}
+use Rattle.p3_compile.specs.Compiling.{IsCompiledTo}
 use Rattle.p3_writer.specs.Layout.{domain_layout, problem_layout}
 use Rattle.p3_writer.specs.TaskOf.{task_of}
 use Rattle.p3_writer.specs.Texts.{IsDomainTextOf, IsProblemTextOf}
@@ -33,16 +32,18 @@ pub record CanBeCompiled (T : Task) (G : GroundTask) (w : Weights) : Type 0 wher
   pub weighed : HasWeights T w
   pub ready : IsReady G w
 
--- the texts are the layout of a target: a ground task that stands for the task, compiled with the task's weights
-pub record IsLaidOut (task : Task) (od op : List ℕ) : Type 0 where
+-- a ground task that stands for the task, compiled with the task's weights
+pub record IsTargetOf (task : Task) (target : Target) : Type 0 where
   pub ground : GroundTask
   pub weights : Weights
-  pub target : Target
   pub grounding : IsGroundingOf task ground
   pub weighed : HasWeights task weights
-  pub compiled : Compiled ground weights target
-  pub tidy : HasTidyForms target
-  pub lean : IsLean ground weights target
+  pub is : IsCompiledTo ground weights target
+
+-- the texts are the layout of such a target
+pub record IsLaidOut (task : Task) (od op : List ℕ) : Type 0 where
+  pub target : Target
+  pub of : IsTargetOf task target
   pub domain : od ≡ domain_layout target
   pub problem : op ≡ problem_layout target
 

@@ -5,16 +5,17 @@ ghost use Rattle.std.specs.Option.{option_copied};
 ghost use Rattle.p3_base.specs.declared.refusal.Code.TheVariants.{FlatTooWide};
 ghost use Rattle.p3_base.specs.declared.refusal.Role.TheVariants as role;
 ghost use Rattle.p3_tree.specs.Plans.{action_named as action_by_name};
-ghost use Rattle.p3_tree.specs.Refusals.Flat.{IsWideStepAt};
 ghost use Rattle.p3_tree.specs.Refusals.Places as places;
 ghost use Rattle.p3_tree.specs.Reports.Tasks.{compiled_lines};
-ghost use Rattle.p3_compile.specs.Lean.{IsLean};
+ghost use Rattle.p3_compile.specs.Compiling.{IsCompiledTo};
 ghost use Rattle.p3_flat.specs.Flattened.{first_too_wide};
 ghost use Rattle.p3_reports.specs.Reports.{report_text};
 ghost use Rattle.p3_cli.specs.Flattening.{
   HasFlatText,
   IsFlatTranslation,
   IsOfWideStep,
+  IsRefusedByName,
+  IsRefusedFirst,
   IsStoppedFlat,
 };
 ghost use Rattle.p3_cli.specs.Refusing.{IsRefusedFor, all_texts};
@@ -62,7 +63,7 @@ fn flat_translation_of(
     ensures report { IfOk result (λ made.
         report_text made.report ≡ compiled_lines whole.now.checked.task) }
     ensures err { IfErr result
-        (IsRefusedFor (all_texts texts.now) (IsWideStepAt whole.now.checked.task)) }
+        (IsRefusedFor (all_texts texts.now) (IsRefusedFirst whole.now.checked.task)) }
 {
     let target = compile(alloc, whole.ground_task(), whole.weights())?;
     match flatten(alloc, &target) {
@@ -100,9 +101,9 @@ fn wide_action(
 ) -> Result<Refusal, NoMemory>
     requires can { CanBeCompiled
         whole.now.checked.task whole.now.ground_task whole.now.weights }
-    requires lean { IsLean whole.now.ground_task whole.now.weights target.now }
+    requires is { IsCompiledTo whole.now.ground_task whole.now.weights target.now }
     requires first { first_too_wide target.now ≡ Some place }
-    ensures { IfOk result (IsWideStepAt whole.now.checked.task) }
+    ensures { IfOk result (IsRefusedFirst whole.now.checked.task) }
 {
     wide_step(alloc, whole, &target.actions.items()[place].name)
 }
@@ -111,7 +112,7 @@ fn wide_action(
 /// given, where that step may have too many conditions.
 fn wide_step(alloc: Global, whole: &Whole, name: &Name) -> Result<Refusal, NoMemory>
     requires { IsOfWideStep whole.now.checked.task name.now }
-    ensures { IfOk result (IsWideStepAt whole.now.checked.task) }
+    ensures { IfOk result (IsRefusedByName whole.now.checked.task name.now) }
 {
     let checked = whole.checked();
     let Some(number) = owning_step(name.bytes()) else {

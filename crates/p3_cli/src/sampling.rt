@@ -23,9 +23,9 @@ use crate::texts::Texts;
 use p3_base::NoMemory;
 use p3_compile::compile;
 use p3_eval::Whole;
+use p3_gen::{Sample, generate};
 use p3_reports::Report;
 use p3_tree::Plan;
-use p3_writer::{Sample, generate};
 use std::alloc::Global;
 
 /// The texts of a sample, and the report.

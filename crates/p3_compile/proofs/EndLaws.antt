@@ -18,8 +18,8 @@ use Rattle.p3_formula.specs.declared.modal.GroundSoft.{GroundSoft}
 use Rattle.p3_formula.specs.declared.target.TargetAction.{TargetAction}
 use Rattle.p3_formula.specs.declared.task.GroundTask.{GroundTask}
 use Rattle.p3_formula.proofs.FormLemmas.{truth-And, has_atoms-And}
-use Rattle.p3_simulation.specs.Ends.{AreActions, AreBelow, IsMove, Settles}
-use Rattle.p3_simulation.specs.declared.phase.SoftEnd.{SoftEnd}
+use Rattle.p3_endphase.specs.Ends.{AreActions, AreBelow, IsMove, Settles}
+use Rattle.p3_endphase.specs.declared.phase.SoftEnd.{SoftEnd}
 use Rattle.p3_monitors.specs.declared.watching.Monitor.{Monitor}
 use Rattle.p3_simulation.specs.Parts.{AreBefore}
 use Rattle.p3_simulation.specs.Watching.{AreMonitors, AreSoftEnds, NoneLeft, OneMore, all_accept, all_modals, modals}

@@ -5,7 +5,7 @@ use Rattle.p3_formula.specs.Weighted.{named_weight}
 use Rattle.p3_formula.specs.declared.form.Form.{Form}
 use Rattle.p3_formula.specs.declared.modal.GroundModal.{GroundModal}
 use Rattle.p3_formula.specs.declared.modal.GroundSoft.{GroundSoft}
-use Rattle.p3_simulation.specs.declared.phase.SoftEnd.{SoftEnd}
+use Rattle.p3_endphase.specs.declared.phase.SoftEnd.{SoftEnd}
 use Rattle.p3_monitors.specs.declared.watching.Monitor.{Monitor}
 use Rattle.p3_simulation.specs.Watching.{modals}
 use Rattle.p3_compile.specs.Ending.{accepting, soft_ends}

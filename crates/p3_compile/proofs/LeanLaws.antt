@@ -20,9 +20,9 @@ use Rattle.p3_formula.specs.declared.target.Weights.{Weights}
 use Rattle.p3_formula.specs.declared.task.GroundStep.{GroundStep}
 use Rattle.p3_formula.specs.declared.task.GroundTask.{GroundTask}
 use Rattle.p3_formula.proofs.NameLaws.{copy_lifted, other_not_lifted}
-use Rattle.p3_simulation.specs.Ends.{AreActions, IsMove, Settles}
-use Rattle.p3_simulation.specs.declared.phase.EndPhase.{EndPhase}
-use Rattle.p3_simulation.specs.declared.phase.SoftEnd.{SoftEnd}
+use Rattle.p3_endphase.specs.Ends.{AreActions, IsMove, Settles}
+use Rattle.p3_endphase.specs.declared.phase.EndPhase.{EndPhase}
+use Rattle.p3_endphase.specs.declared.phase.SoftEnd.{SoftEnd}
 use Rattle.p3_monitors.specs.declared.watching.Monitor.{Monitor}
 use Rattle.p3_simulation.specs.Gadgets.{AreRising}
 use Rattle.p3_simulation.specs.Watching.{all_modals, modals}

@@ -12,9 +12,10 @@ use Rattle.p3_formula.specs.declared.target.Target.{Target}
 use Rattle.p3_formula.specs.declared.target.TargetAction.{TargetAction}
 use Rattle.p3_formula.specs.declared.target.Weights.{Weights}
 use Rattle.p3_formula.specs.declared.task.GroundTask.{GroundTask}
-use Rattle.p3_simulation.specs.Ends.{AreBelow, IsEndPhase}
-use Rattle.p3_simulation.specs.declared.phase.EndPhase.{EndPhase}
-use Rattle.p3_simulation.specs.declared.phase.SoftEnd.{SoftEnd}
+use Rattle.p3_endphase.specs.Ends.{AreBelow, IsEndPhase}
+use Rattle.p3_endphase.specs.declared.phase.EndPhase.{EndPhase}
+use Rattle.p3_endphase.specs.declared.phase.SoftEnd.{SoftEnd}
+use Rattle.p3_simulation.specs.Assembled.{HasAssembly}
 use Rattle.p3_simulation.specs.Naming.{all_numbered, question_names, wide_steps}
 use Rattle.p3_simulation.specs.Watching.{AreMonitors, AreSoftEnds, all_accept, all_modals, initial_bits}
 use Rattle.p3_compile.specs.Lean.{IsLean}
@@ -84,3 +85,4 @@ pub record IsCompiledTo (G : GroundTask) (weights : Weights) (X : Target) : Type
   pub compiled : Compiled G weights X
   pub tidy : HasTidyForms X
   pub lean : IsLean G weights X
+  pub assembled : HasAssembly G weights X

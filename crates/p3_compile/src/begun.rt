@@ -17,8 +17,8 @@ use crate::stepping::{Frame, has_wide, push_all, step_actions};
 use crate::watching::monitors;
 use crate::weighing::is_wide;
 use p3_base::{List, Name, NoMemory};
+use p3_endphase::{EndPhase, end_phase_taking};
 use p3_formula::{Bits, Form, GroundStep, GroundTask, Target, TargetAction, Weights};
-use p3_simulation::{EndPhase, end_phase};
 use std::alloc::Global;
 
 /// A target whose steps have no actions yet: its atoms, its initial state, and its end phase.
@@ -78,7 +78,7 @@ fn ending(
     let (hard, soft) = frame.monitors.items().split_at(task.hard.len());
     let finish = finish_form(alloc, &task.goal, hard)?;
     let instances = soft_ends(alloc, &weights.by_name, &task.soft, soft)?;
-    end_phase(alloc, finish, &instances, frame.go)
+    end_phase_taking(alloc, finish, &instances, frame.go)
 }
 
 /// Names the question atoms, where some step is wide.

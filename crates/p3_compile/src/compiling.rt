@@ -3,6 +3,7 @@
 ghost use Rattle.std.specs.Prelude.{IfOk};
 ghost use Rattle.p3_formula.specs.Conditions.{IsReady, HasTidyForms};
 ghost use Rattle.p3_formula.specs.Targets.{Compiled};
+ghost use Rattle.p3_simulation.specs.Assembled.{HasAssembly};
 ghost use Rattle.p3_compile.specs.Lean.{IsLean};
 ghost use Rattle.p3_compile.specs.Compiling.{IsBegun};
 ghost use Rattle.p3_compile.specs.Stepping.{HasStepActions};
@@ -46,6 +47,8 @@ pub fn compile(alloc: Global, task: &GroundTask, weights: &Weights) -> Result<Ta
     ensures tidy { IfOk result HasTidyForms }
     // The changes of a step are few.
     ensures lean { IfOk result (IsLean task.now weights.now) }
+    // Its atoms and actions have the names and the order of the layout.
+    ensures assembled { IfOk result (HasAssembly task.now weights.now) }
 {
     begun_targets_are_compiled();
     let begun = BegunTarget::of(alloc, task, weights)?;

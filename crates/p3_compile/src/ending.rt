@@ -10,9 +10,9 @@ ghost use Rattle.p3_compile.specs.Watched.{soft_modals};
 
 use crate::weighing::named_weight;
 use p3_base::{List, NoMemory};
+use p3_endphase::SoftEnd;
 use p3_formula::{Form, GroundSoft, copied};
 use p3_monitors::Monitor;
-use p3_simulation::SoftEnd;
 use std::alloc::Global;
 
 /// All parts hold, and all monitors accept.

@@ -23,9 +23,9 @@ use Rattle.p3_formula.specs.declared.target.Weights.{Weights}
 use Rattle.p3_formula.specs.declared.task.GroundStep.{GroundStep}
 use Rattle.p3_formula.specs.declared.task.GroundTask.{GroundTask}
 use Rattle.p3_formula.proofs.TurnLaws.{conditions_below}
-use Rattle.p3_simulation.specs.declared.phase.SoftEnd.{SoftEnd}
-use Rattle.p3_simulation.specs.Ends.{AreActions, Settles}
-use Rattle.p3_simulation.proofs.EndLemmas as ends
+use Rattle.p3_endphase.specs.declared.phase.SoftEnd.{SoftEnd}
+use Rattle.p3_endphase.specs.Ends.{AreActions, Settles}
+use Rattle.p3_endphase.proofs.EndLemmas as ends
 use Rattle.p3_monitors.specs.Riders.{AreKept}
 use Rattle.p3_simulation.proofs.EndForms.{front_modals, end_count, may_by, settled_soft}
 use Rattle.p3_simulation.proofs.Steps.{are_rising, all_currents, gadgets_of, uncounted}

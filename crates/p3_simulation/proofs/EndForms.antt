@@ -18,8 +18,8 @@ use Rattle.p3_formula.specs.declared.target.Weights.{Weights}
 use Rattle.p3_formula.specs.declared.task.GroundTask.{GroundTask}
 use Rattle.p3_formula.proofs.KeptLaws.{accepts_sat}
 use Rattle.p3_formula.proofs.NextLaws.{truth-below}
-use Rattle.p3_simulation.specs.declared.phase.SoftEnd.{SoftEnd}
-use Rattle.p3_simulation.specs.Ends.{weight_in, violation}
+use Rattle.p3_endphase.specs.declared.phase.SoftEnd.{SoftEnd}
+use Rattle.p3_endphase.specs.Ends.{weight_in, violation}
 use Rattle.p3_monitors.specs.Riders.{AreKept}
 use Rattle.p3_monitors.specs.declared.watching.Monitor.{Monitor}
 use Rattle.p3_simulation.specs.Parts.{may_end, end_loss, weigh}

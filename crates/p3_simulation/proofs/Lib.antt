@@ -1,9 +1,7 @@
-pub mod ActionLemmas
 pub mod Assembling
 pub mod Bounds
 pub mod CompiledLaw
 pub mod EndForms
-pub mod EndLemmas
 pub mod GadgetLaws
 pub mod GroundWalks
 pub mod Guarded
@@ -12,7 +10,6 @@ pub mod Machine
 pub mod Made
 pub mod MadeLaws
 pub mod MadeMachine
-pub mod MoveLemmas
 pub mod Named
 pub mod Narrow
 pub mod Simulation
@@ -21,6 +18,5 @@ pub mod Spelled
 pub mod Steps
 pub mod Walks
 pub mod Watched
-pub mod WholeLemmas
 pub mod Wide
 pub mod Worked

@@ -9,8 +9,8 @@ use Rattle.p3_formula.specs.declared.modal.GroundModal.{GroundModal}
 use Rattle.p3_formula.specs.declared.modal.GroundModal.TheVariants.{AtEnd, Always, Sometime, AtMostOnce, SometimeAfter, SometimeBefore}
 use Rattle.p3_formula.specs.declared.target.TargetAction.{TargetAction}
 use Rattle.p3_formula.proofs.NextLaws.{is_set-unchanged}
-use Rattle.p3_simulation.specs.declared.phase.SoftEnd.{SoftEnd}
-use Rattle.p3_simulation.specs.Ends.{moving, IsMove, Settles, AreActions}
+use Rattle.p3_endphase.specs.declared.phase.SoftEnd.{SoftEnd}
+use Rattle.p3_endphase.specs.Ends.{moving, IsMove, Settles, AreActions}
 use Rattle.p3_formula.specs.Kept.{AreAt, atom_count, watched}
 use Rattle.p3_monitors.specs.Riders.{AreKept}
 use Rattle.p3_formula.specs.Alike.{AgreeBelow}

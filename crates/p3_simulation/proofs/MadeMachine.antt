@@ -19,9 +19,9 @@ use Rattle.p3_formula.specs.declared.target.Weights.{Weights}
 use Rattle.p3_formula.specs.declared.task.GroundStep.{GroundStep}
 use Rattle.p3_formula.specs.declared.task.GroundTask.{GroundTask}
 use Rattle.p3_formula.proofs.NextLaws.{length-after}
-use Rattle.p3_simulation.specs.declared.phase.EndPhase.{EndPhase}
-use Rattle.p3_simulation.specs.declared.phase.SoftEnd.{SoftEnd}
-use Rattle.p3_simulation.specs.Ends.{IsSingleAt, Ends, violation, HasOneEnd}
+use Rattle.p3_endphase.specs.declared.phase.EndPhase.{EndPhase}
+use Rattle.p3_endphase.specs.declared.phase.SoftEnd.{SoftEnd}
+use Rattle.p3_endphase.specs.Ends.{IsSingleAt, Ends, violation, HasOneEnd}
 use Rattle.p3_monitors.specs.Riders.{AreKept, AreRiders, IsRidden, after_all, AreBeside}
 use Rattle.p3_formula.specs.Alike.{AgreeBelow}
 use Rattle.p3_monitors.specs.declared.watching.Monitor.{Monitor}

@@ -20,8 +20,8 @@ use Rattle.p3_formula.specs.declared.target.TargetAction.{TargetAction}
 use Rattle.p3_formula.specs.declared.target.Weights.{Weights}
 use Rattle.p3_formula.specs.declared.task.GroundStep.{GroundStep}
 use Rattle.p3_formula.specs.declared.task.GroundTask.{GroundTask}
-use Rattle.p3_simulation.specs.Ends.{AreActions, Settles}
-use Rattle.p3_simulation.specs.declared.phase.SoftEnd.{SoftEnd}
+use Rattle.p3_endphase.specs.Ends.{AreActions, Settles}
+use Rattle.p3_endphase.specs.declared.phase.SoftEnd.{SoftEnd}
 use Rattle.p3_monitors.specs.declared.watching.Monitor.{Monitor}
 use Rattle.p3_precprefs.specs.Copies.{IsSublist, Nothing, Keeps, Leaves, both_ways, patterns, violated_lists}
 use Rattle.p3_precprefs.specs.Questions.{AreAnswers}

@@ -14,8 +14,8 @@ use Rattle.p3_formula.specs.Tidy.{look}
 use Rattle.p3_formula.specs.declared.form.Form.TheVariants.{True, Atom}
 use Rattle.p3_formula.specs.declared.modal.GroundModal.TheVariants.{AtEnd}
 use Rattle.p3_formula.proofs.Worked.{task, weights, target, step, finish, collect, forgo, computes}
-use Rattle.p3_simulation.specs.Ends.{IsMove}
-use Rattle.p3_simulation.specs.declared.phase.SoftEnd.{SoftEnd}
+use Rattle.p3_endphase.specs.Ends.{IsMove}
+use Rattle.p3_endphase.specs.declared.phase.SoftEnd.{SoftEnd}
 use Rattle.p3_monitors.specs.declared.watching.Monitor.{Monitor}
 use Rattle.p3_monitors.proofs.AcceptLaws.{accept_atoms}
 use Rattle.p3_monitors.proofs.UpdateLaws.{at_end_update}

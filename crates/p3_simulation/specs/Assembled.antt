@@ -15,9 +15,9 @@ use Rattle.p3_formula.specs.declared.target.TargetAction.{TargetAction}
 use Rattle.p3_formula.specs.declared.target.Weights.{Weights}
 use Rattle.p3_formula.specs.declared.task.GroundStep.{GroundStep}
 use Rattle.p3_formula.specs.declared.task.GroundTask.{GroundTask}
-use Rattle.p3_simulation.specs.Ends.{AreBelow, IsEndPhase}
-use Rattle.p3_simulation.specs.declared.phase.EndPhase.{EndPhase}
-use Rattle.p3_simulation.specs.declared.phase.SoftEnd.{SoftEnd}
+use Rattle.p3_endphase.specs.Ends.{AreBelow, IsEndPhase}
+use Rattle.p3_endphase.specs.declared.phase.EndPhase.{EndPhase}
+use Rattle.p3_endphase.specs.declared.phase.SoftEnd.{SoftEnd}
 use Rattle.p3_monitors.specs.declared.watching.Monitor.{Monitor}
 use Rattle.p3_precprefs.specs.Copies.{HasOneCopy, HasAtomsIn, IsSublist, fitting, patterns, violated_lists}
 use Rattle.p3_precprefs.specs.Questions.{IsChain}
@@ -102,3 +102,7 @@ pub record IsAssembled (G : GroundTask) (weights : Weights) (X : Target) (made :
   pub ends : AreSoftEnds weights.by_name G.soft (drop (length G.hard) made.monitors) made.instances
   pub instances : AreBelow made.go made.instances
   pub phase : IsEndPhase made.finish made.instances made.go made.phase
+
+-- the target has names, order, preconditions, changes and costs as the layout has them
+abbrev pub HasAssembly : GroundTask → Weights → Target → Type 0
+HasAssembly G weights X = (made : Assembly) × IsAssembled G weights X made

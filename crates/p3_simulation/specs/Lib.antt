@@ -1,5 +1,4 @@
 pub mod Assembled
-pub mod Ends
 pub mod Gadgets
 pub mod Naming
 pub mod Parts

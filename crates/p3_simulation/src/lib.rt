@@ -1,9 +1,7 @@
-//! The end phase of a target, and the laws of compiled ground tasks: a target that is made of gadgets,
-//! monitors that ride together and an end phase is a compiled task.
+//! The theorem of compilation, apart from the code: a target that is made of gadgets, monitors that
+//! ride together and an end phase is a compiled task. It has laws alone, which crates above cite.
 #![tactic(auto)]
 
 mod laws;
-mod phase;
 
 pub use laws::{assembled_targets_are_compiled, parts_make_a_compiled_task};
-pub use phase::{EndPhase, SoftEnd, end_phase};

@@ -1,6 +1,4 @@
 pub mod LayoutLemmas
-pub mod LengthLemmas
-pub mod PieceLemmas
 pub mod PoolLemmas
 pub mod Texts
 pub mod UnconditionalLaws

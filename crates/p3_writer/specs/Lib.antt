@@ -1,7 +1,6 @@
 pub mod AtomTexts
 pub mod DomainText
 pub mod Layout
-pub mod Pieces
 pub mod TaskOf
 pub mod Texts
 pub mod Written

@@ -1,6 +1,6 @@
 use Rattle.std.proofs.Common.{subst}
 use Rattle.p3_formula.specs.Targets.{Compiled}
-use Rattle.p3_compile.specs.Lean.{IsLean}
+use Rattle.p3_compile.specs.Compiling.{IsCompiledTo}
 use Rattle.p3_reports.specs.Reports.{report_text}
 use Rattle.p3_cli.specs.Refusing.{all_texts}
 use Rattle.p3_cli.proofs.EmbeddingLemmas.{embedded_words, is_embedded}
@@ -52,10 +52,10 @@ returns-clause-layout c =
     let target = c.in_ok-target in
     let X = target.target in
     let made = c.in_ok-made in
-    let compiled = subst (λ ground. Compiled ground w X) c.ground_task.ensures (subst (λ weights. Compiled c.ground_task.result.now weights X) c.weights.ensures.weights target.ensures.compiled) in
-    let lean = subst (λ ground. IsLean ground w X) c.ground_task.ensures (subst (λ weights. IsLean c.ground_task.result.now weights X) c.weights.ensures.weights target.ensures.lean) in
+    let made_is : IsCompiledTo c.ground_task.result.now c.weights.result.now X = record { compiled = target.ensures.compiled; tidy = target.ensures.tidy; lean = target.ensures.lean; assembled = target.ensures.assembled } in
+    let is = subst (λ ground. IsCompiledTo ground w X) c.ground_task.ensures (subst (λ weights. IsCompiledTo c.ground_task.result.now weights X) c.weights.ensures.weights made_is) in
     record {
       task = T;
       accepted = whole.ensures.accepted;
-      laid_out = is_laid_out T G w X whole.ensures.ready compiled target.ensures.tidy lean made.made.domain.items made.made.problem.items made.ensures.text.domain made.ensures.text.problem;
+      laid_out = is_laid_out T G w X whole.ensures.ready is made.made.domain.items made.made.problem.items made.ensures.text.domain made.ensures.text.problem;
     }

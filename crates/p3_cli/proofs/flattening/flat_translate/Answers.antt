@@ -1,6 +1,5 @@
 use Rattle.std.proofs.Common.{inr}
-use Rattle.p3_tree.specs.Refusals.Flat.{IsWideStepAt}
-use Rattle.p3_cli.specs.Flattening.{StopsFlat}
+use Rattle.p3_cli.specs.Flattening.{IsRefusedFirst, StopsFlat}
 use Rattle.p3_cli.specs.Refusing.{Says, all_texts}
 use Rattle.p3_cli.proofs.ResultLemmas.{if_both, if_err}
 use Rattle.p3_cli.proofs.SpelledLemmas.{says_more}
@@ -21,9 +20,9 @@ returns-clause-err c =
     let texts = all_texts c.args.texts.now in
     let whole = c.in_ok-whole in
     if_err c.flat_translation_of-made.result
-    (says_more (Says texts (IsWideStepAt whole.whole.checked.task)) (StopsFlat texts) (λ how said. inr (record {
+    (says_more (Says texts (IsRefusedFirst whole.whole.checked.task)) (StopsFlat texts) (λ how said. inr (record {
       refusal = said.refusal;
-      shows = record { task = whole.whole.checked.task; accepted = whole.ensures.accepted; at = said.shows };
+      shows = record { is = record { task = whole.whole.checked.task; accepted = whole.ensures.accepted; at = said.shows.at }; first = said.shows.first };
       says = said.says;
     })))
     c.flat_translation_of-made.ensures.err

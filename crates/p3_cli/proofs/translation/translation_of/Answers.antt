@@ -21,4 +21,4 @@ returns-clause-layout c =
     let w = c.weights.result.now in
     let made = c.in_ok-texts.ensures in
     let can : CanBeCompiled T G w = subst (λ ground. CanBeCompiled T ground w) (sym c.ground_task.ensures) (subst (λ weights. CanBeCompiled T whole.ground_task weights) (sym c.weights.ensures.weights) c.requires) in
-    is_laid_out T G w made.target can made.is.compiled made.is.tidy made.is.lean c.in_ok-texts.texts.domain.items c.in_ok-texts.texts.problem.items made.texts.domain made.texts.problem
+    is_laid_out T G w made.target can made.is c.in_ok-texts.texts.domain.items c.in_ok-texts.texts.problem.items made.texts.domain made.texts.problem

@@ -1,7 +1,7 @@
 use Rattle.std.proofs.Common.{◌≡◌, ◌∙◌, ℕ, [], ◌∷◌, List, length, take, drop, refl, sym, ap, subst, arith}
 use Rattle.std.proofs.lemmas.Bool.{and_from}
 use Rattle.std.proofs.lemmas.Result.{IfOk-weaker}
-use Rattle.p3_simulation.specs.Ends.{AreBelow}
+use Rattle.p3_endphase.specs.Ends.{AreBelow}
 use Rattle.p3_formula.specs.Forms.{is_below, truth}
 use Rattle.p3_monitors.specs.declared.watching.Monitor.{Monitor}
 use Rattle.p3_simulation.specs.Watching.{AreSoftEnds, modals}
@@ -25,30 +25,10 @@ pub soft_ends-requires-clause-modals : goal.soft_ends-requires-clause-modals
 soft_ends-requires-clause-modals c =
     ap modals (back_is c.len.result (length c.args.task.now.hard) c.items.result.now c.args.frame.now.monitors c.split_at.result.1.now c.split_at.ensures.back c.len.ensures c.items.ensures) ∙ soft_are c.args.task.now c.args.frame.now c.requires.framed
 
-pub end_phase-requires-clause-finish : goal.end_phase-requires-clause-finish
-end_phase-requires-clause-finish c =
-    let go = c.args.frame.now.go in
-    let before = cut_before go (length c.args.task.now.hard) c.args.frame.now.monitors (frame_before c.args.task.now c.args.frame.now c.requires.framed c.requires.ready.atoms) in
-    ap (is_below go) (c.in_ok-finish.ensures ∙ ap (accepting (c.args.task.now.goal ∷ [])) (front_is c.len.result (length c.args.task.now.hard) c.items.result.now c.args.frame.now.monitors c.split_at.result.0.now c.split_at.ensures.front c.len.ensures c.items.ensures))
-    ∙ accepting_below go (c.args.task.now.goal ∷ []) (take (length c.args.task.now.hard) c.args.frame.now.monitors)
-    (and_from (is_below go c.args.task.now.goal) _ (below_more c.args.task.now.atoms go (sources_inside c.args.task.now c.args.frame.now c.requires.framed) c.args.task.now.goal c.requires.ready.atoms.goal) refl) before.0
-
-pub end_phase-requires-clause-accept : goal.end_phase-requires-clause-accept
-end_phase-requires-clause-accept c =
-    let go = c.args.frame.now.go in
-    let before = cut_before go (length c.args.task.now.hard) c.args.frame.now.monitors (frame_before c.args.task.now c.args.frame.now c.requires.framed c.requires.ready.atoms) in
-    let back = back_is c.len.result (length c.args.task.now.hard) c.items.result.now c.args.frame.now.monitors c.split_at.result.1.now c.split_at.ensures.back c.len.ensures c.items.ensures in
-    subst (AreBelow go) (sym (c.in_ok-instances.ensures ∙ ap (soft_ends c.args.weights.now.by_name c.args.task.now.soft) back)) (ends_below go c.args.weights.now.by_name c.args.task.now.soft (drop (length c.args.task.now.hard) c.args.frame.now.monitors) before.1)
-
-pub end_phase-requires-clause-room : goal.end_phase-requires-clause-room
-end_phase-requires-clause-room c =
+pub end_phase_taking-requires : goal.end_phase_taking-requires
+end_phase_taking-requires c =
     let count = ap length c.in_ok-instances.ensures ∙ ends_count c.args.weights.now.by_name c.args.task.now.soft c.split_at.result.1.now in
     let questions = c.requires.framed.questions in let room = c.requires.framed.room in omega (arith, count, questions, room)
-
-pub end_phase-requires-clause-few : goal.end_phase-requires-clause-few
-end_phase-requires-clause-few c =
-    let count = ap length c.in_ok-instances.ensures ∙ ends_count c.args.weights.now.by_name c.args.task.now.soft c.split_at.result.1.now in
-    let few = c.requires.ready.few in omega (arith, count, few)
 
 pub returns : goal.returns
 returns c =
@@ -60,7 +40,7 @@ returns c =
     let finish = c.in_ok-finish.ensures ∙ ap (accepting (c.args.task.now.goal ∷ [])) front in
     let instances = c.in_ok-instances.ensures ∙ ap (soft_ends c.args.weights.now.by_name c.args.task.now.soft) back in
     let before = cut_before go hard monitors (frame_before c.args.task.now c.args.frame.now c.requires.framed c.requires.ready.atoms) in
-    IfOk-weaker c.end_phase.result _ _ (λ phase phase_is. record {
+    IfOk-weaker c.end_phase_taking.result _ _ (λ phase phase_is. record {
       finish = c.in_ok-finish.finish;
       instances = c.in_ok-instances.instances;
       accepts = λ state. ap (truth state) finish ∙ finish_truth state c.args.task.now.goal (take hard monitors);
@@ -70,4 +50,4 @@ returns c =
       accept_below = subst (AreBelow go) (sym instances) (ends_below go c.args.weights.now.by_name c.args.task.now.soft (drop hard monitors) before.1);
       phase_is = phase_is;
       tidy = phase_tidy go c.in_ok-finish.finish c.in_ok-instances.instances phase.actions phase_is.settles;
-    }) c.end_phase.ensures.actions
+    }) c.end_phase_taking.ensures

@@ -12,4 +12,5 @@ returns c =
       compiled = IfOk-weaker c.target.result _ _ (λ target is. (subst (IsCompiledTo G weights) (sym is) compiled).compiled) c.target.ensures;
       tidy = IfOk-weaker c.target.result _ _ (λ target is. (subst (IsCompiledTo G weights) (sym is) compiled).tidy) c.target.ensures;
       lean = IfOk-weaker c.target.result _ _ (λ target is. (subst (IsCompiledTo G weights) (sym is) compiled).lean) c.target.ensures;
+      assembled = IfOk-weaker c.target.result _ _ (λ target is. (subst (IsCompiledTo G weights) (sym is) compiled).assembled) c.target.ensures;
     }

@@ -1,0 +1,4 @@
+pub mod ActionLemmas
+pub mod EndLemmas
+pub mod MoveLemmas
+pub mod WholeLemmas

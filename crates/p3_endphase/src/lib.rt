@@ -1,0 +1,6 @@
+//! The end phase of a target: the actions that settle preferences behind a plan.
+#![tactic(auto)]
+
+mod phase;
+
+pub use phase::{EndPhase, SoftEnd, end_phase, end_phase_taking};

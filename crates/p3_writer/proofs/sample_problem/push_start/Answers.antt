@@ -1,9 +1,0 @@
-use Rattle.std.proofs.Common.{append_assoc, ap, ◌∙◌, ◌++◌, sym}
-use Rattle.std.specs.Prelude.{string_bytes}
-use Rattle.p3_writer.proofs.PieceLemmas.{start_is}
-use Rattle.p3_writer.proofs.sample_problem.push_start.Goals as goal
-
-pub returns : goal.returns
-returns c =
-    rw (c.in_ok-push_str-3.ensures.bytes, c.in_ok-push_pieces-3.ensures, c.in_ok-push_str-2.ensures.bytes, c.in_ok-push_pieces-2.ensures, c.in_ok-push_pieces.ensures, c.in_ok-push_str.ensures.bytes) (simp append_assoc)
-    ∙ ap (λ text. string_bytes c.args.text.now ++ text) (sym (start_is c.args.n))
