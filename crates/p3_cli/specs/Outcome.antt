@@ -1,8 +1,8 @@
 -- What comes of reading all inputs and of writing all outputs.
-use Rattle.std.specs.Prelude.{ℕ, ◌≡◌, List, Option, IfSome, Contains, map}
+use Rattle.std.specs.Prelude.{ℕ, ◌≡◌, List, Option, IfSome}
 use Rattle.p3_base.specs.Outside.{Store, Rose}
 use Rattle.p3_tree.specs.Commands.{Input, Output}
-use Rattle.p3_cli.specs.Store.{reading, Texts, TooLong, AreFirstWritten, IsWrittenUpTo}
+use Rattle.p3_cli.specs.Store.{reading, Texts, TooLong, AreFirstWritten, IsUnreadAt, IsWrittenUpTo}
 use Rattle.p3_cli.specs.declared.ending.Ending.{Ending}
 use Rattle.p3_cli.specs.declared.ending.Ending.TheVariants as ending
 
@@ -13,7 +13,7 @@ ReadsAll told inputs texts = IfSome told (λ store. reading store inputs ≡ Tex
 -- why the inputs were not all read
 abbrev pub ReadFails : Option Store → List Input → ℕ → ℕ → Ending → Type 0
 ReadFails told inputs before after (ending.TooLong role) = IfSome told (λ store. reading store inputs ≡ TooLong role)
-ReadFails told inputs before after (ending.ReadFailed role) = Contains (map (λ input. input.role) inputs) role × Rose before after
+ReadFails told inputs before after (ending.ReadFailed role) = IsUnreadAt told inputs role × Rose before after
 ReadFails told inputs before after ending.OutOfMemory = Unit {0}
 ReadFails told inputs before after (ending.Done report) = ⊥
 ReadFails told inputs before after (ending.Refused rejection) = ⊥

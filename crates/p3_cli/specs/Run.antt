@@ -1,5 +1,5 @@
 -- A whole run: when each ending comes, what it leaves in the files, and what it puts.
-use Rattle.std.specs.Prelude.{ℕ, ◌≡◌, ◌⊎◌, List, Option, Some, None, IfSome, Contains, map, ◌≢◌}
+use Rattle.std.specs.Prelude.{ℕ, ◌≡◌, ◌⊎◌, List, Option, Some, None, IfSome, map, ◌≢◌}
 use Rattle.std.specs.Option.{option_map}
 use Rattle.std.specs.List.{AllByRecursion}
 use Rattle.p3_base.specs.Outside.{FilesSeen, SinkSeen, Store, Rose, bytes_under}
@@ -8,7 +8,7 @@ use Rattle.p3_cli.specs.Ending.{Ending, Tells, status_of}
 use Rattle.p3_cli.specs.Product.{Rejects, Stops, Accepts, AcceptsSurely, Produces, texts_in}
 use Rattle.p3_tree.specs.Commands.{Command, Output, inputs, outputs}
 use Rattle.p3_cli.specs.Status as status
-use Rattle.p3_cli.specs.Store.{Reading, Texts, TooLong, Absent, reading, AreStored, holding_all, AreFirstWritten, IsWrittenUpTo}
+use Rattle.p3_cli.specs.Store.{Reading, Texts, TooLong, Absent, reading, AreStored, holding_all, AreFirstWritten, IsUnreadAt, IsWrittenUpTo}
 
 -- the ending says why nothing is made of what was read
 abbrev pub ShownBy : Command → Reading → Ending → Type 0
@@ -48,7 +48,7 @@ Comes command old new (ending.Done lines) = IfSome old.held (λ store. IsAccepte
 Comes command old new (ending.Refused rejection) = IfSome old.held (λ store. MayBeRejectionIn store command (ending.Refused rejection))
 Comes command old new (ending.Invalid fault) = IfSome old.held (λ store. MayBeRejectionIn store command (ending.Invalid fault))
 Comes command old new (ending.TooLong role) = IfSome old.held (λ store. MayBeRejectionIn store command (ending.TooLong role))
-Comes command old new (ending.ReadFailed role) = Contains (map (λ input. input.role) (inputs command)) role × Rose old.read_faults new.read_faults
+Comes command old new (ending.ReadFailed role) = IsUnreadAt old.held (inputs command) role × Rose old.read_faults new.read_faults
 Comes command old new (ending.WriteFailed role) = Rose old.write_faults new.write_faults × IfSome old.held (λ store. IsAccepted store command)
 Comes command old new ending.OutOfMemory = Unit {0}
 Comes command old new ending.Usage = ⊥
