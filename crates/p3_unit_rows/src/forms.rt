@@ -1,6 +1,8 @@
-//! Tables of forms, and bits.
+//! Tables of forms, a form that is simplified, bits, and names in order.
 
-use p3_formula::{Bits, Form, Node, Table};
+use p3_base::{List, Name};
+use p3_formula::{Bits, Form, Node, Table, simplify};
+use std::cmp::Ordering;
 use std::test::Fail;
 
 #[test]
@@ -40,5 +42,33 @@ fn bits_are_set_one_by_one(rt: HostRuntime) -> Result<(), Fail> {
     assert_eq!(&rt; state.count(), 2);
     assert_eq!(&rt; state.get(0), false);
     assert_eq!(&rt; state.get(1), true);
+    Ok(())
+}
+
+#[test]
+fn constants_are_left_out(rt: HostRuntime) -> Result<(), Fail> {
+    let alloc = rt.alloc();
+    let either = List::from(vec![in alloc; Form::Atom(0), Form::False]?);
+    let form = Form::And(List::from(vec![in alloc; Form::True, Form::Or(either)]?));
+    assert!(&rt; matches!(simplify(alloc, &form)?, Form::Atom(0)));
+    Ok(())
+}
+
+#[test]
+fn a_node_holds_where_its_atom_does_not(rt: HostRuntime) -> Result<(), Fail> {
+    let alloc = rt.alloc();
+    let mut table = Table::new(alloc);
+    let atom = table.add(Node::Atom(0))?;
+    let not = table.add(Node::Not(atom))?;
+    assert_eq!(&rt; table.truth(not, &Bits::new(alloc, 1)?), true);
+    Ok(())
+}
+
+#[test]
+fn names_are_compared_by_bytes(rt: HostRuntime) -> Result<(), Fail> {
+    let alloc = rt.alloc();
+    let (first, second) = (Name::of(alloc, b"a9")?, Name::of(alloc, b"AB")?);
+    assert_eq!(&rt; first.compare(&second), Ordering::Less);
+    assert_eq!(&rt; second.compare(&second), Ordering::Equal);
     Ok(())
 }

@@ -1,4 +1,4 @@
-//! What a regression answers for the second time, and where nothing is changed.
+//! What a regression answers for the second time, where nothing is changed, and in which states.
 
 use p3_base::{List, NoMemory};
 use p3_formula::{Change, Effects, Form, Table};
@@ -47,5 +47,44 @@ fn what_nothing_touches_stays(rt: HostRuntime) -> Result<(), Fail> {
     let before = regress(alloc, &form, &two_changes(alloc)?)?;
     let text = format!(in alloc; "{before:?}")?;
     assert_eq!(&rt; text.as_str(), format!(in alloc; "{form:?}")?.as_str());
+    Ok(())
+}
+
+/// Whether the form holds where just these atoms are set.
+#[cycle(holds)]
+fn holds(form: &Form, set: &[usize]) -> bool {
+    match form {
+        Form::True => true,
+        Form::False => false,
+        Form::Atom(atom) => set.contains(atom),
+        Form::Not(part) => !holds(part.get(), set),
+        Form::And(parts) => hold_to(parts.items(), set, true),
+        Form::Or(parts) => !hold_to(parts.items(), set, false),
+    }
+}
+
+/// Whether each of the forms has that value where just these atoms are set.
+#[cycle(holds)]
+fn hold_to(parts: &[Form], set: &[usize], value: bool) -> bool {
+    for part in parts {
+        if holds(part, set) != value {
+            return false;
+        }
+    }
+    true
+}
+
+#[test]
+fn what_is_added_beside_what_is_deleted_holds_in_five_states(rt: HostRuntime) -> Result<(), Fail> {
+    let alloc = rt.alloc();
+    let before = regress(alloc, &Form::Atom(0), &two_changes(alloc)?)?;
+    assert!(&rt; !holds(&before, &[]));
+    assert!(&rt; holds(&before, &[0]));
+    assert!(&rt; !holds(&before, &[1]));
+    assert!(&rt; holds(&before, &[2]));
+    assert!(&rt; !holds(&before, &[0, 1]));
+    assert!(&rt; holds(&before, &[0, 2]));
+    assert!(&rt; holds(&before, &[1, 2]));
+    assert!(&rt; holds(&before, &[0, 1, 2]));
     Ok(())
 }
