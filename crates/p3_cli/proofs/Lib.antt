@@ -1,4 +1,5 @@
 pub mod EmbeddingLemmas
+pub mod EvaluationLemmas
 pub mod FaithfulLaws
 pub mod FlatteningLemmas
 pub mod GroupLemmas

@@ -1,4 +1,5 @@
-//! From the texts of a task to the task with its ground task and weights, where nothing is refused.
+//! From the texts of a task to the task with its weights, and with its ground task, where nothing is
+//! refused.
 
 ghost use Rattle.std.specs.Prelude.{◌≡◌, ◌≤◌, IfOk, IfErr, OnOk, None, length};
 ghost use Rattle.p3_tree.specs.Offences.{WellFormed};
@@ -20,7 +21,7 @@ ghost use Rattle.p3_cli.specs.Translation.{CanBeCompiled};
 use crate::Ending;
 use crate::texts::Texts;
 use p3_base::{NoMemory, Side};
-use p3_eval::{Whole, WholeFail};
+use p3_eval::{Accepted, Whole, WholeFail};
 use p3_outline::ReadFail;
 use p3_plans::{PlanFail, first_plan_offence, read_plan};
 use p3_syntax::{read_domain, read_problem};
@@ -73,8 +74,29 @@ pub(crate) fn plan_of(alloc: Global, text: &[u8]) -> Result<Plan, NoMemory>
     }
 }
 
-/// Accepts the task of a side with all that belongs to it, where nothing is refused of it.
+/// Accepts the task of a side with its weights, where nothing is refused of it.
 pub(crate) fn accepted(
+    alloc: Global,
+    side: Side,
+    texts: &Texts<'_>,
+    task: Task,
+) -> Result<Accepted, Ending>
+    requires { IsSpelled (task_texts side (all_texts texts.now)) task }
+    ensures accepted { IfOk result (λ accepted.
+        AreAcceptedFor side (all_texts texts.now) accepted.checked.task) }
+    ensures err { IfErr result
+        (IsRefusedFor (all_texts texts.now) (IsOfTask side (all_texts texts.now))) }
+{
+    let checked = checked(alloc, side, texts, task)?;
+    match Accepted::accept(alloc, checked) {
+        Ok(accepted) => Ok(accepted),
+        Err(WholeFail::Refused(refusal)) => Err(texts.refused(&refusal)),
+        Err(WholeFail::NoMemory) => Err(Ending::OutOfMemory),
+    }
+}
+
+/// Accepts it with its ground task too, by which it can be compiled.
+pub(crate) fn grounded(
     alloc: Global,
     side: Side,
     texts: &Texts<'_>,

@@ -18,7 +18,7 @@ ghost use Rattle.p3_cli.specs.WrittenText.{HasPlanLayout};
 
 use crate::Ending;
 use crate::acceptance::plan_of;
-use crate::evaluation::{invalid, judged_task};
+use crate::evaluation::{invalid, judged_whole};
 use crate::found::embedded_report;
 use crate::product::Product;
 use crate::texts::Texts;
@@ -72,7 +72,7 @@ pub(crate) fn embed(alloc: Global, texts: &Texts<'_>) -> Result<Embedding, Endin
     ensures lines { IfOk result (λ made. HasPlanLayout made.plan.items) }
     ensures err { IfErr result (IsRejectedPlan (all_texts texts.now)) }
 {
-    let whole = judged_task(alloc, texts)?;
+    let whole = judged_whole(alloc, texts)?;
     let plan = plan_of(alloc, texts.plan)?;
     let target = compile(alloc, whole.ground_task(), whole.weights())?;
     let embedded = match embedded(alloc, &whole, &target, &plan) {

@@ -20,17 +20,20 @@ ghost use Rattle.p3_cli.specs.Refusing.{
   AreAcceptedFor,
   IsRefusal,
   IsRejectedBy,
+  IsSpelled,
   all_texts,
+  task_texts,
 };
 ghost use Rattle.p3_cli.specs.Translation.{CanBeCompiled};
 
 use crate::Ending;
-use crate::acceptance::{accepted, readable_plan, spelled_task};
+use crate::acceptance::{accepted, grounded, readable_plan, spelled_task};
 use crate::found::evaluated_report;
 use crate::texts::Texts;
 use p3_base::Side;
-use p3_eval::{PlanFault, Whole, first_fault, named_fault};
+use p3_eval::{Accepted, PlanFault, Steps, Whole, named_fault};
 use p3_reports::Report;
+use p3_tree::Task;
 use std::alloc::Global;
 use std::mem::forget;
 
@@ -42,14 +45,26 @@ pub(crate) fn evaluate(alloc: Global, texts: &Texts<'_>) -> Result<Report, Endin
         (report_text report)) }
     ensures err { IfErr result (IsRejectedPlan (all_texts texts.now)) }
 {
-    let whole = judged_task(alloc, texts)?;
-    let report = judged(alloc, &whole, texts.plan);
-    forget(whole);
+    let accepted = judged_task(alloc, texts)?;
+    let report = judged(alloc, &accepted, texts.plan);
+    forget(accepted);
     report
 }
 
 /// Accepts the task for which a plan is judged, where nothing is refused of it and of that plan.
-pub(crate) fn judged_task(alloc: Global, texts: &Texts<'_>) -> Result<Whole, Ending>
+pub(crate) fn judged_task(alloc: Global, texts: &Texts<'_>) -> Result<Accepted, Ending>
+    ensures accepted { IfOk result (λ accepted.
+        AreAcceptedFor Source (all_texts texts.now) accepted.checked.task) }
+    ensures free { OnOk result (plan_offence texts.now.plan.now ≡ None) }
+    ensures err { IfErr result
+        (IsRejectedBy (IsRefusal (given_plan (all_texts texts.now)) (all_texts texts.now))) }
+{
+    let task = readable_task(alloc, texts)?;
+    accepted(alloc, Side::Source, texts, task)
+}
+
+/// Accepts it with its ground task too, by which it can be compiled.
+pub(crate) fn judged_whole(alloc: Global, texts: &Texts<'_>) -> Result<Whole, Ending>
     ensures accepted { IfOk result (λ whole.
         AreAcceptedFor Source (all_texts texts.now) whole.checked.task) }
     ensures ready { IfOk result (λ whole.
@@ -58,9 +73,20 @@ pub(crate) fn judged_task(alloc: Global, texts: &Texts<'_>) -> Result<Whole, End
     ensures err { IfErr result
         (IsRejectedBy (IsRefusal (given_plan (all_texts texts.now)) (all_texts texts.now))) }
 {
+    let task = readable_task(alloc, texts)?;
+    grounded(alloc, Side::Source, texts, task)
+}
+
+/// Reads the task for which a plan is judged, where the texts of both show no refusal by themselves.
+fn readable_task(alloc: Global, texts: &Texts<'_>) -> Result<Task, Ending>
+    ensures spelled { IfOk result (IsSpelled (task_texts Source (all_texts texts.now))) }
+    ensures free { OnOk result (plan_offence texts.now.plan.now ≡ None) }
+    ensures err { IfErr result
+        (IsRejectedBy (IsRefusal (given_plan (all_texts texts.now)) (all_texts texts.now))) }
+{
     let task = spelled_task(alloc, Side::Source, texts)?;
     match readable_plan(texts) {
-        Ok(()) => accepted(alloc, Side::Source, texts, task),
+        Ok(()) => Ok(task),
         Err(ending) => {
             drop(task);
             Err(ending)
@@ -68,18 +94,22 @@ pub(crate) fn judged_task(alloc: Global, texts: &Texts<'_>) -> Result<Whole, End
     }
 }
 
-/// Judges the plan of a text for an accepted task: the report, where it is valid.
-fn judged(alloc: Global, whole: &Whole, plan: &[u8]) -> Result<Report, Ending>
+/// Judges the plan of a text for an accepted task: the report, where it is valid. Of the task's steps
+/// those that the plan names are grounded, and no others.
+fn judged(alloc: Global, accepted: &Accepted, plan: &[u8]) -> Result<Report, Ending>
     requires short { length plan.now ≤ plan_byte_limit }
     requires free { plan_offence plan.now ≡ None }
     ensures report { IfOk result (λ report.
-        OfText plan.now (IsReportOf whole.now.checked.task (report_text report))) }
+        OfText plan.now (IsReportOf accepted.now.checked.task (report_text report))) }
     ensures err { IfErr result
-        (IsRejectedBy (λ how. OfText plan.now (IsFaultOf whole.now.checked.task how))) }
+        (IsRejectedBy (λ how. OfText plan.now (IsFaultOf accepted.now.checked.task how))) }
 {
-    let mut run = whole.begin(alloc)?;
-    match first_fault(whole.checked(), &mut run, plan) {
-        None => Ok(Report::Evaluate(evaluated_report(alloc, whole.checked(), &run)?)),
+    let checked = accepted.checked();
+    let steps = Steps::of_text(alloc, checked, plan)?;
+    let ground_task = accepted.ground_steps(alloc, steps.numbers.as_slice())?;
+    let mut run = accepted.grounded(&ground_task).begin(alloc)?;
+    match run.judge_steps(&steps) {
+        None => Ok(Report::Evaluate(evaluated_report(alloc, checked, &run)?)),
         Some(fault) => Err(invalid(&fault)),
     }
 }

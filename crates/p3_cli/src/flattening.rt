@@ -23,7 +23,7 @@ ghost use Rattle.p3_formula.specs.Targets.{IsSized, IsWellNamed};
 ghost use Rattle.p3_cli.specs.Translation.{AreTextsOf, CanBeCompiled};
 
 use crate::Ending;
-use crate::acceptance::{accepted, spelled_task};
+use crate::acceptance::{grounded, spelled_task};
 use crate::texts::Texts;
 use crate::translation::{Translation, written};
 use p3_base::{Code, Name, NoMemory, Refusal, Role, Side, owning_step};
@@ -44,7 +44,7 @@ pub(crate) fn flat_translate(alloc: Global, texts: &Texts<'_>) -> Result<Transla
     ensures err { IfErr result (IsStoppedFlat (all_texts texts.now)) }
 {
     let task = spelled_task(alloc, Side::Source, texts)?;
-    let whole = accepted(alloc, Side::Source, texts, task)?;
+    let whole = grounded(alloc, Side::Source, texts, task)?;
     let made = flat_translation_of(alloc, texts, &whole);
     forget(whole);
     made

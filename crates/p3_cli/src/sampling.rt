@@ -16,7 +16,7 @@ ghost use Rattle.p3_cli.specs.Sampling.{IsSampleReport, IsSampling};
 use crate::Ending;
 use crate::acceptance::plan_of;
 use crate::embedding::embedded;
-use crate::evaluation::judged_task;
+use crate::evaluation::judged_whole;
 use crate::found::sampled_report;
 use crate::product::Product;
 use crate::texts::Texts;
@@ -96,7 +96,7 @@ fn report_of(alloc: Global, texts: &Texts<'_>) -> Result<Report, Ending>
         IsSampleReport (all_texts texts.now) (report_text report)) }
     ensures err { IfErr result (IsRejectedPlan (all_texts texts.now)) }
 {
-    let whole = judged_task(alloc, texts)?;
+    let whole = judged_whole(alloc, texts)?;
     let plan = plan_of(alloc, texts.plan)?;
     let target = compile(alloc, whole.ground_task(), whole.weights())?;
     let embedded = match embedded(alloc, &whole, &target, &plan) {

@@ -15,7 +15,7 @@ ghost use Rattle.p3_cli.specs.Translation.{
 ghost use Rattle.p3_cli.specs.WrittenText.{HasFaithfulText};
 
 use crate::Ending;
-use crate::acceptance::{accepted, spelled_task};
+use crate::acceptance::{grounded, spelled_task};
 use crate::found::compiled_report;
 use crate::product::Product;
 use crate::streaming::compiled_texts;
@@ -62,7 +62,7 @@ pub(crate) fn translate(alloc: Global, texts: &Texts<'_>) -> Result<Translation,
     ensures err { IfErr result (IsRefusedTask (all_texts texts.now)) }
 {
     let task = spelled_task(alloc, Side::Source, texts)?;
-    let whole = accepted(alloc, Side::Source, texts, task)?;
+    let whole = grounded(alloc, Side::Source, texts, task)?;
     let made = translation_of(alloc, &whole)?;
     forget(whole);
     Ok(made)

@@ -1,11 +1,8 @@
 use Rattle.std.proofs.Common.{◌≡◌, None, Some, sym, subst}
 use Rattle.p3_tree.specs.Refusals.First.{task_refusal}
 use Rattle.p3_types.specs.declared.checked.Checked.{Checked}
-use Rattle.p3_metric.proofs.AcceptedLaws.{linear_where_accepted}
 use Rattle.p3_eval.specs.Accepted.{IsFailOf}
-use Rattle.p3_eval.proofs.RefusalLaws.{no_metric}
 use Rattle.p3_cli.specs.Refusing.{AreAcceptedFor, all_texts}
-use Rattle.p3_cli.specs.Translation.{CanBeCompiled}
 use Rattle.p3_cli.proofs.SpelledLemmas.{short_domain, short_problem, spelled_accepted, task_refused}
 use Rattle.p3_cli.proofs.acceptance.accepted.Goals as goal
 
@@ -25,17 +22,3 @@ returns-in-Err-Refused-clause-err c =
     (subst (λ side. task_refusal side checked.task ≡ Some refusal) c.in_ok-checked.ensures.side
     (subst (IsFailOf checked.side checked.task) c.in-Err-Refused.field-0-is c.in-Err-Refused.ensures.refused))
     c.refused.ensures
-
-pub returns-in-Ok-clause-ready : goal.returns-in-Ok-clause-ready
-returns-in-Ok-clause-ready c =
-    let checked = c.in_ok-checked.checked in
-    let whole = c.in-Ok.whole in
-    let well = c.in_ok-checked.ensures.well_formed in
-    let can : CanBeCompiled checked.task whole.ground_task whole.weights = record {
-      well_formed = well;
-      linear = linear_where_accepted checked.side checked.task (no_metric checked.side checked.task well c.in-Ok.ensures.accepted);
-      grounding = c.in-Ok.ensures.grounding;
-      weighed = c.in-Ok.ensures.weights;
-      ready = c.in-Ok.ensures.ready;
-    } in
-    subst (λ (one : Checked). CanBeCompiled one.task whole.ground_task whole.weights) (sym c.in-Ok.ensures.task) can
