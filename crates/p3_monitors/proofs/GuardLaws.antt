@@ -17,8 +17,8 @@ use Rattle.p3_formula.proofs.FormLemmas.{has_atoms-True, nodes-True}
 use Rattle.p3_formula.proofs.WatchedLaws.{sat-AtMostOnce, sat-SometimeBefore}
 use Rattle.p3_regress.specs.Regressed.{growth}
 use Rattle.p3_regress.proofs.TurnedLaws.{some_node}
-use Rattle.p3_monitors.specs.Guards.{IsGuarding, unless}
-use Rattle.p3_monitors.specs.Updates.{IsTurned, back, early}
+use Rattle.p3_monitors.specs.Guards.{IsGuarding}
+use Rattle.p3_monitors.specs.Updates.{IsTurned, back, early, unless}
 use Rattle.p3_monitors.proofs.ChangeLaws.{Transition, own_from}
 use Rattle.p3_monitors.proofs.JointLaws.{truth-unless, has_atoms-back, has_atoms-early, has_atoms-unless, nodes-back, nodes-early, nodes-unless}
 use Rattle.p3_monitors.proofs.UpdateLaws.{one_sum, two_sum, at_base, in_two, each_told, came_told, early_told}

@@ -5,8 +5,7 @@ use Rattle.p3_formula.specs.Forms.{State, is_set, truth, has_atoms, nodes}
 use Rattle.p3_formula.specs.declared.form.Form.{Form}
 use Rattle.p3_formula.specs.declared.form.Form.TheVariants.{True, False, Atom, Not, Not', And', Or'}
 use Rattle.p3_formula.proofs.FormLemmas.{truth-Atom, truth-Not, truth-both, has_atoms-Atom, has_atoms-Not, has_atoms-both, nodes-Atom, nodes-Not, nodes-both}
-use Rattle.p3_monitors.specs.Guards.{unless}
-use Rattle.p3_monitors.specs.Updates.{joint, joint_behind, ceased, back, early}
+use Rattle.p3_monitors.specs.Updates.{joint, joint_behind, ceased, back, early, unless}
 
 module _ (state : State) where
   pub truth-joint : (first second : Form) → truth state (joint first second) ≡ (truth state first && truth state second)
@@ -75,7 +74,7 @@ module _ (state : State) where
 
   pub truth-unless : (cond : Form) → truth state (unless cond) ≡ not (truth state cond)
   unfolding truth
-  truth-unless True = truth-Not state True
+  truth-unless True = refl
   truth-unless False = refl
   truth-unless (Atom atom) = truth-Not state (Atom atom)
   truth-unless (Not' shape part) = truth-Not state (Not' shape part)
@@ -91,7 +90,7 @@ module _ (allowed : ℕ → Bool) where
 
   pub has_atoms-unless : (cond : Form) → has_atoms allowed cond ≡ true → has_atoms allowed (unless cond) ≡ true
   unfolding has_atoms
-  has_atoms-unless True c = has_atoms-Not allowed True ∙ c
+  has_atoms-unless True c = refl
   has_atoms-unless False c = refl
   has_atoms-unless (Atom atom) c = has_atoms-Not allowed (Atom atom) ∙ c
   has_atoms-unless (Not' shape part) c = has_atoms-Not allowed (Not' shape part) ∙ c
@@ -106,7 +105,7 @@ nodes-early base first = let b = nodes-joint first (Not (Atom base)) in let n = 
 
 pub nodes-unless : (cond : Form) → nodes (unless cond) ≤ 1 + nodes cond
 unfolding nodes
-nodes-unless True = let n = nodes-Not True in omega (arith, n)
+nodes-unless True = omega arith
 nodes-unless False = omega arith
 nodes-unless (Atom atom) = let n = nodes-Not (Atom atom) in omega (arith, n)
 nodes-unless (Not' shape part) = let n = nodes-Not (Not' shape part) in omega (arith, n)

@@ -6,3 +6,5 @@ pub mod GuardLaws
 pub mod AcceptLaws
 pub mod RiderLaws
 pub mod UntouchedLaws
+pub mod PossibleLaws
+pub mod FormIndexLaws

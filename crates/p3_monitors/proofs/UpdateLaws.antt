@@ -24,11 +24,12 @@ use Rattle.p3_regress.proofs.TurnedLaws.{growth-both, growth-Not}
 use Rattle.p3_formula.specs.Kept.{is_own}
 use Rattle.p3_formula.specs.Modals.{forms_of, is_read, IsModalBelow}
 use Rattle.p3_monitors.specs.KeepsOn.{AreOwn, condition_nodes}
-use Rattle.p3_monitors.specs.Updates.{IsTurned, IsUpdate, change, awaits, back, early, always, sometime, at_most_once, sometime_after, sometime_before}
+use Rattle.p3_monitors.specs.Updates.{IsTurned, IsUpdate, change, awaits, back, early, always, sometime, at_most_once, sometime_after, sometime_before, possible, unless}
 use Rattle.p3_formula.proofs.ReadAtoms.{same_number, reads}
 use Rattle.p3_formula.proofs.WatchedLaws.{each-next, some-next, came-next, awaited-next, early-next}
-use Rattle.p3_monitors.proofs.JointLaws.{truth-back, truth-early, has_atoms-back, has_atoms-early, nodes-back, nodes-early}
+use Rattle.p3_monitors.proofs.JointLaws.{truth-back, truth-early, truth-unless, has_atoms-back, has_atoms-early, has_atoms-unless, nodes-back, nodes-early, nodes-unless}
 use Rattle.p3_monitors.proofs.ChangeLaws.{Transition, own_from, own_after, transition, truth_now, turned_later, turned_only, keeps_on, set_by, cleared_by}
+use Rattle.p3_monitors.proofs.PossibleLaws.{possible_update}
 use Rattle.p3_monitors.proofs.LastLaws.{each_last, some_last, awaited_last, unawaited_last, early_last}
 
 module _ {A : Type 0} (size : A → ℕ) where
@@ -140,16 +141,16 @@ module _ (base : ℕ) (step : List Change) where
     always_update made below = record {
       kept = keeps_on base (modal.Always f) step (always base later) below mine (λ stage. (
         own_after stage base (at_base base) (in_one base)
-            ∙ cleared_by stage.state base (Not later)
-            ∙ (λ i. stage.kept.carries.stand.0 i && not (truth-Not stage.state later i))
+            ∙ cleared_by stage.state base (unless later)
+            ∙ (λ i. stage.kept.carries.stand.0 i && not (truth-unless stage.state later i))
             ∙ ap (λ b. each (length stage.W) (holds_at stage.W f) && b) (not-not (truth stage.state later))
             ∙ each_told made (transition stage),
         tt,
       ));
       own = mine;
-      atoms = λ allowed of own conds. and_from (has_atoms allowed (Not later)) true (has_atoms-Not allowed later ∙ made.atoms allowed (and_parts _ _ of).0 conds) refl;
+      atoms = λ allowed of own conds. and_from (has_atoms allowed (unless later)) true (has_atoms-unless allowed later (made.atoms allowed (and_parts _ _ of).0 conds)) refl;
       few = omega arith;
-      size = let n = nodes-Not later in let c : condition_nodes (always base later) ≡ nodes (Not later) = one_sum (λ c. nodes c.cond) (change false base (Not later)) in let m = one_sum nodes f in let s = made.size in let g = one_sum (growth step) f in omega arith;
+      size = let n = nodes-unless later in let c : condition_nodes (always base later) ≡ nodes (unless later) = one_sum (λ c. nodes c.cond) (change false base (unless later)) in let m = one_sum nodes f in let s = made.size in let g = one_sum (growth step) f in omega arith;
     } where
       mine : AreOwn base (modal.Always f) (always base later)
       mine = and_from (is_own base (modal.Always f) base) true (own_from base (modal.Always f) base (at_base base) (in_one base)) refl
@@ -305,8 +306,8 @@ module _ (base : ℕ) (step : List Change) where
 
 -- what is made for the operator of a constraint is made for the constraint
 pub updated : {E : Type 0} (base : ℕ) (step made : List Change) (modal operator : GroundModal) (result : Result (List Change) E)
-    → modal ≡ operator → IsModalBelow base modal → (IsModalBelow base operator → IsUpdate base operator step made) → IfOk result (λ effects. effects ≡ made) → IfOk result (IsUpdate base modal step)
+    → modal ≡ operator → IsModalBelow base modal → (IsModalBelow base operator → IsUpdate base operator step made) → IfOk result (λ effects. effects ≡ possible made) → IfOk result (IsUpdate base modal step)
 updated base step made modal operator result is below update ok =
     IfOk-weaker result _ _
-    (λ effects same. subst (λ m. IsUpdate base m step effects) (sym is) (subst (IsUpdate base operator step) (sym same) (update (subst (IsModalBelow base) is below))))
+    (λ effects same. subst (λ m. IsUpdate base m step effects) (sym is) (subst (IsUpdate base operator step) (sym same) (possible_update base operator step made (update (subst (IsModalBelow base) is below)))))
     ok

@@ -1,5 +1,5 @@
 -- Guards of a constraint: where a step does not break it.
-use Rattle.std.specs.Prelude.{◌≡◌, ◌≤◌, ℕ, Bool, true, false, List, [], ◌∷◌, ◌++◌, if◌then◌else◌, IsTrue}
+use Rattle.std.specs.Prelude.{◌≡◌, ◌≤◌, ℕ, Bool, true, false, List, [], ◌∷◌, ◌++◌, IsTrue}
 use Rattle.std.specs.List.{list_all}
 use Rattle.p3_formula.specs.Forms.{State, truth, has_atoms, nodes}
 use Rattle.p3_formula.specs.GroundSat.{ground_sat}
@@ -7,10 +7,9 @@ use Rattle.p3_formula.specs.Kept.{Kept, is_own}
 use Rattle.p3_formula.specs.Lasting.{stays_broken}
 use Rattle.p3_formula.specs.Modals.{Agree, modal_has}
 use Rattle.p3_formula.specs.Next.{after}
-use Rattle.p3_formula.specs.Simplified.{is_value}
 use Rattle.p3_formula.specs.declared.form.Change.{Change}
 use Rattle.p3_formula.specs.declared.form.Form.{Form}
-use Rattle.p3_formula.specs.declared.form.Form.TheVariants.{True, Not}
+use Rattle.p3_formula.specs.declared.form.Form.TheVariants.{True}
 use Rattle.p3_formula.specs.declared.modal.GroundModal.{GroundModal}
 use Rattle.p3_formula.specs.declared.modal.GroundModal.TheVariants as modal
 use Rattle.p3_monitors.specs.KeepsOn.{most_nodes}
@@ -36,10 +35,6 @@ may_break (modal.Sometime f) step = false
 may_break (modal.AtMostOnce f) step = may_turn step true f
 may_break (modal.SometimeAfter f g) step = false
 may_break (modal.SometimeBefore f g) step = may_turn step true f
-
--- the negation of a condition, and true for the constant that never holds
-abbrev pub unless : Form → Form
-unless cond = if is_value false cond then True else Not cond
 
 -- what the guard of a monitor is to be
 pub record IsGuarding (base : ℕ) (modal : GroundModal) (step : List Change) (guard : Form) : Type 0 where

@@ -1,3 +1,4 @@
+pub mod FormIndex
 pub mod Guards
 pub mod KeepsOn
 pub mod Riders

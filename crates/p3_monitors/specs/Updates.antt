@@ -1,13 +1,15 @@
 -- The changes that a monitor makes, from the forms that tell of turns by the step.
 use Rattle.std.specs.Prelude.{◌≡◌, ℕ, ◌+◌, ◌≤◌, Bool, true, false, not, List, [], ◌∷◌, length, if◌then◌else◌}
+use Rattle.std.specs.List.{flat_map}
 use Rattle.p3_formula.specs.Constructors.{both}
 use Rattle.p3_formula.specs.Forms.{nodes}
 use Rattle.p3_formula.specs.declared.form.Change.{Change}
 use Rattle.p3_formula.specs.declared.form.Form.{Form}
 use Rattle.p3_formula.specs.Simplified.{constant, is_value}
-use Rattle.p3_formula.specs.declared.form.Form.TheVariants.{False, Atom, Not}
+use Rattle.p3_formula.specs.declared.form.Form.TheVariants.{True, False, Atom, Not}
 use Rattle.p3_formula.specs.declared.modal.GroundModal.{GroundModal}
 use Rattle.p3_formula.specs.declared.modal.GroundModal.TheVariants as modal
+use Rattle.p3_formula.specs.Trimmed.{unless_never}
 use Rattle.p3_regress.specs.Regressed.{HasAtomsOfBoth, growth}
 use Rattle.p3_regress.specs.Turned.{may_turn, IsTurnBefore}
 use Rattle.p3_formula.specs.Kept.{is_own}
@@ -37,8 +39,16 @@ back base now later = joint_behind (ceased base now) later
 abbrev pub early : ℕ → Form → Form
 early base first = joint first (Not (Atom base))
 
+-- the negation of a condition, and a constant for a constant
+abbrev pub unless : Form → Form
+unless cond = if is_value false cond then True else (if is_value true cond then False else Not cond)
+
+-- the changes whose condition is not the constant that never holds
+abbrev pub possible : List Change → List Change
+possible effects = flat_map unless_never effects
+
 abbrev pub always : ℕ → Form → List Change
-always base later = change false base (Not later) ∷ []
+always base later = change false base (unless later) ∷ []
 
 abbrev pub sometime : ℕ → Form → List Change
 sometime base later = change true base later ∷ []

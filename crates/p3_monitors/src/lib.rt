@@ -5,6 +5,7 @@
 mod accepting;
 mod beginning;
 mod copying;
+mod forms;
 mod guards;
 mod laws;
 mod making;
@@ -12,6 +13,7 @@ mod reading;
 mod updates;
 mod watching;
 
+pub use forms::FormsByAtom;
 pub use laws::{accepting_is_satisfaction, monitors_ride_together, untouched_monitors_ride};
 pub use making::monitor;
 pub use watching::Monitor;

@@ -1,7 +1,8 @@
 //! The changes of a monitor's atoms that ride on a step.
 
-ghost use Rattle.std.specs.Prelude.{◌≡◌, ◌≤◌, ◌+◌, ◌-◌, ◌^◌, [], ◌∷◌, IfOk};
+ghost use Rattle.std.specs.Prelude.{◌≡◌, ◌≤◌, ◌+◌, ◌-◌, ◌^◌, ◌++◌, [], ◌∷◌, IfOk, OnOk};
 ghost use Rattle.p3_formula.specs.Simplified.{is_value};
+ghost use Rattle.p3_formula.specs.Trimmed.{unless_never};
 ghost use Rattle.p3_monitors.specs.Updates as made;
 
 use p3_base::{List, NoMemory};
@@ -15,22 +16,32 @@ fn change(cond: Form, atom: usize, add: bool) -> Change
     Change { cond, atom, add }
 }
 
-/// One change.
-fn one(alloc: Global, first: Change) -> Result<Effects, NoMemory>
-    ensures { IfOk result (λ effects. effects ≡ first ∷ []) }
+/// The change stands behind the others, where it may happen.
+fn push_change(
+    effects: &mut Vec<Change>,
+    cond: Form,
+    atom: usize,
+    add: bool,
+) -> Result<(), NoMemory>
+    ensures { OnOk result (effects.new.items
+        ≡ effects.old.items ++ unless_never (made.change add atom cond)) }
 {
-    let mut effects = Vec::with_capacity(alloc, 1)?;
-    effects.push(first)?;
-    Ok(List::from(effects))
+    if is_value(&cond, false) {
+        drop(cond);
+        return Ok(());
+    }
+    effects.push(change(cond, atom, add))?;
+    Ok(())
 }
 
-/// Two changes.
-fn two(alloc: Global, first: Change, second: Change) -> Result<Effects, NoMemory>
-    ensures { IfOk result (λ effects. effects ≡ first ∷ second ∷ []) }
+/// One change, where it may happen.
+#[tactic(auto, using(crate::proofs::PossibleLaws::possible_laws))]
+fn one(alloc: Global, cond: Form, atom: usize, add: bool) -> Result<Effects, NoMemory>
+    ensures { IfOk result (λ effects.
+        effects ≡ made.possible (made.change add atom cond ∷ [])) }
 {
-    let mut effects = Vec::with_capacity(alloc, 2)?;
-    effects.push(first)?;
-    effects.push(second)?;
+    let mut effects = Vec::new(alloc);
+    push_change(&mut effects, cond, atom, add)?;
     Ok(List::from(effects))
 }
 
@@ -45,18 +56,17 @@ pub(crate) fn is_value(form: &Form, value: bool) -> bool
     }
 }
 
-/// Both hold, where the first may be a constant.
-fn joint(alloc: Global, first: Form, second: Form) -> Result<Form, NoMemory>
-    ensures { IfOk result (λ form. form ≡ made.joint first second) }
+/// Makes the negation of a condition, and a constant for a constant.
+pub(crate) fn unless(alloc: Global, condition: Form) -> Result<Form, NoMemory>
+    ensures { IfOk result (λ form. form ≡ made.unless condition) }
 {
-    if is_value(&first, false) {
-        drop(second);
+    if is_value(&condition, false) {
+        return Ok(Form::True);
+    }
+    if is_value(&condition, true) {
         return Ok(Form::False);
     }
-    if is_value(&first, true) {
-        return Ok(second);
-    }
-    Form::both(alloc, first, second)
+    Form::negation(alloc, condition)
 }
 
 /// The atom is set, and the form does not hold.
@@ -85,25 +95,33 @@ pub(crate) fn back(alloc: Global, base: usize, form: &Form, later: Form) -> Resu
 pub(crate) fn early(alloc: Global, base: usize, first: Form) -> Result<Form, NoMemory>
     ensures { IfOk result (λ early. early ≡ made.early base first) }
 {
-    joint(alloc, first, Form::negation(alloc, Form::Atom(base))?)
+    if is_value(&first, false) {
+        return Ok(Form::False);
+    }
+    let unmet = Form::negation(alloc, Form::Atom(base))?;
+    if is_value(&first, true) {
+        return Ok(unmet);
+    }
+    Form::both(alloc, first, unmet)
 }
 
 /// It has held in every state: no more where it does not hold after the step.
 pub(crate) fn always(alloc: Global, base: usize, later: Form) -> Result<Effects, NoMemory>
-    ensures { IfOk result (λ effects. effects ≡ made.always base later) }
+    ensures { IfOk result (λ effects. effects ≡ made.possible (made.always base later)) }
 {
-    one(alloc, change(Form::negation(alloc, later)?, base, false))
+    one(alloc, unless(alloc, later)?, base, false)
 }
 
 /// It has held in some state: so it has where it holds after the step.
 pub(crate) fn sometime(alloc: Global, base: usize, later: Form) -> Result<Effects, NoMemory>
-    ensures { IfOk result (λ effects. effects ≡ made.sometime base later) }
+    ensures { IfOk result (λ effects. effects ≡ made.possible (made.sometime base later)) }
 {
-    one(alloc, change(later, base, true))
+    one(alloc, later, base, true)
 }
 
 /// It has held in some state; and it came back after a gap: so it does where it has held, does not
 /// hold before the step and holds after it.
+#[tactic(auto, using(crate::proofs::PossibleLaws::possible_laws))]
 pub(crate) fn at_most_once(
     alloc: Global,
     base: usize,
@@ -111,11 +129,17 @@ pub(crate) fn at_most_once(
     later: Form,
 ) -> Result<Effects, NoMemory>
     requires { base + 1 ≤ 2 ^ 64 - 1 }
-    ensures { IfOk result (λ effects. effects ≡ made.at_most_once base form.now later) }
+    ensures { IfOk result (λ effects. effects ≡ made.possible (made.at_most_once base form.now later)) }
 {
-    let held = change(copied(alloc, &later)?, base, true);
-    let back = change(back(alloc, base, form, later)?, base + 1, true);
-    two(alloc, held, back)
+    let mut effects = Vec::new(alloc);
+    push_change(&mut effects, copied(alloc, &later)?, base, true)?;
+    push_change(
+        &mut effects,
+        back(alloc, base, form, later)?,
+        base + 1,
+        true,
+    )?;
+    Ok(List::from(effects))
 }
 
 /// The first form holds, and the second does not.
@@ -128,20 +152,24 @@ pub(crate) fn awaits(alloc: Global, first: &Form, second: &Form) -> Result<Form,
 
 /// The second form is awaited: no more where the step makes it hold, and else from where the step
 /// makes the first hold without it.
+#[tactic(auto, using(crate::proofs::PossibleLaws::possible_laws))]
 pub(crate) fn sometime_after(
     alloc: Global,
     base: usize,
     met: Form,
     awaited: Form,
 ) -> Result<Effects, NoMemory>
-    ensures { IfOk result (λ effects. effects ≡ made.sometime_after base met awaited) }
+    ensures { IfOk result (λ effects. effects ≡ made.possible (made.sometime_after base met awaited)) }
 {
-    let met = change(met, base, false);
-    two(alloc, met, change(awaited, base, true))
+    let mut effects = Vec::new(alloc);
+    push_change(&mut effects, met, base, false)?;
+    push_change(&mut effects, awaited, base, true)?;
+    Ok(List::from(effects))
 }
 
 /// The second form has held in some state; and the first came too early: so it does where it holds
 /// after the step and the second has not held before.
+#[tactic(auto, using(crate::proofs::PossibleLaws::possible_laws))]
 pub(crate) fn sometime_before(
     alloc: Global,
     base: usize,
@@ -149,9 +177,10 @@ pub(crate) fn sometime_before(
     second: Form,
 ) -> Result<Effects, NoMemory>
     requires { base + 1 ≤ 2 ^ 64 - 1 }
-    ensures { IfOk result (λ effects. effects ≡ made.sometime_before base first second) }
+    ensures { IfOk result (λ effects. effects ≡ made.possible (made.sometime_before base first second)) }
 {
-    let early = early(alloc, base, first)?;
-    let held = change(second, base, true);
-    two(alloc, held, change(early, base + 1, true))
+    let mut effects = Vec::new(alloc);
+    push_change(&mut effects, second, base, true)?;
+    push_change(&mut effects, early(alloc, base, first)?, base + 1, true)?;
+    Ok(List::from(effects))
 }

@@ -5,3 +5,5 @@ pub mod RegressedLaws
 pub mod SortedLemmas
 pub mod MemoryLemmas
 pub mod TurnedLaws
+pub mod ReaderLemmas
+pub mod PartLaws

@@ -9,8 +9,8 @@ use Rattle.p3_formula.specs.declared.form.Form.{Form}
 use Rattle.p3_formula.specs.declared.node.Node.{Node}
 use Rattle.p3_formula.proofs.NodeLemmas.{grows-refl, grows-trans, form-grows, take-next}
 use Rattle.p3_regress.specs.Memory.{answer_of, IsAnswer, AreRight, GoesOn, Regression, Extends}
-use Rattle.p3_regress.specs.Regressed.{IsTrueBefore, regressed}
-use Rattle.p3_regress.proofs.RegressedLaws.{sorted_truth}
+use Rattle.p3_regress.specs.Regressed.{IsTrueBefore, HasAtomsOfBoth, regressed}
+use Rattle.p3_regress.proofs.RegressedLaws.{sorted_truth, sorted_atoms}
 
 -- room for one more changes no answer
 pub wider : (answers : List (Option ℕ)) (other : ℕ) → answer_of (answers ++ None ∷ []) other ≡ answer_of answers other
@@ -110,6 +110,12 @@ pub answered_truth : (effects sorted : List Change) → IsPermutation effects so
     → IsTrueBefore effects (form_of old number) (form_of mid before)
 answered_truth effects sorted same {old} goes number before within is =
     subst (IsTrueBefore effects (form_of old number)) (sym (answered_stands goes number before within is)) (sorted_truth effects sorted same (form_of old number))
+
+-- it has no atoms but those of the number and of the conditions
+pub answered_atoms : (effects sorted : List Change) → IsPermutation effects sorted → {old mid : List Node} {first second : List (Option ℕ)} → GoesOn sorted old mid first second → (number before : ℕ) → number < length old → answer_of second number ≡ Some before
+    → HasAtomsOfBoth effects (form_of old number) (form_of mid before)
+answered_atoms effects sorted same {old} goes number before within is =
+    subst (HasAtomsOfBoth effects (form_of old number)) (sym (answered_stands goes number before within is)) (sorted_atoms effects sorted same (form_of old number))
 
 -- ---- what contracts see
 

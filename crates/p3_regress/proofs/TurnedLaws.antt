@@ -1,5 +1,5 @@
 -- A form that the changes may not turn stays, and so the parts that they may turn tell of each turn.
-use Rattle.std.proofs.Common.{◌≡◌, ◌∙◌, ℕ, ◌+◌, ◌≤◌, nat_lt, Bool, true, false, cond, not, ◌&&◌, ◌||◌, List, [], ◌∷◌, length, sum, sum_by, Result, IfOk, refl, sym, ap, subst, arith, true≢false}
+use Rattle.std.proofs.Common.{◌≡◌, ◌∙◌, ℕ, ◌+◌, ◌≤◌, nat_lt, Bool, true, false, cond, not, ◌&&◌, ◌||◌, List, [], ◌∷◌, if◌then◌else◌, length, map, sum, sum_by, refl, sym, ap, subst, arith, true≢false}
 use Rattle.std.specs.List.{list_any, list_all, filter}
 use Rattle.std.specs.List.Sorted.{IsPermutation}
 use Rattle.std.proofs.Math.Bool.{and-false, or-true, not-not}
@@ -8,7 +8,6 @@ use Rattle.std.proofs.lemmas.Bool.Decides.{nat_tests}
 use Rattle.std.proofs.lemmas.List.Sorted.{list_any-IsPermutation}
 use Rattle.std.proofs.lemmas.List.Elements.{All-filter}
 use Rattle.std.proofs.lemmas.List.Filters.{sum_by-filter_both}
-use Rattle.std.proofs.lemmas.Result.{IfOk-weaker}
 use Rattle.std.proofs.lemmas.List.Sums.{sum-map, sum_by-cons, AllPass-from_list_all, list_all-from_AllPass}
 use mathlib.Core.Former.{Count}
 use denote.Hole.Carrier.{hidden}
@@ -18,15 +17,16 @@ use Rattle.p3_formula.specs.Forms.{State, is_set, truth, truth_layer, has_atoms,
 use Rattle.p3_formula.specs.Next.{is_added, is_deleted, is_set_after, after}
 use Rattle.p3_formula.specs.Simplified.{constant}
 use Rattle.p3_formula.specs.declared.form.Change.{Change}
-use Rattle.p3_formula.specs.declared.form.Form.{Form, Row_of-Form, end_of-Form, more_of-Form}
-use Rattle.p3_formula.specs.declared.form.Form.TheBlock.{hidden-the_row-Form-0}
+use Rattle.p3_formula.specs.declared.form.Form.{Form, Row_of-Form, end_of-Form, more_of-Form, items-the_row-Form}
+use Rattle.p3_formula.specs.declared.form.Form.TheBlock.{backs-Form, hidden-the_row-Form-0, items_shown-the_row-Form-1}
 use Rattle.p3_formula.specs.declared.form.Form.TheVariants.{True, False, Atom, Not, And, Or, Not', And', Or'}
 use Rattle.p3_formula.specs.declared.form.Form.TheOpen as layer
 use Rattle.p3_formula.proofs.FormLemmas.{fold_parts, list_any-map, truth-And, truth-Or, has_atoms-And, has_atoms-Or, nodes-And, nodes-Or}
 use Rattle.p3_formula.proofs.NextLaws.{is_set-after, is_set-beyond, after-permutation}
-use Rattle.p3_regress.specs.Regressed.{IsTrueBefore, IsUntouched, is_of, growth, growth_layer}
-use Rattle.p3_regress.specs.Turned.{turns_layer, may_turn, IsTurnBefore, IsNarrowed}
-use Rattle.p3_regress.proofs.RegressedLaws.{growth_same}
+use Rattle.p3_regress.specs.Regressed.{HasAtomsOfBoth, IsTrueBefore, is_of, growth, growth_layer, regressed}
+use Rattle.p3_regress.specs.Turned.{turns_layer, may_turn, some_joined, turned, turned_parts, turned_whole, IsTurnBefore, IsNarrowed}
+use Rattle.p3_regress.proofs.RegressedLaws.{growth_same, sorted_truth, sorted_nodes, sorted_atoms}
+use Rattle.p3_regress.proofs.RegressedLemmas.{regressed-True, regressed-False, regressed-And, regressed-Or}
 
 -- ---- one equation for each kind of form
 
@@ -288,7 +288,106 @@ turn_before up effects form part before narrowed truly = record {
   only = λ state below h. truly state (narrowed.atoms _ below) ∙ narrowed.only state h;
 }
 
--- a form that is a constant is regressed to the same
-pub told_constant : {E : Type 0} (effects : List Change) (value : Bool) (part : Form) (result : Result Form E) → part ≡ constant value
-    → (IsUntouched effects part → IfOk result (λ before. before ≡ part)) → IfOk result (λ before. before ≡ constant value)
-told_constant effects value part result is untouched = IfOk-weaker result _ _ (λ before same. same ∙ is) (untouched (subst (IsUntouched effects) (sym is) (constant_atoms _ value)))
+-- ---- what is made of a form
+
+and_is : (shape : _) (parts : Row_of-Form _) → And (items-the_row-Form _ parts) ≡ And' shape parts
+and_is shape parts = ap And (sym (items_shown-the_row-Form-1 shape parts)) ∙ backs-Form (And' shape parts)
+
+or_is : (shape : _) (parts : Row_of-Form _) → Or (items-the_row-Form _ parts) ≡ Or' shape parts
+or_is shape parts = ap Or (sym (items_shown-the_row-Form-1 shape parts)) ∙ backs-Form (Or' shape parts)
+
+-- a part of the form tells of each turn, and it is made by its regression
+record IsCutTo (changes : List Change) (up : Bool) (form made : Form) : Type 0 where
+  part : Form
+  narrowed : IsNarrowed up changes form part
+  is : made ≡ regressed changes part
+
+regressed-constant : (changes : List Change) (value : Bool) → regressed changes (constant value) ≡ constant value
+regressed-constant changes true = regressed-True changes
+regressed-constant changes false = regressed-False changes
+
+module _ (changes : List Change) where
+  whole_cut : (up : Bool) (form : Form) → IsCutTo changes up form (turned_whole changes up form)
+  whole_cut up form = by (may_turn changes up form) refl where
+    by : (b : Bool) → may_turn changes up form ≡ b → IsCutTo changes up form (if b then regressed changes form else constant (not up))
+    by true may = record { part = form; narrowed = narrowed_same changes up form may; is = refl }
+    by false none = record { part = constant (not up); narrowed = narrowed_still changes up form none; is = sym (regressed-constant changes (not up)) }
+
+  none_left : (test : Form → Bool) (parts : List Form) → filter test parts ≡ [] → list_any test parts ≡ false
+  none_left test [] is = refl
+  none_left test (part ∷ parts) is = by (test part) refl is (none_left test parts) where
+    by : (b : Bool) → test part ≡ b → cond b (part ∷ filter test parts) (filter test parts) ≡ [] → (filter test parts ≡ [] → list_any test parts ≡ false) → (test part || list_any test parts) ≡ false
+    by true e is rest = absurd (cc)
+    by false e is rest = or_from (test part) _ e (rest is)
+
+  some_left : (test : Form → Bool) (parts : List Form) (first : Form) (rest : List Form) → filter test parts ≡ first ∷ rest → list_any test parts ≡ true
+  some_left test [] first rest is = absurd (cc)
+  some_left test (part ∷ parts) first rest is = by (test part) refl is (some_left test parts first rest) where
+    by : (b : Bool) → test part ≡ b → cond b (part ∷ filter test parts) (filter test parts) ≡ first ∷ rest → (filter test parts ≡ first ∷ rest → list_any test parts ≡ true) → (test part || list_any test parts) ≡ true
+    by true e is later = ap (λ b. b || list_any test parts) e
+    by false e is later = ap (λ b. test part || b) (later is) ∙ or-true (test part)
+
+  and_cut : (parts : List Form) → IsCutTo changes false (And parts) (some_joined true (turned_parts changes false parts))
+  and_cut parts = by (filter (may_turn changes false) parts) refl where
+    by : (kept : List Form) → filter (may_turn changes false) parts ≡ kept → IsCutTo changes false (And parts) (some_joined true (map (regressed changes) kept))
+    by [] none = record {
+      part = True;
+      narrowed = narrowed_still changes false (And parts) (may_turn-And changes false parts ∙ none_left (may_turn changes false) parts none);
+      is = sym (regressed-True changes);
+    }
+    by (part ∷ rest) is = record {
+      part = And (part ∷ rest);
+      narrowed = subst (λ kept. IsNarrowed false changes (And parts) (And kept)) is
+          (narrowed_and changes parts (may_turn-And changes false parts ∙ some_left (may_turn changes false) parts part rest is));
+      is = sym (regressed-And changes (part ∷ rest));
+    }
+
+  or_cut : (parts : List Form) → IsCutTo changes true (Or parts) (some_joined false (turned_parts changes true parts))
+  or_cut parts = by (filter (may_turn changes true) parts) refl where
+    by : (kept : List Form) → filter (may_turn changes true) parts ≡ kept → IsCutTo changes true (Or parts) (some_joined false (map (regressed changes) kept))
+    by [] none = record {
+      part = False;
+      narrowed = narrowed_still changes true (Or parts) (may_turn-Or changes true parts ∙ none_left (may_turn changes true) parts none);
+      is = sym (regressed-False changes);
+    }
+    by (part ∷ rest) is = record {
+      part = Or (part ∷ rest);
+      narrowed = subst (λ kept. IsNarrowed true changes (Or parts) (Or kept)) is
+          (narrowed_or changes parts (may_turn-Or changes true parts ∙ some_left (may_turn changes true) parts part rest is));
+      is = sym (regressed-Or changes (part ∷ rest));
+    }
+
+  cut : (up : Bool) (form : Form) → IsCutTo changes up form (turned changes up form)
+  cut up True = whole_cut up True
+  cut up False = whole_cut up False
+  cut up (Atom atom) = whole_cut up (Atom atom)
+  cut up (Not' shape part) = whole_cut up (Not' shape part)
+  cut true (And' shape parts) = whole_cut true (And' shape parts)
+  cut false (And' shape parts) = subst (λ form. IsCutTo changes false form (some_joined true (turned_parts changes false (items-the_row-Form _ parts)))) (and_is shape parts) (and_cut (items-the_row-Form _ parts))
+  cut true (Or' shape parts) = subst (λ form. IsCutTo changes true form (some_joined false (turned_parts changes true (items-the_row-Form _ parts)))) (or_is shape parts) (or_cut (items-the_row-Form _ parts))
+  cut false (Or' shape parts) = whole_cut false (Or' shape parts)
+
+-- what is made is right for the effects, whose changes were sorted
+module _ (effects sorted : List Change) (same : IsPermutation effects sorted) (up : Bool) (form : Form) where
+  abbrev part : Form
+  part = (cut sorted up form).part
+
+  narrowed : IsNarrowed up effects form part
+  narrowed = sorted_narrowed effects sorted same up form part (cut sorted up form).narrowed
+
+  pub turned_truth : IsTurnBefore up effects form (turned sorted up form)
+  turned_truth = subst (IsTurnBefore up effects form) (sym (cut sorted up form).is) (turn_before up effects form part (regressed sorted part) narrowed (sorted_truth effects sorted same part))
+
+  pub turned_still : may_turn effects up form ≡ false → turned sorted up form ≡ constant (not up)
+  turned_still none = (cut sorted up form).is ∙ ap (regressed sorted) (narrowed.still none) ∙ regressed-constant sorted (not up)
+
+  pub turned_nodes : nodes (turned sorted up form) ≤ nodes form + growth effects form
+  turned_nodes =
+      let is = ap nodes (cut sorted up form).is in
+      let n = sorted_nodes effects sorted same part in
+      let s = narrowed.size in
+      let g = narrowed.growth in
+      omega (arith, is, n, s, g)
+
+  pub turned_atoms : HasAtomsOfBoth effects form (turned sorted up form)
+  turned_atoms allowed h all = ap (has_atoms allowed) (cut sorted up form).is ∙ sorted_atoms effects sorted same part allowed (narrowed.atoms allowed h) all

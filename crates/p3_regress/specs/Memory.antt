@@ -6,8 +6,10 @@ use Rattle.p3_formula.specs.Nodes.{form_of, Grows}
 use Rattle.p3_formula.specs.declared.form.Change.{Change}
 use Rattle.p3_formula.specs.declared.node.Node.{Node}
 use Rattle.p3_regress.specs.Sorted.{lent, IsRising}
-use Rattle.p3_regress.specs.Regressed.{IsTrueBefore, regressed}
+use Rattle.p3_regress.specs.Regressed.{IsTrueBefore, HasAtomsOfBoth, regressed}
+use Rattle.p3_regress.specs.Often.{AreNoted}
 use Rattle.p3_regress.specs.declared.memory.Memory.{Memory}
+use Rattle.p3_regress.specs.declared.often.Noted.{Noted}
 
 -- the answer that a number got
 abbrev pub answer_of : List (Option ℕ) → ℕ → Option ℕ
@@ -42,9 +44,9 @@ Continues changes old new = GoesOn changes old.table new.table old.answers.items
 abbrev pub answer_in : Memory → ℕ → Option ℕ
 answer_in memory number = answer_of memory.answers.items number
 
--- the changes are those of the effects by rising atom, and the answers are right
-abbrev pub IsUnder : List Change → List (Bor Change) → Memory → Type 0
-IsUnder effects changes memory = IsPermutation effects (lent changes) × IsRising changes × IsRight (lent changes) memory
+-- the changes are those of the effects by rising atom, and the answers and what is noted are right
+abbrev pub IsUnder : List Change → List (Bor Change) → List Noted → Memory → Type 0
+IsUnder effects changes noted memory = IsPermutation effects (lent changes) × IsRising changes × IsRight (lent changes) memory × AreNoted (lent changes) noted
 
 -- what contracts see of a table under regression: its nodes, the effects, and the answers given so far
 pub record Regression : Type 0 where
@@ -61,6 +63,10 @@ pub record Extends (old new : Regression) : Type 0 where
 -- before the effects the one number is true where the other is after them
 abbrev pub IsNumberBefore : Regression → Regression → ℕ → ℕ → Type 0
 IsNumberBefore old new number before = IsTrueBefore old.effects (form_of old.table number) (form_of new.table before)
+
+-- its atoms are those of the other or of a condition
+abbrev pub HasAtomsBefore : Regression → Regression → ℕ → ℕ → Type 0
+HasAtomsBefore old new number before = HasAtomsOfBoth old.effects (form_of old.table number) (form_of new.table before)
 
 -- a number that was answered is answered alike, and nothing changes
 abbrev pub AnswersAgain : {E : Type 0} → Regression → Regression → ℕ → Result ℕ E → Type 0

@@ -2,9 +2,14 @@
 #![tactic(auto)]
 
 mod changed;
+mod forms;
 mod memory;
+mod often;
+mod parts;
+mod readers;
 mod regression;
 mod sorted;
 mod turning;
 
+pub use readers::{PartsByAtom, Reader, by_rising_atom, push_readers};
 pub use regression::{Regressed, regress};

@@ -1,20 +1,25 @@
 //! Forms before a step in place of forms after it.
 
 ghost use Rattle.std.specs.Prelude.{◌≡◌, ◌≤◌, ◌<◌, ◌+◌, ℕ, not, false, length, map, [], Some, None, Ok, All, IfOk};
-ghost use Rattle.std.specs.Option.{unwrap_or};
 ghost use Rattle.p3_formula.specs.Forms.{nodes};
 ghost use Rattle.p3_formula.specs.Nodes.{IsNodeBelow, form_of, node_form};
 ghost use Rattle.p3_formula.specs.Simplified.{constant};
-ghost use Rattle.p3_regress.specs.Memory.{answer_of, answer_in, IsRight, Continues, IsNumberBefore, Extends, AnswersAgain};
+ghost use Rattle.p3_regress.specs.Memory.{answer_of, answer_in, IsRight, Continues, IsNumberBefore, HasAtomsBefore, Extends, AnswersAgain};
+ghost use Rattle.p3_regress.specs.Parts.{IndexesParts};
+ghost use Rattle.p3_regress.specs.Readers.{AreRising, is_read_at, mentions};
+ghost use Rattle.std.specs.List.Sorted.{IsNonDecreasing};
 ghost use Rattle.p3_regress.specs.Regressed.{IsTrueBefore, IsUntouched, HasAtomsOfBoth, growth};
 ghost use Rattle.p3_regress.specs.Regressed as made;
 ghost use Rattle.p3_regress.specs.Sorted.{lent, IsRising};
-ghost use Rattle.p3_regress.specs.Turned.{may_turn, IsTurnBefore, IsNarrowed};
+ghost use Rattle.p3_regress.specs.Turned.{may_turn, IsTurnBefore};
 
 use crate::changed::atom_after;
+use crate::forms::form_before;
 use crate::memory::Memory;
+use crate::often::{Noted, often_changed};
+use crate::readers::{PartsByAtom, Reader, places_read};
 use crate::sorted::{by_atom, changes_of};
-use crate::turning::{may_turn, narrowed};
+use crate::turning::{may_turn, may_turn_by, turned};
 use p3_base::{List, NoMemory};
 use p3_formula::{Change, Effects, Form, Node, Table};
 use std::alloc::Global;
@@ -27,6 +32,7 @@ use std::marker::Model;
 pub struct Regressed<'e> {
     effects: &'e Effects,
     changes: Vec<&'e Change>,
+    noted: Vec<Noted>,
     memory: Memory,
 }
 
@@ -46,7 +52,8 @@ impl<'e> Model for Regressed<'e> {
       answers = all.memory.answers.items;
     } };
 
-    ghost invariant = { λ all. IsUnder all.effects.now all.changes.items all.memory };
+    ghost invariant = { λ all.
+        IsUnder all.effects.now all.changes.items all.noted.items all.memory };
 }
 
 impl<'e> Regressed<'e> {
@@ -61,9 +68,11 @@ impl<'e> Regressed<'e> {
         ensures answers { IfOk result (λ all. all.answers ≡ []) }
     {
         let changes = by_atom(alloc, effects.items())?;
+        let noted = often_changed(alloc, &changes)?;
         Ok(Regressed {
             effects,
             changes,
+            noted,
             memory: Memory {
                 alloc,
                 table,
@@ -77,6 +86,7 @@ impl<'e> Regressed<'e> {
     pub fn of(&mut self, number: usize) -> Result<usize, NoMemory>
         requires { number < length self.old.table }
         ensures truth { IfOk result (IsNumberBefore self.old self.new number) }
+        ensures atoms { IfOk result (HasAtomsBefore self.old self.new number) }
         ensures within { IfOk result (λ before. before < length self.new.table) }
         ensures again { AnswersAgain self.old self.new number result }
         ensures answered { IfOk result (λ before. answer_of self.new.answers number ≡ Some before) }
@@ -98,10 +108,7 @@ impl<'e> Regressed<'e> {
         // Nodes, effects and answers that are there stay.
         ensures extends { Extends self.old self.new }
     {
-        match form {
-            Form::Atom(atom) => self.atom_form(alloc, *atom),
-            form => self.form_by_nodes(alloc, form),
-        }
+        form_before(alloc, &self.changes, &self.noted, form)
     }
 
     /// Whether the step may turn the form true, or else false. It takes no memory.
@@ -123,48 +130,55 @@ impl<'e> Regressed<'e> {
         // Nodes, effects and answers that are there stay.
         ensures extends { Extends self.old self.new }
     {
-        match self.narrowed(alloc, form, up)? {
-            Some(part) => self.form(alloc, &part),
-            None => self.form(alloc, form),
-        }
+        self.turned_by(alloc, form, up, &PartsByAtom::none(alloc))
     }
 
-    /// What of the form to look at after the step, where it is not yet turned. There is none where it
-    /// is the form as a whole.
-    fn narrowed(&self, alloc: Global, form: &Form, up: bool) -> Result<Option<Form>, NoMemory>
-        ensures { IfOk result (λ part.
-            IsNarrowed up self.now.effects form.now (unwrap_or part form.now)) }
+    /// Whether the step may turn the form true, or else false, where its parts are looked up by atom.
+    pub fn may_turn_by(
+        &self,
+        alloc: Global,
+        form: &Form,
+        up: bool,
+        by_atom: &PartsByAtom,
+    ) -> Result<bool, NoMemory>
+        requires { IndexesParts form.now by_atom.now }
+        ensures { IfOk result (λ may. may ≡ may_turn self.now.effects up form.now) }
     {
-        narrowed(alloc, &self.changes, form, up)
+        may_turn_by(alloc, &self.changes, form, up, by_atom)
     }
 
-    /// The form that holds before the step exactly where an atom is set after it. It takes no node.
-    fn atom_form(&self, alloc: Global, atom: usize) -> Result<Form, NoMemory>
-        ensures truth { IfOk result (λ before.
-            IsTrueBefore self.now.effects (Form.Atom atom) before) }
-        ensures untouched { IsUntouched self.now.effects (Form.Atom atom)
-            → IfOk result (λ before. before ≡ Form.Atom atom) }
-        ensures size { IfOk result (λ before.
-            nodes before ≤ nodes (Form.Atom atom) + growth self.now.effects (Form.Atom atom)) }
-        ensures atoms { IfOk result (λ before.
-            HasAtomsOfBoth self.now.effects (Form.Atom atom) before) }
-    {
-        atom_after(alloc, changes_of(&self.changes, atom), atom)
-    }
-
-    /// The same, by the nodes of the form.
-    fn form_by_nodes(&mut self, alloc: Global, form: &Form) -> Result<Form, NoMemory>
-        ensures truth { IfOk result (λ before. IsTrueBefore self.old.effects form.now before) }
-        ensures untouched { IsUntouched self.old.effects form.now
-            → IfOk result (λ before. before ≡ form.now) }
+    /// Makes what `turned` makes of the form, whose parts are looked up by atom: of a conjunction that
+    /// may turn false, and of a disjunction that may turn true, it looks only at the parts that the step
+    /// touches.
+    pub fn turned_by(
+        &mut self,
+        alloc: Global,
+        form: &Form,
+        up: bool,
+        by_atom: &PartsByAtom,
+    ) -> Result<Form, NoMemory>
+        requires { IndexesParts form.now by_atom.now }
+        ensures truth { IfOk result (λ before. IsTurnBefore up self.old.effects form.now before) }
+        ensures still { may_turn self.old.effects up form.now ≡ false
+            → IfOk result (λ before. before ≡ constant (not up)) }
         ensures size { IfOk result (λ before.
             nodes before ≤ nodes form.now + growth self.old.effects form.now) }
         ensures atoms { IfOk result (λ before. HasAtomsOfBoth self.old.effects form.now before) }
+        // Nodes, effects and answers that are there stay.
         ensures extends { Extends self.old self.new }
     {
-        let number = self.memory.of(form)?;
-        let before = before(&mut self.memory, &self.changes, number)?;
-        self.memory.table.form(alloc, before)
+        turned(alloc, &self.changes, &self.noted, form, up, by_atom)
+    }
+
+    /// The places of the readers of an atom that a change of the step names, by rising place. One may
+    /// stand several times.
+    pub fn places_read(&self, alloc: Global, readers: &[Reader]) -> Result<Vec<usize>, NoMemory>
+        requires { AreRising readers.now }
+        ensures read { IfOk result (λ places. (place : ℕ)
+            → mentions place places.items ≡ is_read_at self.now.effects readers.now place) }
+        ensures rising { IfOk result (λ places. IsNonDecreasing places.items) }
+    {
+        places_read(alloc, readers, &self.changes)
     }
 
     /// The table.

@@ -1,24 +1,35 @@
-//! What of a form the changes of a step may turn.
+//! What of a form the changes of a step may turn, and when they do.
 
-ghost use Rattle.std.specs.Prelude.{◌≡◌, IfOk, filter, not};
+ghost use Rattle.std.specs.Prelude.{◌≡◌, ◌++◌, ◌∷◌, [], IfOk, OnOk, filter, map, not};
 ghost use Rattle.std.specs.List.{list_any};
-ghost use Rattle.std.specs.Option.{unwrap_or};
+ghost use Rattle.std.specs.List.Sorted.{IsNonDecreasing};
 ghost use Rattle.p3_formula.specs.Simplified as simplified;
+ghost use Rattle.p3_regress.specs.Often.{AreNoted};
+ghost use Rattle.p3_regress.specs.Parts.{HasTurning, IndexesParts, ListsParts};
 ghost use Rattle.p3_regress.specs.Regressed as made;
 ghost use Rattle.p3_regress.specs.Sorted.{lent, IsRising};
 ghost use Rattle.p3_regress.specs.Turned as turned;
 
 use crate::changed::is_named;
+use crate::forms::form_before;
+use crate::often::Noted;
+use crate::readers::PartsByAtom;
 use crate::sorted::changes_of;
 use p3_base::{List, NoMemory};
-use p3_formula::{Change, Form, copied};
+use p3_formula::{Change, Form};
 use std::alloc::Global;
+
+/// How many changes are looked through before those of an atom are looked up.
+const FEW: usize = 8;
 
 /// Whether some change sets the atom, or else whether some clears it.
 fn may_turn_atom(changes: &[&Change], atom: usize, up: bool) -> bool
     requires { IsRising changes.now }
     ensures { result ≡ list_any (made.is_of up atom) (lent changes.now) }
 {
+    if changes.len() <= FEW {
+        return is_named(changes, atom, up);
+    }
     is_named(changes_of(changes, atom), atom, up)
 }
 
@@ -51,24 +62,149 @@ fn may_turn_some(changes: &[&Change], parts: &[Form], up: bool) -> bool
     false
 }
 
-/// The parts that they may turn.
-fn turning(
+/// Whether they may turn one of the parts, where those that they may turn stand at these places.
+fn may_turn_at(changes: &[&Change], parts: &[Form], up: bool, places: &[usize]) -> bool
+    requires rising { IsRising changes.now }
+    requires all { HasTurning (turned.may_turn (lent changes.now) up) parts.now places.now }
+    ensures { result ≡ list_any (turned.may_turn (lent changes.now) up) parts.now }
+{
+    for place in places {
+        if *place < parts.len() && may_turn(changes, &parts[*place], up) {
+            return true;
+        }
+    }
+    false
+}
+
+/// Whether they may turn one of the parts, of which those that read an atom are looked up.
+fn may_turn_part(
     alloc: Global,
     changes: &[&Change],
     parts: &[Form],
     up: bool,
-) -> Result<List<Form>, NoMemory>
-    requires { IsRising changes.now }
-    ensures { IfOk result (λ kept. kept
-        ≡ filter (turned.may_turn (lent changes.now) up) parts.now) }
+    by_atom: &PartsByAtom,
+) -> Result<bool, NoMemory>
+    requires rising { IsRising changes.now }
+    requires parts { ListsParts parts.now by_atom.now }
+    ensures { IfOk result (λ may.
+        may ≡ list_any (turned.may_turn (lent changes.now) up) parts.now) }
+{
+    if !by_atom.listed {
+        return Ok(may_turn_some(changes, parts, up));
+    }
+    let places = by_atom.places_read(alloc, changes)?;
+    Ok(may_turn_at(changes, parts, up, &places))
+}
+
+/// Whether the changes may turn the form true, or else false.
+#[tactic(auto, using(crate::proofs::TurnedLaws::turn_laws, crate::proofs::PartLaws::parts_laws))]
+pub(crate) fn may_turn_by(
+    alloc: Global,
+    changes: &[&Change],
+    form: &Form,
+    up: bool,
+    by_atom: &PartsByAtom,
+) -> Result<bool, NoMemory>
+    requires rising { IsRising changes.now }
+    requires parts { IndexesParts form.now by_atom.now }
+    ensures { IfOk result (λ may. may ≡ turned.may_turn (lent changes.now) up form.now) }
+{
+    match form {
+        Form::And(parts) | Form::Or(parts) => {
+            may_turn_part(alloc, changes, parts.items(), up, by_atom)
+        }
+        Form::True | Form::False | Form::Atom(_) | Form::Not(_) => Ok(may_turn(changes, form, up)),
+    }
+}
+
+/// The part before the changes stands behind the others, where they may turn it.
+fn push_turned(
+    alloc: Global,
+    kept: &mut Vec<Form>,
+    changes: &[&Change],
+    noted: &[Noted],
+    part: &Form,
+    up: bool,
+) -> Result<(), NoMemory>
+    requires rising { IsRising changes.now }
+    requires right { AreNoted (lent changes.now) noted.now }
+    ensures { OnOk result (kept.new.items
+        ≡ kept.old.items ++ turned.turned_parts (lent changes.now) up (part.now ∷ [])) }
+{
+    if may_turn(changes, part, up) {
+        kept.push(form_before(alloc, changes, noted, part)?)?;
+    }
+    Ok(())
+}
+
+/// The parts that they may turn, before the changes.
+fn turned_all(
+    alloc: Global,
+    changes: &[&Change],
+    noted: &[Noted],
+    parts: &[Form],
+    up: bool,
+) -> Result<Vec<Form>, NoMemory>
+    requires rising { IsRising changes.now }
+    requires right { AreNoted (lent changes.now) noted.now }
+    ensures { IfOk result (λ kept. kept.items
+        ≡ turned.turned_parts (lent changes.now) up parts.now) }
 {
     let mut kept = Vec::new(alloc);
     for part in parts {
-        if may_turn(changes, part, up) {
-            kept.push(copied(alloc, part)?)?;
+        push_turned(alloc, &mut kept, changes, noted, part, up)?;
+    }
+    Ok(kept)
+}
+
+/// The same, where the parts that they may turn stand at these places, which rise. One may stand
+/// several times.
+fn turned_at(
+    alloc: Global,
+    changes: &[&Change],
+    noted: &[Noted],
+    parts: &[Form],
+    up: bool,
+    places: &[usize],
+) -> Result<Vec<Form>, NoMemory>
+    requires rising { IsRising changes.now }
+    requires right { AreNoted (lent changes.now) noted.now }
+    requires sorted { IsNonDecreasing places.now }
+    requires all { HasTurning (turned.may_turn (lent changes.now) up) parts.now places.now }
+    ensures { IfOk result (λ kept. kept.items
+        ≡ turned.turned_parts (lent changes.now) up parts.now) }
+{
+    let mut kept = Vec::new(alloc);
+    let mut next = 0;
+    for place in places {
+        if *place >= next && *place < parts.len() {
+            push_turned(alloc, &mut kept, changes, noted, &parts[*place], up)?;
+            next = *place + 1;
         }
     }
-    Ok(List::from(kept))
+    Ok(kept)
+}
+
+/// The parts that they may turn, before the changes. Those that read an atom are looked up.
+fn turned_parts(
+    alloc: Global,
+    changes: &[&Change],
+    noted: &[Noted],
+    parts: &[Form],
+    up: bool,
+    by_atom: &PartsByAtom,
+) -> Result<Vec<Form>, NoMemory>
+    requires rising { IsRising changes.now }
+    requires right { AreNoted (lent changes.now) noted.now }
+    requires parts { ListsParts parts.now by_atom.now }
+    ensures { IfOk result (λ kept. kept.items
+        ≡ turned.turned_parts (lent changes.now) up parts.now) }
+{
+    if !by_atom.listed {
+        return turned_all(alloc, changes, noted, parts, up);
+    }
+    let places = by_atom.places_read(alloc, changes)?;
+    turned_at(alloc, changes, noted, parts, up, &places)
 }
 
 /// The constant of that value.
@@ -78,35 +214,74 @@ fn constant(value: bool) -> Form
     if value { Form::True } else { Form::False }
 }
 
-/// What of the form to look at after the changes, where it is not yet turned: of a conjunction that
-/// may turn false, and of a disjunction that may turn true, the parts that may do so alone. There is
-/// none where it is the form as a whole.
-pub(crate) fn narrowed(
+/// The conjunction of the parts, or else their disjunction, where there are any.
+fn some_joined(parts: Vec<Form>, every: bool) -> Form
+    ensures { result ≡ turned.some_joined every parts.items }
+{
+    if parts.is_empty() {
+        return constant(every);
+    }
+    if every {
+        return Form::And(List::from(parts));
+    }
+    Form::Or(List::from(parts))
+}
+
+/// The form before the changes, or where they cannot turn it the constant that says so.
+fn turned_whole(
     alloc: Global,
     changes: &[&Change],
+    noted: &[Noted],
     form: &Form,
     up: bool,
-) -> Result<Option<Form>, NoMemory>
-    requires { IsRising changes.now }
-    ensures { IfOk result (λ part.
-        turned.IsNarrowed up (lent changes.now) form.now (unwrap_or part form.now)) }
+    by_atom: &PartsByAtom,
+) -> Result<Form, NoMemory>
+    requires rising { IsRising changes.now }
+    requires right { AreNoted (lent changes.now) noted.now }
+    requires parts { IndexesParts form.now by_atom.now }
+    ensures { IfOk result (λ before. before
+        ≡ turned.turned_whole (lent changes.now) up form.now) }
 {
-    if !may_turn(changes, form, up) {
-        return Ok(Some(constant(!up)));
+    if !may_turn_by(alloc, changes, form, up, by_atom)? {
+        return Ok(constant(!up));
     }
+    form_before(alloc, changes, noted, form)
+}
+
+/// What of the form to look at after the changes, where it is not yet turned, before them: of a
+/// conjunction that may turn false, and of a disjunction that may turn true, the parts that may do so
+/// alone.
+#[tactic(auto, using(crate::proofs::PartLaws::parts_laws, crate::proofs::PartLaws::turned_laws))]
+pub(crate) fn turned(
+    alloc: Global,
+    changes: &[&Change],
+    noted: &[Noted],
+    form: &Form,
+    up: bool,
+    by_atom: &PartsByAtom,
+) -> Result<Form, NoMemory>
+    requires rising { IsRising changes.now }
+    requires right { AreNoted (lent changes.now) noted.now }
+    requires parts { IndexesParts form.now by_atom.now }
+    ensures { IfOk result (λ before. before ≡ turned.turned (lent changes.now) up form.now) }
+{
     match form {
         Form::And(parts) => {
             if up {
-                return Ok(None);
+                return turned_whole(alloc, changes, noted, form, true, by_atom);
             }
-            Ok(Some(Form::And(turning(alloc, changes, parts.items(), false)?)))
+            let kept = turned_parts(alloc, changes, noted, parts.items(), false, by_atom)?;
+            Ok(some_joined(kept, true))
         }
         Form::Or(parts) => {
             if up {
-                return Ok(Some(Form::Or(turning(alloc, changes, parts.items(), true)?)));
+                let kept = turned_parts(alloc, changes, noted, parts.items(), true, by_atom)?;
+                return Ok(some_joined(kept, false));
             }
-            Ok(None)
+            turned_whole(alloc, changes, noted, form, false, by_atom)
         }
-        Form::True | Form::False | Form::Atom(_) | Form::Not(_) => Ok(None),
+        Form::True | Form::False | Form::Atom(_) | Form::Not(_) => {
+            turned_whole(alloc, changes, noted, form, up, by_atom)
+        }
     }
 }
