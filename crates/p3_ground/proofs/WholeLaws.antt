@@ -189,12 +189,12 @@ whole-is T X S places atoms parts G few units are count initial cost steps_count
         step_count = numbers;
         rising = ap (λ n. rises 0 n G.steps) numbers ∙ all.rising;
         kept = all.kept;
-        left_out = leaves-out-what-never-begins T X S G (record { well = ex.well; numbered = ex.numbered; statics = ex.statics }) (all.whole G refl);
         goal = subst (Stands X.numbers S atoms (hard_meaning X.numbers [] X.goal)) (sym goal_is) are.goal;
         hard = subst (OperatorsStand X.numbers S atoms (task_operators X)) (sym hard_are) are.hard;
         soft = subst (InstancesStand X.numbers S atoms (task_instances X)) (sym soft_are) are.soft;
         names = names ∙ ap length (sym ex.numbered.names.preferences);
       };
+      left_out = leaves-out-what-never-begins T X S G (record { well = ex.well; numbered = ex.numbered; statics = ex.statics }) (all.whole G refl);
       may = all.may;
     }
 
@@ -207,7 +207,7 @@ whole-below T X G whole =
     (little.stands.below, little.stands.initial.count ∙ sym little.stands.count)
 
 pub whole-grounds : (T : Task) (X : NumberedTask) (G : GroundTask) (set : forms.State) → IsWhole T X G → IsClosed G set → IsInEachClosed G set → IsGroundingOf T (pruned set G)
-whole-grounds T X G set whole closed least = is-grounding T X whole.statics whole.atoms whole.expanded G set whole.together whole.may closed least
+whole-grounds T X G set whole closed least = is-grounding T X whole.statics whole.atoms whole.expanded G set whole.together whole.left_out whole.may closed least
 
 -- ---- steps that are marked
 

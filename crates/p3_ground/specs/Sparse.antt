@@ -20,7 +20,7 @@ use Rattle.p3_formula.specs.declared.task.GroundStep.{GroundStep}
 use Rattle.p3_formula.specs.declared.task.GroundTask.{GroundTask}
 use Rattle.p3_ground.specs.May.{may_hold}
 use Rattle.p3_ground.specs.Closed.{IsClosed}
-use Rattle.p3_ground.specs.StandsFor.{StandsBy}
+use Rattle.p3_ground.specs.StandsFor.{LeavesOutOnlyUnfit, StandsBy}
 use Rattle.p3_tree.specs.Mentions.{operator_atoms, step_literals, is_under_when, step_conjuncts}
 
 -- the atom of that number is one of those
@@ -92,4 +92,5 @@ pub record Sparse (T : Task) (atoms : List Fact) (G : GroundTask) : Type 0 where
 pub record IsGroundingOf (T : Task) (G : GroundTask) : Type 0 where
   pub atoms : List Fact
   pub stands : StandsBy T atoms G
+  pub left_out : LeavesOutOnlyUnfit T G
   pub sparse : Sparse T atoms G

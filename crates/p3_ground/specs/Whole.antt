@@ -18,6 +18,7 @@ use Rattle.p3_expansion.specs.TaskConstraints.{task_operators, task_instances}
 use Rattle.p3_expansion.specs.declared.statics.Statics.{Statics}
 use Rattle.p3_ground.specs.Expanded.{AreExpanded, IsPutTogether}
 use Rattle.p3_ground.specs.Grounding.{MayBegin}
+use Rattle.p3_ground.specs.StandsFor.{LeavesOutOnlyUnfit}
 use Rattle.p3_ground.specs.declared.error.GroundFail.{GroundFail}
 use Rattle.p3_ground.specs.declared.error.GroundFail.TheVariants.{Refused, NoMemory}
 use Rattle.p3_ground.specs.declared.parts.Parts.{Parts}
@@ -50,4 +51,5 @@ pub record IsWhole (T : Task) (X : NumberedTask) (G : GroundTask) : Type 0 where
   pub atoms : List GroundAtom
   pub expanded : AreExpanded T X statics atoms
   pub together : IsPutTogether T X statics atoms G
+  pub left_out : LeavesOutOnlyUnfit T G
   pub may : All (MayBegin T X statics) G.steps

@@ -30,7 +30,8 @@ pub use grounding::{
 };
 pub use laws::{
     counts_and_costs_agree, names_are_below, numbers_are_one_to_one, plans_are_valid_by_number,
-    steps_that_never_fit_may_be_left_out, the_smallest_task_has_a_ground_task,
+    plans_that_are_asked_agree, steps_that_never_fit_may_be_left_out,
+    steps_that_were_done_are_asked, the_smallest_task_has_a_ground_task,
     wide_steps_take_as_many_actions, written_plans_lift_alike,
 };
 pub use planned::planned_steps_are_all;
