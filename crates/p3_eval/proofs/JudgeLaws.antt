@@ -15,11 +15,13 @@ use Rattle.p3_tree.specs.declared.task.Task.{Task}
 use Rattle.p3_types.specs.Finds.{HasOtherArguments, IsFound}
 use Rattle.p3_types.specs.declared.finding.Found.{Found}
 use Rattle.p3_types.specs.declared.finding.Found.TheVariants as found
+use Rattle.p3_formula.specs.declared.task.GroundTask.{GroundTask}
 use Rattle.p3_ground.specs.PlansByNumber.{AreNumbers}
+use Rattle.p3_ground.specs.StandsFor.{LeftOutAt}
 use Rattle.p3_run.specs.Runs.{Ran, most_steps}
 use Rattle.p3_run.specs.declared.answers.Stepped.{Stepped}
 use Rattle.p3_run.specs.declared.answers.Stepped.TheVariants as stepped
-use Rattle.p3_eval.specs.Judged.{HasDone, IsJudged, NamesMisfitOfFound, TellsOfFound, fault_in, fault_of_step, ran_with}
+use Rattle.p3_eval.specs.Judged.{CanBeAsked, HasDone, IsAskedFound, IsJudged, NamesMisfitOfFound, TellsOfFound, fault_in, fault_of_step, ran_with}
 use Rattle.p3_eval.specs.Runs.{BelongTogether, IsFaultOfAll, IsStepped, OfItsPlan, OfItsStep}
 use Rattle.p3_eval.specs.declared.fault.FaultKind.TheVariants as kind
 use Rattle.p3_eval.specs.declared.fault.PlanFault.{PlanFault}
@@ -44,27 +46,33 @@ module _ (ran : Ran) (place : ℕ) (is : place ≡ length ran.plan + 1) where
 
   pub tells_of_number : (number : ℕ) (answer : Stepped) → OfItsStep ran number (IsStepped answer) → OfItsStep ran number (IsFaultOfAll answer) → TellsOfFound ran (found.Number number) (fault_of_step place answer)
   tells_of_number number stepped.Done fitting told = fitting
-  tells_of_number number stepped.Precondition fitting told = λ T all plan are step has rest. told T all plan are step has rest Precondition refl ∙ placed T plan are Precondition
-  tells_of_number number stepped.NoCost fitting told = λ T all plan are step has rest. told T all plan are step has rest NoCost refl ∙ placed T plan are NoCost
+  tells_of_number number stepped.Precondition fitting told = λ T all plan are left step has rest. told T all plan are left step has rest Precondition refl ∙ placed T plan are Precondition
+  tells_of_number number stepped.NoCost fitting told = λ T all plan are left step has rest. told T all plan are left step has rest NoCost refl ∙ placed T plan are NoCost
 
   -- why it does not fit, or that it fits
   pub names_of_number : (number : ℕ) (answer : Stepped) → OfItsStep ran number (IsStepped answer) → NamesMisfitOfFound ran (found.Number number) (fault_of_step place answer)
-  names_of_number number stepped.Done fitting = λ T all plan are step has. sym (ap (option_map (AtStep (length plan + 1))) (fitting T all plan are step has))
-  names_of_number number stepped.Precondition fitting = λ T all plan are step has. sym (ap (option_map (AtStep (length plan + 1))) (fitting T all plan are step has) ∙ placed T plan are Precondition)
-  names_of_number number stepped.NoCost fitting = λ T all plan are step has. sym (ap (option_map (AtStep (length plan + 1))) (fitting T all plan are step has) ∙ placed T plan are NoCost)
+  names_of_number number stepped.Done fitting = λ T all plan are left step has. sym (ap (option_map (AtStep (length plan + 1))) (fitting T all plan are left step has))
+  names_of_number number stepped.Precondition fitting = λ T all plan are left step has. sym (ap (option_map (AtStep (length plan + 1))) (fitting T all plan are left step has) ∙ placed T plan are Precondition)
+  names_of_number number stepped.NoCost fitting = λ T all plan are left step has. sym (ap (option_map (AtStep (length plan + 1))) (fitting T all plan are left step has) ∙ placed T plan are NoCost)
 
   pub names_of_unknown : NamesMisfitOfFound ran found.UnknownAction (Some (record { step = place; kind = kind.UnknownAction }))
-  names_of_unknown T all plan are step none = sym (ap (option_map (AtStep (length plan + 1))) (unknown T (last_state (visited T plan)) step none) ∙ placed T plan are UnknownAction)
+  names_of_unknown T all plan are left step none = sym (ap (option_map (AtStep (length plan + 1))) (unknown T (last_state (visited T plan)) step none) ∙ placed T plan are UnknownAction)
 
   pub names_of_arguments : NamesMisfitOfFound ran found.Arguments (Some (record { step = place; kind = kind.Arguments }))
-  names_of_arguments T all plan are step other = sym (ap (option_map (AtStep (length plan + 1))) (other_arguments T (last_state (visited T plan)) step other) ∙ placed T plan are Arguments)
+  names_of_arguments T all plan are left step other = sym (ap (option_map (AtStep (length plan + 1))) (other_arguments T (last_state (visited T plan)) step other) ∙ placed T plan are Arguments)
 
   module _ (fit : OfItsPlan ran (λ T plan. IsTrue (steps_fit T plan))) where
     pub tells_of_unknown : TellsOfFound ran found.UnknownAction (Some (record { step = place; kind = kind.UnknownAction }))
-    tells_of_unknown T all plan are step none rest = first_misfit T plan step rest UnknownAction (fit T all plan are) (unknown T _ step none) ∙ placed T plan are UnknownAction
+    tells_of_unknown T all plan are left step none rest = first_misfit T plan step rest UnknownAction (fit T all plan are) (unknown T _ step none) ∙ placed T plan are UnknownAction
 
     pub tells_of_arguments : TellsOfFound ran found.Arguments (Some (record { step = place; kind = kind.Arguments }))
-    tells_of_arguments T all plan are step other rest = first_misfit T plan step rest Arguments (fit T all plan are) (other_arguments T _ step other) ∙ placed T plan are Arguments
+    tells_of_arguments T all plan are left step other rest = first_misfit T plan step rest Arguments (fit T all plan are) (other_arguments T _ step other) ∙ placed T plan are Arguments
+
+-- what may be asked of a step may be asked of what it is found as
+pub asked_found : (T : Task) (G : GroundTask) (step : Step) (answer : Found) → ((number : ℕ) → HasNumber T step number → LeftOutAt T G number) → IsFound T step answer → IsAskedFound T G answer
+asked_found T G step (found.Number number) asked is = asked number is
+asked_found T G step found.UnknownAction asked is = tt
+asked_found T G step found.Arguments asked is = tt
 
 -- ---- a plan step by step
 
@@ -95,7 +103,7 @@ module _ (T : Task) (before now : Ran) (all : BelongTogether T before.task befor
         done = λ none. subst (λ list. HasDone T list before now) is has;
       }
 
-  module _ (plan : Plan) (place : ℕ) (step : Step) (within : place < length plan) (at : step ≡ get_or plan place step) (has : HasDone T (take place plan) before now) where
+  module _ (plan : Plan) (place : ℕ) (step : Step) (within : place < length plan) (at : step ≡ get_or plan place step) (has : HasDone T (take place plan) before now) (can : CanBeAsked T before.task plan) where
     together : BelongTogether T now.task now.weights
     together = still_together (take place plan) has
 
@@ -105,12 +113,15 @@ module _ (T : Task) (before now : Ran) (all : BelongTogether T before.task befor
         let taken = length-take place plan in
         omega (arith, within, few, long, taken)
 
+    asked : (answer : Found) → IsFound T step answer → IsAskedFound T now.task answer
+    asked answer is = asked_found T now.task step answer (λ number own. subst (λ G. LeftOutAt T G number) (sym has.task) (can place step within at number own)) is
+
     whole : take place plan ++ step ∷ drop (suc place) plan ≡ plan
     whole = ap (λ list. take place plan ++ list) (ap (λ first. first ∷ drop (suc place) plan) at ∙ sym (drop-cons plan place step within)) ∙ take-append-drop place plan
 
     pub fault_is_judged : (answer : Found) (fault : PlanFault) (after : Ran) → IsFound T step answer → TellsOfFound now answer (Some fault) → IsJudged T plan before after (Some fault)
     fault_is_judged answer fault after is told = record {
-      fault = ap (first_fault T) (sym whole) ∙ told T together (take place plan) has.numbers step is (drop (suc place) plan);
+      fault = ap (first_fault T) (sym whole) ∙ told T together (take place plan) has.numbers (asked answer is) step is (drop (suc place) plan);
       done = λ none. absurd (cc);
     }
 
@@ -121,5 +132,5 @@ module _ (T : Task) (before now : Ran) (all : BelongTogether T before.task befor
       numbers = subst (λ list. AreNumbers T list (now.plan ++ number ∷ [])) (ap (λ last. take place plan ++ last ∷ []) at ∙ sym (take_more plan place step within))
           (zip_push (HasNumber T) (take place plan) now.plan step number has.numbers is);
     }
-    step_is_done found.UnknownAction is told = absurd (not_none _ UnknownAction (told T together (take place plan) has.numbers step is) (unknown T _ step is))
-    step_is_done found.Arguments is told = absurd (not_none _ Arguments (told T together (take place plan) has.numbers step is) (other_arguments T _ step is))
+    step_is_done found.UnknownAction is told = absurd (not_none _ UnknownAction (told T together (take place plan) has.numbers tt step is) (unknown T _ step is))
+    step_is_done found.Arguments is told = absurd (not_none _ Arguments (told T together (take place plan) has.numbers tt step is) (other_arguments T _ step is))

@@ -1,5 +1,5 @@
 -- How the loop over the steps of a plan goes on, and what it comes to.
-use Rattle.std.proofs.Common.{◌≡◌, ◌∙◌, ℕ, ◌+◌, ◌≤◌, ◌<◌, refl, sym, ap, subst, List, [], ◌∷◌, ◌++◌, length, append_assoc, arith, Option, Some, None}
+use Rattle.std.proofs.Common.{◌≡◌, ◌∙◌, ℕ, ◌+◌, ◌≤◌, ◌<◌, refl, sym, ap, subst, List, [], ◌∷◌, ◌++◌, length, get_or, append_assoc, arith, Option, Some, None}
 use Rattle.std.specs.Prelude.{option_map}
 use Rattle.std.proofs.lemmas.List.{append-nil, length-append}
 use Rattle.std.proofs.lemmas.Slice.Zip.{AllZip-long}
@@ -19,12 +19,12 @@ use Rattle.p3_types.specs.Finds.{IsFound}
 use Rattle.p3_types.specs.declared.finding.Found.TheVariants as found
 use Rattle.p3_types.specs.declared.finding.Found.{Found}
 use Rattle.p3_ground.specs.PlansByNumber.{AreNumbers}
-use Rattle.p3_run.specs.Runs.{Ran, most_steps, ran_after}
+use Rattle.p3_run.specs.Runs.{Ran, most_steps}
 use Rattle.p3_eval.specs.Judged.{TellsOf, TellsOfFound, fault_in, ran_with}
 use Rattle.p3_eval.specs.Runs.{BelongTogether, OfItsPlan}
 use Rattle.p3_eval.specs.declared.fault.PlanFault.{PlanFault}
-use Rattle.p3_eval.proofs.JudgeLaws.{other_arguments, unknown}
-use Rattle.p3_eval.specs.Judging.{Follows, Goes, GoesOn, HasDone, HasStep, IsFirstFault, IsFollowed}
+use Rattle.p3_eval.proofs.JudgeLaws.{asked_found, other_arguments, unknown}
+use Rattle.p3_eval.specs.Judging.{ArePlanAsked, Follows, Goes, GoesOn, HasDone, HasStep, IsAskedText, IsFirstFault}
 
 -- ---- a step
 
@@ -40,10 +40,10 @@ module _ (T : Task) (step : Step) where
     by_fault found.Arguments None is tells same = fits_not (last_state (visited T front)) Arguments (other_arguments T (last_state (visited T front)) step is) tells
 
 -- as the step of the text is found, so it goes on
-pub goes_on : (T : Task) (ran new : Ran) (text : List ℕ) (found : Found) (fault : Option PlanFault) → BelongTogether T ran.task ran.weights
+pub goes_on : (T : Task) (ran new : Ran) (text : List ℕ) (found : Found) (fault : Option PlanFault) → BelongTogether T ran.task ran.weights → IsAskedText T ran.task text
     → ((step : Step) → IsPlanText text (step ∷ []) → IsFound T step found) → TellsOfFound ran found fault → new ≡ ran_with ran found fault → GoesOn T ran new text fault
-goes_on T ran new text found fault together finds tells same step spelled front are =
-    by_fault T step ran new front are found fault (finds step spelled) (tells T together front are step (finds step spelled)) same
+goes_on T ran new text found fault together asked finds tells same step spelled front are =
+    by_fault T step ran new front are found fault (finds step spelled) (tells T together front are (asked_found T ran.task step found (asked step spelled) (finds step spelled)) step (finds step spelled)) same
 
 -- ---- the loop
 
@@ -129,6 +129,18 @@ module _ (T : Task) (text : List ℕ) (free : plan_offence text ≡ None) where
           slices = it.slices;
           free = it.free;
         }
+
+    -- the step of the slice is one of the plan
+    pub asked_here : ArePlanAsked T ran.task text → IsAskedText T ran.task slice.text
+    asked_here asked step spelled number has =
+        let same : step ≡ next.step = ap (λ (p : Plan). get_or p 0 step) (one_plan_at_most slice.text (step ∷ []) (next.step ∷ []) spelled next.spelled) in
+        asked the_plan.plan the_plan.spelled next.front next.rest next.step next.parts number (subst (λ own. HasNumber T own number) same has)
+
+    -- the run goes on over the same ground task
+    pub asked_more : (new : Ran) → GoesOn T ran new slice.text None → ArePlanAsked T ran.task text → ArePlanAsked T new.task text
+    asked_more new goes asked =
+        let (number, has, is) = goes next.step next.spelled next.front next.numbers in
+        subst (λ G. ArePlanAsked T G text) (sym (ap (λ (r : Ran). r.task) is)) asked
 
     -- at a step that does not fit
     pub fault_here : (new : Ran) (told : PlanFault) → GoesOn T ran new slice.text (Some told) → IsFirstFault T text (Some told)

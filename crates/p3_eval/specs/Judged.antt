@@ -1,6 +1,7 @@
 -- Faults as values of the code, and what judging one step more tells of a plan.
-use Rattle.std.specs.Prelude.{◌≡◌, ℕ, ◌+◌, ◌≤◌, ◌∷◌, ◌++◌, length, Option, Some, None, option_map}
+use Rattle.std.specs.Prelude.{◌≡◌, ℕ, ◌+◌, ◌≤◌, ◌<◌, ◌∷◌, ◌++◌, length, get_or, Option, Some, None, option_map}
 use Rattle.p3_tree.specs.Plans.{Plan, last_state, visited}
+use Rattle.p3_tree.specs.StepNumbers.{HasNumber}
 use Rattle.p3_tree.specs.Validity as why
 use Rattle.p3_tree.specs.Validity.{AtConstraint, AtGoal, AtStep, Fault, first_fault, misfit}
 use Rattle.p3_tree.specs.declared.task.Step.{Step}
@@ -8,7 +9,9 @@ use Rattle.p3_tree.specs.declared.task.Task.{Task}
 use Rattle.p3_types.specs.Finds.{IsFound}
 use Rattle.p3_types.specs.declared.finding.Found.{Found}
 use Rattle.p3_types.specs.declared.finding.Found.TheVariants.{Number, UnknownAction, Arguments}
+use Rattle.p3_formula.specs.declared.task.GroundTask.{GroundTask}
 use Rattle.p3_ground.specs.PlansByNumber.{AreNumbers}
+use Rattle.p3_ground.specs.StandsFor.{LeftOutAt}
 use Rattle.p3_run.specs.Runs.{Ran, ran_after}
 use Rattle.p3_run.specs.declared.answers.Stepped.{Stepped}
 use Rattle.p3_run.specs.declared.answers.Stepped.TheVariants.{Done, Precondition, NoCost}
@@ -58,12 +61,18 @@ TellsOf (Some fault) T plan step = (rest : Plan) → first_fault T (plan ++ step
 abbrev pub NamesMisfit : Option PlanFault → Task → Plan → Step → Type 0
 NamesMisfit fault T plan step = option_map fault_in fault ≡ option_map (AtStep (length plan + 1)) (misfit T (last_state (visited T plan)) step)
 
+-- where the step that is found has a number, it is there or can begin in no reached state
+abbrev pub IsAskedFound : Task → GroundTask → Found → Type 0
+IsAskedFound T G (Number number) = LeftOutAt T G number
+IsAskedFound T G UnknownAction = Unit {0}
+IsAskedFound T G Arguments = Unit {0}
+
 -- it is so of each step that is found so
 abbrev pub NamesMisfitOfFound : Ran → Found → Option PlanFault → Type 0
-NamesMisfitOfFound ran found fault = OfItsPlan ran (λ T plan. (step : Step) → IsFound T step found → NamesMisfit fault T plan step)
+NamesMisfitOfFound ran found fault = OfItsPlan ran (λ T plan. IsAskedFound T ran.task found → (step : Step) → IsFound T step found → NamesMisfit fault T plan step)
 
 abbrev pub TellsOfFound : Ran → Found → Option PlanFault → Type 0
-TellsOfFound ran found fault = OfItsPlan ran (λ T plan. (step : Step) → IsFound T step found → TellsOf fault T plan step)
+TellsOfFound ran found fault = OfItsPlan ran (λ T plan. IsAskedFound T ran.task found → (step : Step) → IsFound T step found → TellsOf fault T plan step)
 
 -- the step is done where it has no fault
 abbrev pub ran_with : Ran → Found → Option PlanFault → Ran
@@ -73,6 +82,10 @@ ran_with ran UnknownAction fault = ran
 ran_with ran Arguments fault = ran
 
 -- ---- a whole plan
+
+-- each step of the plan that has a number is there, or can begin in no reached state
+abbrev pub CanBeAsked : Task → GroundTask → Plan → Type 0
+CanBeAsked T G plan = (place : ℕ) (step : Step) → place < length plan → step ≡ get_or plan place step → (number : ℕ) → HasNumber T step number → LeftOutAt T G number
 
 -- a run of the same parts that has done these steps
 pub record HasDone (T : Task) (plan : Plan) (before now : Ran) : Type 0 where

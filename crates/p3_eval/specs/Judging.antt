@@ -1,6 +1,5 @@
 -- What judging the text of a plan answers: its first fault, or that it is valid.
 use Rattle.std.specs.Prelude.{◌≡◌, ℕ, ◌≤◌, List, [], ◌∷◌, ◌++◌, Option, Some, None, option_map}
-use Rattle.p3_base.specs.declared.refusal.Refusal.{Refusal}
 use Rattle.p3_tree.specs.Limits.{step_count}
 use Rattle.p3_tree.specs.Plans.{Plan}
 use Rattle.p3_tree.specs.PlanTexts.{IsPlanText, plan_offence}
@@ -13,7 +12,9 @@ use Rattle.p3_plans.specs.Laws.{AreTextsOf}
 use Rattle.p3_plans.specs.Steps.{Left}
 use Rattle.p3_eval.specs.Judged.{HasItsStep, fault_in}
 use Rattle.p3_eval.specs.Runs.{BelongTogether}
+use Rattle.p3_formula.specs.declared.task.GroundTask.{GroundTask}
 use Rattle.p3_ground.specs.PlansByNumber.{AreNumbers}
+use Rattle.p3_ground.specs.StandsFor.{LeftOutAt}
 use Rattle.p3_run.specs.Runs.{Ran, ran_after}
 use Rattle.p3_run.specs.declared.answers.Stepped.TheVariants.{Done}
 use Rattle.p3_eval.specs.declared.fault.PlanFault.{PlanFault}
@@ -40,6 +41,14 @@ Goes T old new step (Some told) front = (rest : Plan) → first_fault T (front +
 -- so it goes with the step of the text
 abbrev pub GoesOn : Task → Ran → Ran → List ℕ → Option PlanFault → Type 0
 GoesOn T old new text found = (step : Step) → IsPlanText text (step ∷ []) → (front : Plan) → AreNumbers T front old.plan → Goes T old new step found front
+
+-- where the step of the text has a number, it is there or can begin in no reached state
+abbrev pub IsAskedText : Task → GroundTask → List ℕ → Type 0
+IsAskedText T G text = (step : Step) → IsPlanText text (step ∷ []) → (number : ℕ) → HasNumber T step number → LeftOutAt T G number
+
+-- so it is of each step of the plan of the text
+abbrev pub ArePlanAsked : Task → GroundTask → List ℕ → Type 0
+ArePlanAsked T G text = (plan : Plan) → IsPlanText text plan → (front rest : Plan) (step : Step) → plan ≡ front ++ step ∷ rest → (number : ℕ) → HasNumber T step number → LeftOutAt T G number
 
 -- ---- plans
 

@@ -4,6 +4,7 @@ ghost use Rattle.std.specs.Prelude.{◌≡◌, ◌+◌, ◌<◌, ◌≤◌, [], 
 ghost use Rattle.p3_tree.specs.Validity.{first_fault};
 ghost use Rattle.p3_run.specs.Runs.{most_steps};
 ghost use Rattle.p3_eval.specs.Judged.{
+  CanBeAsked,
   HasItsStep,
   IsJudged,
   NamesMisfitOfFound,
@@ -88,6 +89,7 @@ impl<'a> Run<'a> {
     /// it has one.
     pub fn judge_plan(&mut self, task: &Checked, plan: &[Step]) -> Option<PlanFault>
         requires task { BelongTogether task.now.task self.old.task self.old.weights }
+        requires asked { CanBeAsked task.now.task self.old.task plan.now }
         requires begun { self.old.plan ≡ [] }
         requires room { length plan.now ≤ most_steps }
         ensures judged { IsJudged task.now.task plan.now self.old self.new result }

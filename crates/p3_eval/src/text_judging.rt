@@ -6,9 +6,11 @@ ghost use Rattle.p3_tree.specs.Sides.{plan_byte_limit};
 ghost use Rattle.p3_eval.specs.Judged.{HasItsStep};
 ghost use Rattle.p3_run.specs.Runs.{most_steps};
 ghost use Rattle.p3_eval.specs.Judging.{
+  ArePlanAsked,
   GoesOn,
   HasDone,
   HasStep,
+  IsAskedText,
   IsFirstFault,
   IsRunOf,
   IsVerdict,
@@ -34,6 +36,7 @@ pub enum TextVerdict {
 /// steps. It takes no memory.
 pub fn judge_text(whole: &Whole, run: &mut Run<'_>, text: &[u8]) -> TextVerdict
     requires of { IsRunOf whole.now.checked.task run.old }
+    requires asked { ArePlanAsked whole.now.checked.task run.old.task text.now }
     requires begins { run.old.plan ≡ [] }
     requires short { length text.now ≤ plan_byte_limit }
     ensures verdict { IsVerdict whole.now.checked.task text.now run.new result }
@@ -52,6 +55,7 @@ pub fn judge_text(whole: &Whole, run: &mut Run<'_>, text: &[u8]) -> TextVerdict
 /// the steps of the plan.
 pub fn first_fault(checked: &Checked, run: &mut Run<'_>, text: &[u8]) -> Option<PlanFault>
     requires of { IsRunOf checked.now.task run.old }
+    requires asked { ArePlanAsked checked.now.task run.old.task text.now }
     requires begins { run.old.plan ≡ [] }
     requires short { length text.now ≤ plan_byte_limit }
     requires free { plan_offence text.now ≡ None }
@@ -77,6 +81,7 @@ pub fn first_fault(checked: &Checked, run: &mut Run<'_>, text: &[u8]) -> Option<
 /// Does the step of a text, or answers the first fault of each plan that goes on with it.
 fn step_fault(checked: &Checked, run: &mut Run<'_>, text: &[u8]) -> Option<PlanFault>
     requires of { IsRunOf checked.now.task run.old }
+    requires asked { IsAskedText checked.now.task run.old.task text.now }
     requires room { length run.old.plan < most_steps }
     requires short { length text.now ≤ plan_byte_limit }
     requires spelled { HasStep text.now }

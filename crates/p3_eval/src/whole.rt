@@ -6,6 +6,7 @@ ghost use Rattle.p3_tree.specs.Refusals.First.{task_refusal};
 ghost use Rattle.p3_tree.specs.Sides.{step_count_limit};
 ghost use Rattle.p3_formula.specs.Conditions.{IsReady};
 ghost use Rattle.p3_ground.specs.Sparse.{IsGroundingOf};
+ghost use Rattle.p3_ground.specs.StandsFor.{LeavesOutOnlyUnfit};
 ghost use Rattle.p3_metric.specs.Weighed.{HasWeights, IsLinearMetric};
 ghost use Rattle.p3_run.specs.Runs.{begun};
 ghost use Rattle.p3_eval.specs.Accepted.{ArePartsOf, IsFailOf, is_accepted};
@@ -106,6 +107,7 @@ impl Whole {
     pub fn begin<'a>(&'a self, alloc: Global) -> Result<Run<'a>, NoMemory>
         ensures task { BelongTogether
             self.now.checked.task self.now.ground_task self.now.weights }
+        ensures left_out { LeavesOutOnlyUnfit self.now.checked.task self.now.ground_task }
         ensures begun { IfOk result
             (λ run. run ≡ begun self.now.ground_task self.now.weights) }
     {

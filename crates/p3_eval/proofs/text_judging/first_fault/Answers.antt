@@ -1,14 +1,14 @@
-use Rattle.std.proofs.Common.{◌≡◌, ◌∙◌, ◌+◌, ◌<◌, ap, sym, refl, subst, length, arith, None, Some}
-use Rattle.p3_plans.specs.Steps.{Left, StepText, left}
+use Rattle.std.proofs.Common.{◌∙◌, ap, sym, subst}
+use Rattle.p3_plans.specs.Steps.{Left, left}
 use Rattle.p3_eval.specs.Judging.{Follows}
-use Rattle.p3_run.specs.Runs.{most_steps}
-use Rattle.p3_eval.proofs.JudgeLemmas.{fault_behind, fault_here, follows_first, follows_more, has_done, has_room, has_step, in_front, not_refused}
+use Rattle.p3_eval.proofs.JudgeLemmas.{asked_here, asked_more, fault_behind, fault_here, follows_first, follows_more, has_done, has_room, has_step, not_refused}
 use Rattle.p3_eval.proofs.text_judging.first_fault.Goals as goal
 
 pub loop-slice-init : goal.loop-slice-init
 loop-slice-init c = record {
   source = ap (λ r. r.source) c.new-reader.ensures.starts;
   of = c.requires.of;
+  asked = c.requires.asked;
   follows = subst (λ r. Follows c.args.checked.now.task c.args.text.now c.args.run.now (left r)) (sym c.new-reader.ensures.starts)
       (follows_first c.args.checked.now.task c.args.text.now c.requires.free c.args.run.now c.requires.begins);
 }
@@ -21,6 +21,11 @@ pub step_fault-requires-clause-spelled : goal.step_fault-requires-clause-spelled
 step_fault-requires-clause-spelled c = has_step c.args.checked.now.task c.args.text.now c.requires.free c.loop-slice.run (record { at = c.in-Step.slice.offset; text = c.in-Step.slice.text.now }) (left c.next.new.self)
     (subst (Follows c.args.checked.now.task c.args.text.now c.loop-slice.run) c.in-Step.ensures.steps c.loop-slice.invariant.follows)
 
+pub step_fault-requires-clause-asked : goal.step_fault-requires-clause-asked
+step_fault-requires-clause-asked c = asked_here c.args.checked.now.task c.args.text.now c.requires.free c.loop-slice.run (record { at = c.in-Step.slice.offset; text = c.in-Step.slice.text.now }) (left c.next.new.self)
+    (subst (Follows c.args.checked.now.task c.args.text.now c.loop-slice.run) c.in-Step.ensures.steps c.loop-slice.invariant.follows)
+    c.loop-slice.invariant.asked
+
 pub returns-in-Some-clause-fault : goal.returns-in-Some-clause-fault
 returns-in-Some-clause-fault c =
     fault_here c.args.checked.now.task c.args.text.now c.requires.free c.loop-slice.run (record { at = c.in-Step.slice.offset; text = c.in-Step.slice.text.now }) (left c.next.new.self)
@@ -31,6 +36,9 @@ pub loop-slice-preserved : goal.loop-slice-preserved
 loop-slice-preserved c = record {
   source = c.in-Step.ensures.source ∙ c.loop-slice.invariant.source;
   of = c.in-None.ensures.of;
+  asked = asked_more c.args.checked.now.task c.args.text.now c.requires.free c.loop-slice.run (record { at = c.in-Step.slice.offset; text = c.in-Step.slice.text.now }) (left c.next.new.self)
+      (subst (Follows c.args.checked.now.task c.args.text.now c.loop-slice.run) c.in-Step.ensures.steps c.loop-slice.invariant.follows)
+      c.step_fault.new.run c.in-None.ensures.goes c.loop-slice.invariant.asked;
   follows = follows_more c.args.checked.now.task c.args.text.now c.requires.free c.loop-slice.run (record { at = c.in-Step.slice.offset; text = c.in-Step.slice.text.now }) (left c.next.new.self)
       (subst (Follows c.args.checked.now.task c.args.text.now c.loop-slice.run) c.in-Step.ensures.steps c.loop-slice.invariant.follows)
       c.step_fault.new.run c.in-None.ensures.goes;

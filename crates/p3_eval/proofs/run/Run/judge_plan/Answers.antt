@@ -10,18 +10,18 @@ find-requires c = record { few = few_steps c.requires.task.side c.args.task.now.
 pub follow-requires : goal.follow-requires
 follow-requires c =
     has_room c.args.task.now.task c.args.self.now c.loop-step.self c.requires.task c.args.plan.now c.loop-step.step-index c.step-item.result c.loop-step-test.true c.step-item.is c.loop-step.invariant
-    c.requires.room
+    c.requires.asked c.requires.room
 
 pub returns-in-Some-clause-judged : goal.returns-in-Some-clause-judged
 returns-in-Some-clause-judged c =
     fault_is_judged c.args.task.now.task c.args.self.now c.loop-step.self c.requires.task c.args.plan.now c.loop-step.step-index c.step-item.result c.loop-step-test.true c.step-item.is c.loop-step.invariant
-    c.find.result c.in-Some.fault c.follow.new.self c.find.ensures c.in-Some.ensures.told
+    c.requires.asked c.find.result c.in-Some.fault c.follow.new.self c.find.ensures c.in-Some.ensures.told
 
 pub loop-step-preserved : goal.loop-step-preserved
 loop-step-preserved c =
     subst (HasDone c.args.task.now.task (take (c.loop-step.step-index + 1) c.args.plan.now) c.args.self.now) (sym c.in_default.ensures.ran)
     (step_is_done c.args.task.now.task c.args.self.now c.loop-step.self c.requires.task c.args.plan.now c.loop-step.step-index c.step-item.result c.loop-step-test.true c.step-item.is c.loop-step.invariant
-    c.find.result c.find.ensures c.in_default.ensures.told)
+    c.requires.asked c.find.result c.find.ensures c.in_default.ensures.told)
 
 pub loop-step-init : goal.loop-step-init
 loop-step-init c = none_done c.args.task.now.task c.args.self.now c.requires.begun
