@@ -1,7 +1,6 @@
 -- Faults as values of the code, and what judging one step more tells of a plan.
-use Rattle.std.specs.Prelude.{◌≡◌, ℕ, ◌+◌, ◌≤◌, ◌<◌, ◌∷◌, ◌++◌, length, get_or, Option, Some, None, option_map}
+use Rattle.std.specs.Prelude.{◌≡◌, ℕ, ◌+◌, ◌≤◌, List, ◌∷◌, ◌++◌, length, Option, Some, None, option_map}
 use Rattle.p3_tree.specs.Plans.{Plan, last_state, visited}
-use Rattle.p3_tree.specs.StepNumbers.{HasNumber}
 use Rattle.p3_tree.specs.Validity as why
 use Rattle.p3_tree.specs.Validity.{AtConstraint, AtGoal, AtStep, Fault, first_fault, misfit}
 use Rattle.p3_tree.specs.declared.task.Step.{Step}
@@ -10,7 +9,7 @@ use Rattle.p3_types.specs.Finds.{IsFound}
 use Rattle.p3_types.specs.declared.finding.Found.{Found}
 use Rattle.p3_types.specs.declared.finding.Found.TheVariants.{Number, UnknownAction, Arguments}
 use Rattle.p3_formula.specs.declared.task.GroundTask.{GroundTask}
-use Rattle.p3_ground.specs.PlansByNumber.{AreNumbers}
+use Rattle.p3_ground.specs.PlansByNumber.{AreAsked, AreNumbers}
 use Rattle.p3_ground.specs.StandsFor.{LeftOutAt}
 use Rattle.p3_run.specs.Runs.{Ran, ran_after}
 use Rattle.p3_run.specs.declared.answers.Stepped.{Stepped}
@@ -74,6 +73,11 @@ NamesMisfitOfFound ran found fault = OfItsPlan ran (λ T plan. IsAskedFound T ra
 abbrev pub TellsOfFound : Ran → Found → Option PlanFault → Type 0
 TellsOfFound ran found fault = OfItsPlan ran (λ T plan. IsAskedFound T ran.task found → (step : Step) → IsFound T step found → TellsOf fault T plan step)
 
+-- so many steps are found, with the one that has no number
+abbrev pub found_count : List ℕ → Option Found → ℕ
+found_count numbers None = length numbers
+found_count numbers (Some found) = length numbers + 1
+
 -- the step is done where it has no fault
 abbrev pub ran_with : Ran → Found → Option PlanFault → Ran
 ran_with ran (Number number) None = ran_after ran number Done
@@ -83,15 +87,12 @@ ran_with ran Arguments fault = ran
 
 -- ---- a whole plan
 
--- each step of the plan that has a number is there, or can begin in no reached state
-abbrev pub CanBeAsked : Task → GroundTask → Plan → Type 0
-CanBeAsked T G plan = (place : ℕ) (step : Step) → place < length plan → step ≡ get_or plan place step → (number : ℕ) → HasNumber T step number → LeftOutAt T G number
-
 -- a run of the same parts that has done these steps
 pub record HasDone (T : Task) (plan : Plan) (before now : Ran) : Type 0 where
   pub task : now.task ≡ before.task
   pub weights : now.weights ≡ before.weights
   pub numbers : AreNumbers T plan now.plan
+  pub asked : AreAsked T now.task plan now.plan
 
 -- the first fault of the plan; and where it has none, all its steps are done
 pub record IsJudged (T : Task) (plan : Plan) (before now : Ran) (found : Option PlanFault) : Type 0 where

@@ -6,11 +6,9 @@ ghost use Rattle.p3_tree.specs.Sides.{plan_byte_limit};
 ghost use Rattle.p3_eval.specs.Judged.{HasItsStep};
 ghost use Rattle.p3_run.specs.Runs.{most_steps};
 ghost use Rattle.p3_eval.specs.Judging.{
-  ArePlanAsked,
   GoesOn,
   HasDone,
   HasStep,
-  IsAskedText,
   IsFirstFault,
   IsRunOf,
   IsVerdict,
@@ -36,7 +34,6 @@ pub enum TextVerdict {
 /// steps. It takes no memory.
 pub fn judge_text(whole: &Whole, run: &mut Run<'_>, text: &[u8]) -> TextVerdict
     requires of { IsRunOf whole.now.checked.task run.old }
-    requires asked { ArePlanAsked whole.now.checked.task run.old.task text.now }
     requires begins { run.old.plan ≡ [] }
     requires short { length text.now ≤ plan_byte_limit }
     ensures verdict { IsVerdict whole.now.checked.task text.now run.new result }
@@ -53,9 +50,8 @@ pub fn judge_text(whole: &Whole, run: &mut Run<'_>, text: &[u8]) -> TextVerdict
 
 /// The first fault of the plan of a text that has no offence. Where there is none, the run has done
 /// the steps of the plan.
-pub fn first_fault(checked: &Checked, run: &mut Run<'_>, text: &[u8]) -> Option<PlanFault>
+fn first_fault(checked: &Checked, run: &mut Run<'_>, text: &[u8]) -> Option<PlanFault>
     requires of { IsRunOf checked.now.task run.old }
-    requires asked { ArePlanAsked checked.now.task run.old.task text.now }
     requires begins { run.old.plan ≡ [] }
     requires short { length text.now ≤ plan_byte_limit }
     requires free { plan_offence text.now ≡ None }
@@ -81,7 +77,6 @@ pub fn first_fault(checked: &Checked, run: &mut Run<'_>, text: &[u8]) -> Option<
 /// Does the step of a text, or answers the first fault of each plan that goes on with it.
 fn step_fault(checked: &Checked, run: &mut Run<'_>, text: &[u8]) -> Option<PlanFault>
     requires of { IsRunOf checked.now.task run.old }
-    requires asked { IsAskedText checked.now.task run.old.task text.now }
     requires room { length run.old.plan < most_steps }
     requires short { length text.now ≤ plan_byte_limit }
     requires spelled { HasStep text.now }
