@@ -1,19 +1,37 @@
--- Steps that are there, or can begin in no reached state.
-use Rattle.std.proofs.Common.{◌≡◌, ◌∙◌, ℕ, refl, sym, ap, true, [], ◌∷◌, Option, Some, None}
+-- Ground tasks that stand for a task in some of its steps, and steps that are there or can begin in no reached state.
+use Rattle.std.proofs.Common.{◌≡◌, ◌∙◌, ℕ, ◌<◌, refl, sym, ap, subst, arith, true, List, [], ◌∷◌, length, get_or, Option, Some, None}
 use Rattle.std.specs.Prelude.{zip}
-use Rattle.std.specs.List.{All, list_all}
+use Rattle.std.specs.List.{All, list_all, range_with_len}
 use Rattle.std.proofs.lemmas.Bool.{and_parts, true≢false}
 use Rattle.std.proofs.lemmas.List.Elements.{All-head, All-tail}
+use Rattle.std.proofs.lemmas.List.FromFn.{get_or-range_with_len, length-range_with_len}
+use Rattle.std.proofs.lemmas.Option.{slice_get_within}
+use Rattle.p3_tree.specs.Lifting.{steps}
 use Rattle.p3_tree.specs.Plans.{Plan}
 use Rattle.p3_tree.specs.declared.task.Task.{Task}
 use Rattle.p3_formula.specs.Forms.{State}
 use Rattle.p3_formula.specs.GroundPlans.{GroundPlan, step_of, fits_by, ground_fits, state_by, visited_from, ground_moves}
 use Rattle.p3_formula.specs.declared.task.GroundStep.{GroundStep}
 use Rattle.p3_formula.specs.declared.task.GroundTask.{GroundTask}
-use Rattle.p3_ground.specs.StandsFor.{LeavesOutOnlyUnfit, LeftOutAt}
+use Rattle.p3_ground.specs.StandsFor.{LeavesOutOnlyUnfit, LeftOutAt, StandsFor, StandsForSteps}
 use Rattle.p3_ground.specs.PlansByNumber.{AreAsked, AreNumbers}
 
 module _ (T : Task) (G : GroundTask) where
+  -- what stands for the task stands for it in each of its steps
+  pub stands_for_each : StandsFor T G → (numbers : List ℕ) → StandsForSteps T G numbers
+  stands_for_each stands numbers = (record { atoms = stands.atoms; stands = stands.stands }, λ k d within. stands.left_out (get_or numbers k d))
+
+  -- no other numbers have steps
+  pub stands_for_all : StandsForSteps T G (range_with_len 0 (length (steps T))) → StandsFor T G
+  stands_for_all (some, each) = record {
+    atoms = some.atoms;
+    stands = some.stands;
+    left_out = λ number step has.
+        let inside : number < length (steps T) = slice_get_within (steps T) number step has in
+        let here : get_or (range_with_len 0 (length (steps T))) number 0 ≡ number = get_or-range_with_len 0 (length (steps T)) number 0 inside ∙ omega arith in
+        (subst (LeftOutAt T G) here (each number 0 (subst (λ n. number < n) (sym (length-range_with_len 0 (length (steps T)))) inside))) step has;
+  }
+
   -- a ground task that stands for the task can be asked for every step
   pub all_are_asked : LeavesOutOnlyUnfit T G → (plan : Plan) (numbers : GroundPlan) → AreNumbers T plan numbers → AreAsked T G plan numbers
   all_are_asked left_out [] [] e = tt

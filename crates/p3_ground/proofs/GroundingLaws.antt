@@ -1,6 +1,7 @@
 -- What is put together of the steps that may begin is a grounding, without the steps that fit over no closed set of atoms.
 use Rattle.std.proofs.Common.{◌≡◌, ℕ, Bool, true, false, List, None, refl, sym, subst, true≢false}
 use Rattle.std.specs.Prelude.{IsSome}
+use Rattle.std.specs.List.{All}
 use Rattle.std.proofs.lemmas.List.Elements.{All-weaker}
 use Rattle.p3_tree.specs.Plans.{Reached}
 use Rattle.p3_tree.specs.States.{State}
@@ -45,18 +46,20 @@ pub leaves-out-what-never-begins : LeavesOutWhatNeverBegins
 leaves-out-what-never-begins T X S G whole keeps number =
     leaves-out-there T X S G number whole (λ place rest action here within is may. subst (λ n. IsSome (step_of G n)) is (keeps place rest action here within may))
 
+-- kept steps that may begin want what is possible
+pub have-possible-conjuncts : (T : Task) (X : NumberedTask) (S : Statics) → IsKnownWhole T X S → (G : GroundTask) → All (MayBegin T X S) G.steps → StepsHavePossibleConjuncts T G
+have-possible-conjuncts T X S whole G may =
+    All-weaker (MayBegin T X S) (AtItsStep T (λ step made. HasPossibleConjuncts T step)) (λ made one. record { step = one.step; number = one.number; says = wants-what-is-possible T X S one.action one.slots one.step whole one.at one.may }) G.steps may
+
 pub is-grounding : OfExpanded IsGroundingOverReached
 is-grounding T X S atoms ex G set together left_out may closed least =
     let facts : List Fact = facts_of X.numbers atoms in
     let little : StandsWithLittle T facts G = what-is-put-together-stands T X S atoms ex G together in
     let K : HasStepNumbers T = steps_have_numbers T ex.well in
     let whole : IsKnownWhole T X S = record { well = ex.well; numbered = ex.numbered; statics = ex.statics } in
-    let conjuncts : StepsHavePossibleConjuncts T G =
-    All-weaker (MayBegin T X S) (AtItsStep T (λ step made. HasPossibleConjuncts T step)) (λ made one. record { step = one.step; number = one.number; says = wants-what-is-possible T X S one.action one.slots one.step whole one.at one.may }) G.steps may
-    in
     record {
       atoms = facts;
       stands = pruned_stands T facts G set little.stands;
       left_out = pruned_leaves_out T facts G little.stands left_out K set closed;
-      sparse = pruned-sparse T facts G set little.changes little.constraints conjuncts closed least;
+      sparse = pruned-sparse T facts G set little.changes little.constraints (have-possible-conjuncts T X S whole G may) closed least;
     }

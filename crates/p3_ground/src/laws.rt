@@ -2,10 +2,10 @@
 //! body.
 
 ghost use Rattle.std.specs.Prelude.{◌≡◌, ◌↔◌, ℕ, ◌+◌, ◌*◌, List, length, IsTrue};
-ghost use Rattle.std.specs.List.{list_all};
+ghost use Rattle.std.specs.List.{list_all, range_with_len};
 ghost use Rattle.p3_tree.specs.Constraints.{instances};
 ghost use Rattle.p3_tree.specs.Faithful.{extra};
-ghost use Rattle.p3_tree.specs.Lifting.{lift};
+ghost use Rattle.p3_tree.specs.Lifting.{lift, steps};
 ghost use Rattle.p3_tree.specs.Offences.{WellFormed};
 ghost use Rattle.p3_tree.specs.Plans.{Plan, steps_fit};
 ghost use Rattle.p3_tree.specs.PreferenceNames.{ordered_names};
@@ -88,6 +88,15 @@ pub fn wide_steps_take_as_many_actions()
         → HasNameWeights T weights.by_name
         → (plan : Plan) (numbers : GroundPlan) → AreNumbers T plan numbers
         → IsTrue (steps_fit T plan) → extra T plan ≡ ground_extra G weights numbers }
+{}
+
+/// A ground task stands for the task exactly where it stands for it in the steps of all numbers;
+/// then it does so in those of any numbers.
+pub fn all_steps_are_the_whole_task()
+    ensures exactly { (T : Task) (G : GroundTask)
+        → StandsFor T G ↔ StandsForSteps T G (range_with_len 0 (length (steps T))) }
+    ensures any { (T : Task) (G : GroundTask) (numbers : List ℕ)
+        → StandsFor T G → StandsForSteps T G numbers }
 {}
 
 /// Steps may be asked of a ground task where it has each of them, or leaves it out as one that can
