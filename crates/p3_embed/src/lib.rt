@@ -10,4 +10,4 @@ mod plans;
 mod walking;
 
 pub use error::EmbedFail;
-pub use plans::{Embedded, embed};
+pub use plans::{Embedded, embed, embed_steps};

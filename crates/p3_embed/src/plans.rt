@@ -1,24 +1,20 @@
 //! Plans of tasks, embedded in targets.
 
 ghost use Rattle.std.specs.Prelude.{◌≡◌, ◌≤◌, None, length, option_map, pos, true, IfOk, IfErr, IfSome, OnOk};
-ghost use Rattle.std.specs.List.{All};
-ghost use Rattle.p3_tree.specs.Limits.{step_count};
-ghost use Rattle.p3_tree.specs.StepNumbers.{IsOwn};
 ghost use Rattle.p3_tree.specs.Validity.{first_fault};
-ghost use Rattle.p3_tree.specs.Sides.{step_count_limit};
 ghost use Rattle.p3_formula.specs.Targets.{Compiled, target_cost};
 ghost use Rattle.p3_ground.specs.PlansByNumber.{AreNumbers, are_bare, names_of};
 ghost use Rattle.p3_run.specs.Runs.{most_steps};
 ghost use Rattle.p3_eval.specs.Judged.{HasItsStep, fault_in};
+ghost use Rattle.p3_eval.specs.Steps.{AreOfPlan, OfSteps};
 ghost use Rattle.p3_embed.specs.Plans.{IsEmbeddedPlan, IsFailOf};
 
 use crate::EmbedFail;
 use crate::embedding::embed_numbers;
 use p3_base::{List, Name, NoMemory};
-use p3_eval::{PlanFault, Whole};
+use p3_eval::{PlanFault, Steps, Whole};
 use p3_formula::Target;
 use p3_tree::{Plan, Step};
-use p3_types::{Checked, Found};
 use std::alloc::Global;
 
 /// A plan of a target, and what it costs.
@@ -52,48 +48,61 @@ pub fn embed(
         ≡ pos (target_cost target.now (names_of embedded.plan))) }
     ensures invalid { IfErr result (IsFailOf task.now.checked.task plan.now) }
 {
-    let steps = plan.items();
+    let steps = Steps::of_plan(alloc, task.checked(), plan.items())?;
+    match embed_steps(alloc, task, target, &steps) {
+        Ok(embedded) => Ok(embedded),
+        Err(fail) => Err(fail),
+    }
+}
+
+/// The same of a plan that is known by its steps.
+///
+/// # Errors
+///
+/// The first fault of a plan that is not valid for the task. And want of memory.
+pub fn embed_steps(
+    alloc: Global,
+    task: &Whole,
+    target: &Target,
+    steps: &Steps,
+) -> Result<Embedded, EmbedFail>
+    requires compiled { Compiled task.now.ground_task task.now.weights target.now }
+    requires some { AreOfPlan task.now.checked.task steps.now }
+    ensures valid { OnOk result (OfSteps task.now.checked.task steps.now
+        (λ plan. first_fault task.now.checked.task plan ≡ None)) }
+    ensures plan { IfOk result (λ embedded. OfSteps task.now.checked.task steps.now
+        (λ plan. IsEmbeddedPlan task.now.checked.task task.now.ground_task target.now
+        plan embedded.plan)) }
+    ensures cost { IfOk result (λ embedded. embedded.cost
+        ≡ pos (target_cost target.now (names_of embedded.plan))) }
+    ensures invalid { IfErr result (λ fail. OfSteps task.now.checked.task steps.now
+        (λ plan. IsFailOf task.now.checked.task plan fail)) }
+{
     if let Some(fault) = first_fault(alloc, task, steps)? {
         return Err(EmbedFail::Invalid(fault));
     }
-    let numbers = numbers_of(alloc, task.checked(), steps)?;
     let embedding = embed_numbers(
         alloc,
         task.ground_task(),
         task.weights(),
         target,
-        numbers.as_slice(),
+        steps.numbers.as_slice(),
     )?;
     let cost = embedding.cost;
     let plan = bare_steps(alloc, embedding.plan)?;
     Ok(Embedded { plan, cost })
 }
 
-/// The first fault of the plan, if it has one.
-fn first_fault(alloc: Global, task: &Whole, plan: &[Step]) -> Result<Option<PlanFault>, NoMemory>
-    requires { length plan.now ≤ most_steps }
-    ensures told { IfOk result (λ found.
-        first_fault task.now.checked.task plan.now ≡ option_map fault_in found) }
+/// The first fault of the plan of these steps, if it has one.
+fn first_fault(alloc: Global, task: &Whole, steps: &Steps) -> Result<Option<PlanFault>, NoMemory>
+    ensures told { IfOk result (λ found. OfSteps task.now.checked.task steps.now
+        (λ plan. first_fault task.now.checked.task plan ≡ option_map fault_in found)) }
+    ensures done { IfOk result (λ found. found ≡ None → OfSteps task.now.checked.task steps.now
+        (λ plan. AreNumbers task.now.checked.task plan steps.now.numbers.items)) }
     ensures placed { IfOk result (λ found. IfSome found HasItsStep) }
 {
     let mut run = task.begin(alloc)?;
-    Ok(run.judge_plan(task.checked(), plan))
-}
-
-/// The numbers of steps of the task.
-fn numbers_of(alloc: Global, task: &Checked, plan: &[Step]) -> Result<Vec<u32>, NoMemory>
-    requires few { step_count task.now.task ≤ step_count_limit }
-    requires own { All (IsOwn task.now.task) plan.now }
-    ensures { IfOk result (λ numbers. AreNumbers task.now.task plan.now numbers.items) }
-{
-    let mut numbers = Vec::new(alloc);
-    for step in plan {
-        let Found::Number(number) = task.find(step) else {
-            unreachable!()
-        };
-        numbers.push(number)?;
-    }
-    Ok(numbers)
+    Ok(run.judge_steps(steps))
 }
 
 /// The steps of these names, without arguments.

@@ -1,3 +1,4 @@
+pub mod AmongLemmas
 pub mod BaseLaws
 pub mod CostLaws
 pub mod FoundLemmas
@@ -6,9 +7,11 @@ pub mod JudgeLemmas
 pub mod ReadyLaws
 pub mod ReadyProps
 pub mod RefusalLaws
+pub mod RisingLemmas
 pub mod RunKept
 pub mod RunLaws
 pub mod RunReady
 pub mod SizeLaws
 pub mod StepCounts
+pub mod StepsLemmas
 pub mod WholeRuns

@@ -15,7 +15,7 @@ use Rattle.p3_formula.specs.Weighted.{weight_of, weighted_cost}
 use Rattle.p3_formula.specs.declared.target.Weights.{Weights}
 use Rattle.p3_formula.specs.declared.task.GroundStep.{GroundStep}
 use Rattle.p3_formula.specs.declared.task.GroundTask.{GroundTask}
-use Rattle.p3_ground.specs.StandsFor.{SoftStands, StandsBy, StandsFor, StepStands}
+use Rattle.p3_ground.specs.StandsFor.{SoftStands, StandsBy, StandsFor, StandsIn, StepStands}
 use Rattle.p3_ground.specs.Sparse.{IsGroundingOf}
 use Rattle.p3_ground.proofs.Extras.{made_width}
 use Rattle.p3_ground.proofs.NamesBelow.{has_names_below}
@@ -52,6 +52,10 @@ module _ (side : Side) (T : Task) (G : GroundTask) (w : Weights) (well : WellFor
       few = (let few = few_instances side T well none in let same = AllZip-long (SoftStands T atoms) (instances T) G.soft S.soft in omega (arith, few, same));
       limits = λ k d lt. within_limits (get_or G.steps k d) (S.kept k d lt);
     }
+
+-- a ground task that stands for the task in some steps is ready for these
+pub asked_is_ready : (side : Side) (T : Task) (G : GroundTask) (w : Weights) → WellFormed T → StandsIn T G → HasWeights T w → task_refusal side T ≡ None → IsReady G w
+asked_is_ready side T G w well stands has none = ready side T G w well none has stands.atoms stands.stands
 
 pub accepted_is_ready : (side : Side) (T : Task) (G : GroundTask) (w : Weights) → WellFormed T → StandsFor T G → HasWeights T w → task_refusal side T ≡ None → IsReady G w
 accepted_is_ready side T G w well stands has none = ready side T G w well none has stands.atoms stands.stands

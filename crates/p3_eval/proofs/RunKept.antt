@@ -1,5 +1,5 @@
 -- What each run keeps, and what its answers say of the tasks that it is of.
-use Rattle.std.proofs.Common.{◌≡◌, ◌∙◌, ℕ, suc, ◌+◌, ◌-◌, ◌^◌, ◌<◌, refl, sym, ap, Bool, true, false, not, ◌&&◌, List, [], ◌∷◌, ◌++◌, length, arith, Option, Some, None, pos}
+use Rattle.std.proofs.Common.{◌≡◌, ◌∙◌, ℕ, suc, ◌-◌, ◌^◌, ◌<◌, refl, sym, ap, Bool, true, false, not, ◌&&◌, List, [], ◌∷◌, ◌++◌, length, arith, Option, Some, None, pos}
 use Rattle.std.specs.Prelude.{ℤ, IfSome, is_some, slice_get, slice_index_or, zip, if◌then◌else◌}
 use Rattle.std.specs.List.{list_all}
 use Rattle.std.proofs.Props.{props}
@@ -21,7 +21,8 @@ use Rattle.p3_formula.specs.GroundPlans.{GroundPlan, ground_fits, ground_violate
 use Rattle.p3_formula.specs.declared.target.Weights.{Weights}
 use Rattle.p3_formula.specs.declared.task.GroundStep.{GroundStep}
 use Rattle.p3_formula.specs.declared.task.GroundTask.{GroundTask}
-use Rattle.p3_ground.specs.PlansByNumber.{AreNumbers}
+use Rattle.p3_ground.specs.PlansByNumber.{AreAsked, AreNumbers}
+use Rattle.p3_ground.proofs.Asked.{kept_are_asked}
 use Rattle.p3_ground.proofs.Counts.{counts_agree}
 use Rattle.p3_run.specs.Runs.{CanBeRun, FalsePrecondition, MissingCost, Ran, begun, ground_fit, ground_metric, ground_misfit, ground_state, ground_total, ground_verdict, misfit_by, ran_after, stepped_by}
 use Rattle.p3_run.specs.declared.answers.Stepped.{Stepped}
@@ -113,33 +114,38 @@ module _ (ran : Ran) (is : IsRun ran) where
     K : HasStepNumbers T
     K = steps_have_numbers T all.well
 
+    -- the steps that were done are there
+    asked : AreAsked T ran.task plan ran.plan
+    unfolding ground_fit
+    asked = kept_are_asked T ran.task plan ran.plan are is.fit
+
     pub fit : steps_fit T plan ≡ true
-    fit = ∥∥₁_elim all.stands (Bool-set _ _) (λ stands. fit_alike T stands.atoms ran.task stands.stands K plan ran.plan are ∙ is.fit)
+    fit = ∥∥₁_elim all.stands (Bool-set _ _) (λ stands. fit_alike T stands.atoms ran.task stands.stands K plan ran.plan asked ∙ is.fit)
 
   pub told_misfit : (number : ℕ) (stepped : Stepped) → stepped ≡ stepped_by (ground_misfit ran.task (ground_state ran.task ran.plan) number) → OfItsStep ran number (IsStepped stepped)
-  told_misfit number stepped e T all plan are step has =
+  told_misfit number stepped e T all plan are left step has =
       let own = K T all plan are in
       ∥∥₁_elim all.stands (misfits-set _ _) (λ stands.
-      misfit_alike T stands.atoms ran.task stands.stands own _ _ number step (last_met T stands.atoms ran.task stands.stands own plan ran.plan are (fit T all plan are)) has ∙ ap misfit_of (sym e))
+      misfit_alike T stands.atoms ran.task stands.stands own _ _ number step (last_met T stands.atoms ran.task stands.stands own plan ran.plan (asked T all plan are) (fit T all plan are)) (has, left) ∙ ap misfit_of (sym e))
 
   pub told_step_fault : (number : ℕ) (stepped : Stepped) → stepped ≡ stepped_by (ground_misfit ran.task (ground_state ran.task ran.plan) number) → OfItsStep ran number (IsFaultOfAll stepped)
-  told_step_fault number stepped e T all plan are step has rest kind why =
-      first_misfit T plan step rest kind (fit T all plan are) (told_misfit number stepped e T all plan are step has ∙ why)
+  told_step_fault number stepped e T all plan are left step has rest kind why =
+      first_misfit T plan step rest kind (fit T all plan are) (told_misfit number stepped e T all plan are left step has ∙ why)
 
   pub told_verdict : (verdict : Verdict) → verdict ≡ ground_verdict ran.task ran.plan → OfItsPlan ran (λ T plan. first_fault T plan ≡ fault_of verdict)
   told_verdict verdict e T all plan are =
       ∥∥₁_elim all.stands (faults-set _ _) (λ stands.
-      fault_alike T stands.atoms ran.task stands.stands (K T all plan are) plan ran.plan are (fit T all plan are) ∙ ap fault_of (sym e))
+      fault_alike T stands.atoms ran.task stands.stands (K T all plan are) plan ran.plan (asked T all plan are) (fit T all plan are) ∙ ap fault_of (sym e))
 
   pub told_total : (total : ℤ) → total ≡ pos (ground_total ran.task ran.plan) → OfItsPlan ran (λ T plan. total ≡ pos (cost T plan))
   told_total total e T all plan are =
-      e ∙ ap pos (∥∥₁_elim all.stands (ℕ_set _ _) (λ stands. sym (total_alike T stands.atoms ran.task stands.stands (K T all plan are) plan ran.plan are (fit T all plan are))))
+      e ∙ ap pos (∥∥₁_elim all.stands (ℕ_set _ _) (λ stands. sym (total_alike T stands.atoms ran.task stands.stands (K T all plan are) plan ran.plan (asked T all plan are) (fit T all plan are))))
 
   pub told_value : (metric : ℤ) → metric ≡ ground_metric ran.task ran.weights ran.plan → OfItsPlan ran (λ T plan. metric ≡ value T plan)
   told_value metric e T all plan are =
       ∥∥₁_elim all.stands (ℤ_set _ _) (λ stands. ∥∥₁_elim all.weights (ℤ_set _ _) (λ weights.
-      e ∙ sym (value_alike T stands.atoms ran.task stands.stands (K T all plan are) plan ran.plan are (fit T all plan are) ran.weights (accepted_weights all.side T all.well all.accepted ran.weights weights))))
+      e ∙ sym (value_alike T stands.atoms ran.task stands.stands (K T all plan are) plan ran.plan (asked T all plan are) (fit T all plan are) ran.weights (accepted_weights all.side T all.well all.accepted ran.weights weights))))
 
   pub told_count : (name count : ℕ) → count ≡ ground_violated ran.task ran.plan name → OfItsPlan ran (λ T plan. (word : Name) → slice_get (ordered_names T) name ≡ Some word → count ≡ violated T plan word)
   told_count name count e T all plan are word at =
-      e ∙ ∥∥₁_elim all.stands (ℕ_set _ _) (λ stands. sym ((counts_agree T stands.atoms ran.task stands.stands (K T all plan are) plan ran.plan are (fit T all plan are)).counts name word at))
+      e ∙ ∥∥₁_elim all.stands (ℕ_set _ _) (λ stands. sym ((counts_agree T stands.atoms ran.task stands.stands (K T all plan are) plan ran.plan (asked T all plan are) (fit T all plan are)).counts name word at))

@@ -11,7 +11,6 @@ use Rattle.p3_base.specs.declared.refusal.Direction.TheVariants.{Minimize, Maxim
 use Rattle.p3_tree.specs.States as named
 use Rattle.p3_tree.specs.States.{start}
 use Rattle.p3_tree.specs.Goals.{hard_holds}
-use Rattle.p3_tree.specs.Costs.{initial_cost}
 use Rattle.p3_tree.specs.Metrics.{cost, direction, loss, loss_at, metric_quantity, signed, value, violated}
 use Rattle.p3_tree.specs.Plans.{Plan, arguments, action_named, cost_by, fits, fits_by, last_state, moves_from, state_after, step_cost, steps_fit, visited}
 use Rattle.p3_tree.specs.Constraints.{hard_list}
@@ -27,8 +26,8 @@ use Rattle.p3_formula.specs.GroundPlans.{GroundPlan, ground_cost, ground_loss, g
 use Rattle.p3_formula.specs.declared.target.Weights.{Weights}
 use Rattle.p3_formula.specs.declared.task.GroundStep.{GroundStep}
 use Rattle.p3_formula.specs.declared.task.GroundTask.{GroundTask}
-use Rattle.p3_ground.specs.PlansByNumber.{AreNumbers, CountsAgree}
-use Rattle.p3_ground.specs.StandsFor.{HardStands, StandsBy, can_begin, can_begin_by}
+use Rattle.p3_ground.specs.PlansByNumber.{AreAsked, CountsAgree}
+use Rattle.p3_ground.specs.StandsFor.{HardStands, IsAsked, StandsBy, can_begin, can_begin_by}
 use Rattle.p3_ground.proofs.Counts.{counts_agree, losses_alike}
 use Rattle.p3_ground.proofs.Validity.{AreMet, are_met, same_modal, some_visited}
 use Rattle.p3_ground.proofs.Walk.{Met, all_fit, begun, fit_same, made_of, reached}
@@ -132,20 +131,20 @@ module _ (T : Task) (atoms : List Fact) (G : GroundTask) (S : StandsBy T atoms G
   why_by true false = refl
   why_by false costs = refl
 
-  pub misfit_alike : (s : named.State) (bits : State) (number : ℕ) (step : Step) → Met T atoms G S K s bits → HasNumber T step number → misfit T s step ≡ misfit_of (stepped_by (ground_misfit G bits number))
+  pub misfit_alike : (s : named.State) (bits : State) (number : ℕ) (step : Step) → Met T atoms G S K s bits → IsAsked T G step number → misfit T s step ≡ misfit_of (stepped_by (ground_misfit G bits number))
   misfit_alike s bits number step m e = by (step_of G number) refl
     where
       by : (o : Option GroundStep) → step_of G number ≡ o → misfit T s step ≡ misfit_of (stepped_by (run.misfit_by bits o))
-      by None out = misfit_is s number step e ∙ ap (λ t. why t (is_some (step_cost T step))) (S.left_out number step e out s (reached T atoms G S K s bits m))
+      by None out = misfit_is s number step e.0 ∙ ap (λ t. why t (is_some (step_cost T step))) (e.1 step e.0 out s (reached T atoms G S K s bits m))
       by (Some made) found =
-          let is = made_of T atoms G S K number step made e found in
-          misfit_is s number step e
+          let is = made_of T atoms G S K number step made e.0 found in
+          misfit_is s number step e.0
           ∙ sym (λ i. why (is.pre s bits (reached T atoms G S K s bits m) m.matched i) (is_some (is.cost i)))
           ∙ why_by (truth bits made.pre) (is_some made.cost)
 
   -- ---- the last state
 
-  module _ (plan : Plan) (numbers : GroundPlan) (are : AreNumbers T plan numbers) (fit : steps_fit T plan ≡ true) where
+  module _ (plan : Plan) (numbers : GroundPlan) (are : AreAsked T G plan numbers) (fit : steps_fit T plan ≡ true) where
     met : AreMet T atoms G S K (visited T plan) (ground_visited G numbers)
     met = are_met T atoms G S K plan numbers are fit
 
@@ -217,6 +216,6 @@ module _ (T : Task) (atoms : List Fact) (G : GroundTask) (S : StandsBy T atoms G
   all_fit_is bits [] = refl
   all_fit_is bits (number ∷ numbers) = ap (λ rest. ground_fits G bits number && rest) (all_fit_is (state_by bits (step_of G number)) numbers)
 
-  pub fit_alike : (plan : Plan) (numbers : GroundPlan) → AreNumbers T plan numbers → steps_fit T plan ≡ ground_fit G numbers
+  pub fit_alike : (plan : Plan) (numbers : GroundPlan) → AreAsked T G plan numbers → steps_fit T plan ≡ ground_fit G numbers
   unfolding ground_fit
   fit_alike plan numbers are = steps_fit-walk T plan ∙ fit_same T atoms G S K plan numbers are (start T) G.initial (begun T atoms G S K) ∙ sym (all_fit_is G.initial numbers)

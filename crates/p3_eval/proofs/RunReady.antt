@@ -26,7 +26,7 @@ use Rattle.p3_formula.specs.declared.target.Weights.{Weights}
 use Rattle.p3_formula.specs.declared.task.GroundStep.{GroundStep}
 use Rattle.p3_formula.specs.declared.task.GroundTask.{GroundTask}
 use Rattle.p3_types.specs.Texts.{has_short_numbers, is_short, metric_numerals}
-use Rattle.p3_ground.specs.StandsFor.{PrefStands, StandsBy, StandsFor, StepStands}
+use Rattle.p3_ground.specs.StandsFor.{PrefStands, StandsBy, StandsIn, StepStands}
 use Rattle.p3_metric.specs.Refused.{dear_amount_of, dear_value_of, early_refusals, large_of, nonlinear_of, too_many_places_of}
 use Rattle.p3_metric.specs.Weighed.{HasWeights, IsWeights}
 use Rattle.p3_metric.proofs.AcceptedLaws.{linear_where_accepted}
@@ -37,7 +37,7 @@ use Rattle.p3_metric.proofs.WeighedLaws.{is_weights}
 use Rattle.p3_run.specs.Runs.{CanBeRun, HasFewPrefs, HasSmallCost}
 use Rattle.p3_eval.proofs.BaseLaws.{base_is_small}
 use Rattle.p3_eval.proofs.CostLaws.{step_cost_within}
-use Rattle.p3_eval.proofs.ReadyLaws.{accepted_is_ready}
+use Rattle.p3_eval.proofs.ReadyLaws.{asked_is_ready}
 use Rattle.p3_eval.proofs.RefusalLaws.{each_none, no_metric, small_effect, small_precondition}
 use Rattle.p3_eval.proofs.SizeLaws.{cheap_action, few_prefs}
 
@@ -97,9 +97,9 @@ module _ (side : Side) (T : Task) (well : WellFormed T) (none : task_refusal sid
           let most = greatest_size side in
           omega (arith, long, own_prefs, sized, small, most)
 
-    pub accepted_can_be_run : (G : GroundTask) (w : Weights) → StandsFor T G → HasWeights T w → CanBeRun G w
+    pub accepted_can_be_run : (G : GroundTask) (w : Weights) → StandsIn T G → HasWeights T w → CanBeRun G w
     accepted_can_be_run G w stands has = record {
-      ready = accepted_is_ready side T G w well stands has none;
+      ready = asked_is_ready side T G w well stands has none;
       costs = λ k d lt. small_cost stands.atoms G stands.stands (get_or G.steps k d) (stands.stands.kept k d lt);
       prefs = λ k d lt. few stands.atoms G stands.stands (get_or G.steps k d) (stands.stands.kept k d lt);
       base = base_small w has;

@@ -1,8 +1,25 @@
--- The parts of a whole task belong together.
-use Rattle.std.proofs.Math.Logic.{∥∥₁_map}
+-- The parts of a task of which nothing is refused belong together.
+use Rattle.std.proofs.Math.Logic.{∥∥₁_elim, ∥∥₁_map}
+use Rattle.std.proofs.Math.Bool.{Bool-set}
+use Rattle.p3_ground.specs.StandsFor.{LeavesOutOnlyUnfit}
 use Rattle.p3_eval.specs.Runs.{BelongTogether}
+use Rattle.p3_eval.specs.declared.grounded.Grounded.{Grounded}
 use Rattle.p3_eval.specs.declared.whole.Whole.{Whole}
 use Rattle.p3_eval.proofs.RefusalLaws.{accepted_from, well_formed_from}
+
+-- what its ground task leaves out can begin in no reached state
+pub whole_leaves_out : (whole : Whole) → LeavesOutOnlyUnfit whole.checked.task whole.ground_task
+whole_leaves_out whole number step has out s reached = ∥∥₁_elim whole.grounding (Bool-set _ _) (λ grounding. grounding.left_out number step has out s reached)
+
+pub grounded_together : (grounded : Grounded) → BelongTogether grounded.checked.now.task grounded.ground_task.now grounded.weights.now
+grounded_together grounded = let checked = grounded.checked.now in record {
+  side = checked.side;
+  well = well_formed_from checked.task checked.well_formed;
+  short = checked.short;
+  accepted = accepted_from checked.side checked.task grounded.accepted;
+  stands = grounded.standing;
+  weights = grounded.weighing;
+}
 
 pub belong_together : (whole : Whole) → BelongTogether whole.checked.task whole.ground_task whole.weights
 belong_together whole = record {

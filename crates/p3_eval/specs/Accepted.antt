@@ -1,13 +1,10 @@
 -- What accepting a task answers.
-use Rattle.std.specs.Prelude.{◌≡◌, Bool, is_none, None, Some}
+use Rattle.std.specs.Prelude.{◌≡◌, Bool, is_none, Some}
 use Rattle.p3_base.specs.declared.refusal.Side.{Side}
 use Rattle.p3_tree.specs.Refusals.First.{task_refusal}
 use Rattle.p3_tree.specs.declared.task.Task.{Task}
-use Rattle.p3_ground.specs.Sparse.{IsGroundingOf}
-use Rattle.p3_metric.specs.Weighed.{HasWeights}
 use Rattle.p3_eval.specs.declared.error.WholeFail.{WholeFail}
 use Rattle.p3_eval.specs.declared.error.WholeFail.TheVariants.{Refused, NoMemory}
-use Rattle.p3_eval.specs.declared.parts.Parts.{Parts}
 
 abbrev pub is_accepted : Side → Task → Bool
 is_accepted side T = is_none (task_refusal side T)
@@ -16,9 +13,3 @@ is_accepted side T = is_none (task_refusal side T)
 abbrev pub IsFailOf : Side → Task → WholeFail → Type 0
 IsFailOf side T (Refused refusal) = task_refusal side T ≡ Some refusal
 IsFailOf side T NoMemory = Unit {0}
-
--- the parts are those of a task of which nothing is refused
-pub record ArePartsOf (side : Side) (T : Task) (parts : Parts) : Type 0 where
-  pub grounding : IsGroundingOf T parts.ground_task
-  pub weights : HasWeights T parts.weights
-  pub accepted : task_refusal side T ≡ None

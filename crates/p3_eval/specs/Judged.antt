@@ -1,5 +1,5 @@
 -- Faults as values of the code, and what judging one step more tells of a plan.
-use Rattle.std.specs.Prelude.{◌≡◌, ℕ, ◌+◌, ◌≤◌, ◌∷◌, ◌++◌, length, Option, Some, None, option_map}
+use Rattle.std.specs.Prelude.{◌≡◌, ℕ, ◌+◌, ◌≤◌, List, ◌∷◌, ◌++◌, length, Option, Some, None, option_map}
 use Rattle.p3_tree.specs.Plans.{Plan, last_state, visited}
 use Rattle.p3_tree.specs.Validity as why
 use Rattle.p3_tree.specs.Validity.{AtConstraint, AtGoal, AtStep, Fault, first_fault, misfit}
@@ -8,7 +8,9 @@ use Rattle.p3_tree.specs.declared.task.Task.{Task}
 use Rattle.p3_types.specs.Finds.{IsFound}
 use Rattle.p3_types.specs.declared.finding.Found.{Found}
 use Rattle.p3_types.specs.declared.finding.Found.TheVariants.{Number, UnknownAction, Arguments}
-use Rattle.p3_ground.specs.PlansByNumber.{AreNumbers}
+use Rattle.p3_formula.specs.declared.task.GroundTask.{GroundTask}
+use Rattle.p3_ground.specs.PlansByNumber.{AreAsked, AreNumbers}
+use Rattle.p3_ground.specs.StandsFor.{LeftOutAt}
 use Rattle.p3_run.specs.Runs.{Ran, ran_after}
 use Rattle.p3_run.specs.declared.answers.Stepped.{Stepped}
 use Rattle.p3_run.specs.declared.answers.Stepped.TheVariants.{Done, Precondition, NoCost}
@@ -58,12 +60,23 @@ TellsOf (Some fault) T plan step = (rest : Plan) → first_fault T (plan ++ step
 abbrev pub NamesMisfit : Option PlanFault → Task → Plan → Step → Type 0
 NamesMisfit fault T plan step = option_map fault_in fault ≡ option_map (AtStep (length plan + 1)) (misfit T (last_state (visited T plan)) step)
 
+-- where the step that is found has a number, it is there or can begin in no reached state
+abbrev pub IsAskedFound : Task → GroundTask → Found → Type 0
+IsAskedFound T G (Number number) = LeftOutAt T G number
+IsAskedFound T G UnknownAction = Unit {0}
+IsAskedFound T G Arguments = Unit {0}
+
 -- it is so of each step that is found so
 abbrev pub NamesMisfitOfFound : Ran → Found → Option PlanFault → Type 0
-NamesMisfitOfFound ran found fault = OfItsPlan ran (λ T plan. (step : Step) → IsFound T step found → NamesMisfit fault T plan step)
+NamesMisfitOfFound ran found fault = OfItsPlan ran (λ T plan. IsAskedFound T ran.task found → (step : Step) → IsFound T step found → NamesMisfit fault T plan step)
 
 abbrev pub TellsOfFound : Ran → Found → Option PlanFault → Type 0
-TellsOfFound ran found fault = OfItsPlan ran (λ T plan. (step : Step) → IsFound T step found → TellsOf fault T plan step)
+TellsOfFound ran found fault = OfItsPlan ran (λ T plan. IsAskedFound T ran.task found → (step : Step) → IsFound T step found → TellsOf fault T plan step)
+
+-- so many steps are found, with the one that has no number
+abbrev pub found_count : List ℕ → Option Found → ℕ
+found_count numbers None = length numbers
+found_count numbers (Some found) = length numbers + 1
 
 -- the step is done where it has no fault
 abbrev pub ran_with : Ran → Found → Option PlanFault → Ran
@@ -79,6 +92,7 @@ pub record HasDone (T : Task) (plan : Plan) (before now : Ran) : Type 0 where
   pub task : now.task ≡ before.task
   pub weights : now.weights ≡ before.weights
   pub numbers : AreNumbers T plan now.plan
+  pub asked : AreAsked T now.task plan now.plan
 
 -- the first fault of the plan; and where it has none, all its steps are done
 pub record IsJudged (T : Task) (plan : Plan) (before now : Ran) (found : Option PlanFault) : Type 0 where

@@ -1,6 +1,5 @@
 -- What judging the text of a plan answers: its first fault, or that it is valid.
 use Rattle.std.specs.Prelude.{◌≡◌, ℕ, ◌≤◌, List, [], ◌∷◌, ◌++◌, Option, Some, None, option_map}
-use Rattle.p3_base.specs.declared.refusal.Refusal.{Refusal}
 use Rattle.p3_tree.specs.Limits.{step_count}
 use Rattle.p3_tree.specs.Plans.{Plan}
 use Rattle.p3_tree.specs.PlanTexts.{IsPlanText, plan_offence}
@@ -13,7 +12,9 @@ use Rattle.p3_plans.specs.Laws.{AreTextsOf}
 use Rattle.p3_plans.specs.Steps.{Left}
 use Rattle.p3_eval.specs.Judged.{HasItsStep, fault_in}
 use Rattle.p3_eval.specs.Runs.{BelongTogether}
+use Rattle.p3_formula.specs.declared.task.GroundTask.{GroundTask}
 use Rattle.p3_ground.specs.PlansByNumber.{AreNumbers}
+use Rattle.p3_ground.specs.StandsFor.{LeavesOutOnlyUnfit, LeftOutAt}
 use Rattle.p3_run.specs.Runs.{Ran, ran_after}
 use Rattle.p3_run.specs.declared.answers.Stepped.TheVariants.{Done}
 use Rattle.p3_eval.specs.declared.fault.PlanFault.{PlanFault}
@@ -22,9 +23,10 @@ use Rattle.p3_eval.specs.declared.text_judging.TextVerdict.TheVariants.{Refused,
 
 -- ---- runs of a task
 
--- the run is of the task, and few enough are its steps
+-- the run is of the task, and few enough are its steps, each of which is there or can begin in no reached state
 pub record IsRunOf (T : Task) (ran : Ran) : Type 0 where
   pub together : BelongTogether T ran.task ran.weights
+  pub left_out : LeavesOutOnlyUnfit T ran.task
   pub few : step_count T ≤ step_count_limit
 
 -- the text is that of one step
@@ -40,6 +42,10 @@ Goes T old new step (Some told) front = (rest : Plan) → first_fault T (front +
 -- so it goes with the step of the text
 abbrev pub GoesOn : Task → Ran → Ran → List ℕ → Option PlanFault → Type 0
 GoesOn T old new text found = (step : Step) → IsPlanText text (step ∷ []) → (front : Plan) → AreNumbers T front old.plan → Goes T old new step found front
+
+-- where the step of the text has a number, it is there or can begin in no reached state
+abbrev pub IsAskedText : Task → GroundTask → List ℕ → Type 0
+IsAskedText T G text = (step : Step) → IsPlanText text (step ∷ []) → (number : ℕ) → HasNumber T step number → LeftOutAt T G number
 
 -- ---- plans
 
@@ -59,15 +65,15 @@ IsVerdict T text ran Valid = (plan_offence text ≡ None) × IsFirstFault T text
 
 -- ---- the loop over the steps
 
--- of the plan some steps are done, and the slices that are left are texts of the others
-pub record IsFollowed (T : Task) (plan : Plan) (ran : Ran) (left : Left) : Type 0 where
+-- the numbers are those of the first steps of the plan, and the slices that are left are texts of the others
+pub record IsFollowed (T : Task) (plan : Plan) (numbers : List ℕ) (left : Left) : Type 0 where
   pub front : Plan
   pub rest : Plan
   pub parts : plan ≡ front ++ rest
-  pub numbers : AreNumbers T front ran.plan
+  pub are : AreNumbers T front numbers
   pub slices : AreTextsOf left.steps rest
   pub free : left.offence ≡ None
 
 -- so it is of the plan of the text
-abbrev pub Follows : Task → List ℕ → Ran → Left → Type 0
-Follows T text ran left = (plan : Plan) → IsPlanText text plan → IsFollowed T plan ran left
+abbrev pub Follows : Task → List ℕ → List ℕ → Left → Type 0
+Follows T text numbers left = (plan : Plan) → IsPlanText text plan → IsFollowed T plan numbers left

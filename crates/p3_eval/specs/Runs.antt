@@ -14,7 +14,7 @@ use Rattle.p3_formula.specs.declared.target.Weights.{Weights}
 use Rattle.p3_formula.specs.declared.task.GroundTask.{GroundTask}
 use Rattle.p3_types.specs.Texts.{has_short_numbers}
 use Rattle.p3_ground.specs.PlansByNumber.{AreNumbers}
-use Rattle.p3_ground.specs.StandsFor.{StandsFor}
+use Rattle.p3_ground.specs.StandsFor.{LeftOutAt, StandsIn}
 use Rattle.p3_metric.specs.Weighed.{HasWeights}
 use Rattle.p3_run.specs.Runs.{Ran, ground_fit}
 use Rattle.p3_run.specs.declared.answers.Stepped.{Stepped}
@@ -24,13 +24,13 @@ use Rattle.p3_run.specs.declared.answers.Verdict.TheVariants.{Valid, Goal, Unmet
 
 -- ---- a task with what belongs to it
 
--- the task is well-formed, its numbers are short, and nothing is refused of it on that side; the ground task stands for it, and the weights are its own
+-- the task is well-formed, its numbers are short, and nothing is refused of it on that side; the ground task stands for it in the steps that it has, and the weights are its own
 pub record BelongTogether (T : Task) (G : GroundTask) (w : Weights) : Type 0 where
   pub side : Side
   pub well : WellFormed T
   pub short : IsTrue (has_short_numbers side T)
   pub accepted : task_refusal side T ≡ None
-  pub stands : ∥ StandsFor T G ∥₁
+  pub stands : ∥ StandsIn T G ∥₁
   pub weights : ∥ HasWeights T w ∥₁
 
 -- there is such a task
@@ -48,9 +48,9 @@ OfItsPlan ran Says = (T : Task) → BelongTogether T ran.task ran.weights → (p
 abbrev pub OfRun : Task → Ran → (Plan → Type 0) → Type 0
 OfRun T ran Says = (plan : Plan) → AreNumbers T plan ran.plan → Says plan
 
--- it is so of the step of that number, too
+-- it is so of the step of that number, too, where it is there or can begin in no reached state
 abbrev pub OfItsStep : Ran → ℕ → (Task → Plan → Step → Type 0) → Type 0
-OfItsStep ran number Says = OfItsPlan ran (λ T plan. (step : Step) → HasNumber T step number → Says T plan step)
+OfItsStep ran number Says = OfItsPlan ran (λ T plan. LeftOutAt T ran.task number → (step : Step) → HasNumber T step number → Says T plan step)
 
 -- ---- answers
 

@@ -3,7 +3,7 @@
 ghost use Rattle.std.specs.Prelude.{◌≡◌};
 ghost use Rattle.p3_eval.specs.Failing.{fail_of_metric, fail_of_ground};
 
-use p3_base::Refusal;
+use p3_base::{NoMemory, Refusal};
 use p3_ground::GroundFail;
 use p3_metric::MetricFail;
 use thiserror::Error;
@@ -38,5 +38,15 @@ impl From<GroundFail> for WholeFail {
             GroundFail::Refused(refusal) => WholeFail::Refused(refusal),
             GroundFail::NoMemory => WholeFail::NoMemory,
         }
+    }
+}
+
+impl From<NoMemory> for WholeFail {
+    ghost use Rattle.p3_eval.specs.declared.error.WholeFail.TheVariants as fail;
+
+    ghost from_gives = { λ _ f. f ≡ fail.NoMemory };
+
+    fn from(_error: NoMemory) -> WholeFail {
+        WholeFail::NoMemory
     }
 }

@@ -12,12 +12,12 @@ ghost use Rattle.p3_eval.specs.Judged.{
   fault_of_step,
   ran_with,
 };
-ghost use Rattle.p3_eval.specs.Runs.{BelongTogether, OfItsPlan};
+ghost use Rattle.p3_eval.specs.Runs.{OfItsPlan};
+ghost use Rattle.p3_eval.specs.Steps.{OfItsSteps};
 
-use crate::{FaultKind, PlanFault, Run};
+use crate::{FaultKind, PlanFault, Run, Steps};
 use p3_run::{Stepped, Verdict};
-use p3_tree::Step;
-use p3_types::{Checked, Found};
+use p3_types::Found;
 
 /// The fault of a step that was tried, if it has one.
 fn fault_of(step: u32, stepped: Stepped) -> Option<PlanFault>
@@ -84,20 +84,21 @@ impl<'a> Run<'a> {
         }
     }
 
-    /// Does the steps of a plan of the task until one does not fit: the first fault of the plan, if
-    /// it has one.
-    pub fn judge_plan(&mut self, task: &Checked, plan: &[Step]) -> Option<PlanFault>
-        requires task { BelongTogether task.now.task self.old.task self.old.weights }
-        requires begun { self.old.plan ≡ [] }
-        requires room { length plan.now ≤ most_steps }
-        ensures judged { IsJudged task.now.task plan.now self.old self.new result }
+    /// Does the steps of a plan until one does not fit: the first fault of the plan, if it has one.
+    pub fn judge_steps(&mut self, steps: &Steps) -> Option<PlanFault>
+        requires { self.old.plan ≡ [] }
+        ensures judged { OfItsSteps self.old steps.now
+            (λ T plan. IsJudged T plan self.old self.new result) }
         ensures placed { IfSome result HasItsStep }
     {
-        for step in plan {
-            if let Some(fault) = self.follow(task.find(step)) {
+        for number in steps.numbers.as_slice() {
+            if let Some(fault) = self.follow(Found::Number(*number)) {
                 return Some(fault);
             }
         }
-        self.judge()
+        match steps.rest {
+            Some(found) => self.follow(found),
+            None => self.judge(),
+        }
     }
 }

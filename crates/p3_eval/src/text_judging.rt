@@ -50,7 +50,7 @@ pub fn judge_text(whole: &Whole, run: &mut Run<'_>, text: &[u8]) -> TextVerdict
 
 /// The first fault of the plan of a text that has no offence. Where there is none, the run has done
 /// the steps of the plan.
-pub fn first_fault(checked: &Checked, run: &mut Run<'_>, text: &[u8]) -> Option<PlanFault>
+fn first_fault(checked: &Checked, run: &mut Run<'_>, text: &[u8]) -> Option<PlanFault>
     requires of { IsRunOf checked.now.task run.old }
     requires begins { run.old.plan ≡ [] }
     requires short { length text.now ≤ plan_byte_limit }

@@ -6,15 +6,16 @@ ghost use Rattle.p3_tree.specs.Refusals.First.{task_refusal};
 ghost use Rattle.p3_tree.specs.Sides.{step_count_limit};
 ghost use Rattle.p3_formula.specs.Conditions.{IsReady};
 ghost use Rattle.p3_ground.specs.Sparse.{IsGroundingOf};
+ghost use Rattle.p3_ground.specs.StandsFor.{LeavesOutOnlyUnfit};
 ghost use Rattle.p3_metric.specs.Weighed.{HasWeights, IsLinearMetric};
 ghost use Rattle.p3_run.specs.Runs.{begun};
-ghost use Rattle.p3_eval.specs.Accepted.{ArePartsOf, IsFailOf, is_accepted};
+ghost use Rattle.p3_eval.specs.Accepted.{IsFailOf, is_accepted};
 ghost use Rattle.p3_eval.specs.Runs.{BelongTogether};
 
-use crate::parts::{Parts, parts_of};
-use crate::{Run, WholeFail};
+use crate::{Accepted, Grounded, Run, WholeFail};
 use p3_base::NoMemory;
 use p3_formula::{GroundTask, Weights};
+use p3_ground::ground;
 use p3_types::Checked;
 use std::alloc::Global;
 
@@ -32,22 +33,39 @@ pub struct Whole {
 }
 
 impl Whole {
-    /// The checked task with its parts.
-    fn of(checked: Checked, parts: Parts) -> Whole
-        requires { ArePartsOf checked.side checked.task parts }
-        ensures task { result.checked ≡ checked }
-        ensures grounding { IsGroundingOf checked.task result.ground_task }
-        ensures weights { HasWeights checked.task result.weights }
+    /// The accepted task with the ground task that stands for it.
+    fn of(accepted: Accepted, ground_task: GroundTask) -> Whole
+        requires grounding { IsGroundingOf accepted.checked.task ground_task }
+        requires weights { HasWeights accepted.checked.task accepted.weights }
+        ensures task { result.checked ≡ accepted.checked }
+        ensures grounding { IsGroundingOf accepted.checked.task result.ground_task }
+        ensures weights { HasWeights accepted.checked.task result.weights }
         ensures ready { IsReady result.ground_task result.weights }
     {
-        let Parts {
-            ground_task,
-            weights,
-        } = parts;
+        let Accepted { checked, weights } = accepted;
         Whole {
             checked,
             ground_task,
             weights,
+        }
+    }
+
+    /// Grounds all steps of an accepted task.
+    fn with_all_steps(alloc: Global, accepted: Accepted) -> Result<Whole, WholeFail>
+        requires weights { HasWeights accepted.checked.task accepted.weights }
+        ensures task { IfOk result (λ whole. whole.checked ≡ accepted.checked) }
+        ensures grounding { IfOk result
+            (λ whole. IsGroundingOf accepted.checked.task whole.ground_task) }
+        ensures weights { IfOk result (λ whole. HasWeights accepted.checked.task whole.weights) }
+        ensures ready { IfOk result (λ whole. IsReady whole.ground_task whole.weights) }
+        ensures refused { IfErr result (IsFailOf accepted.checked.side accepted.checked.task) }
+    {
+        match ground(alloc, accepted.checked()) {
+            Ok(ground_task) => Ok(Whole::of(accepted, ground_task)),
+            Err(fail) => {
+                drop(accepted);
+                Err(WholeFail::from(fail))
+            }
         }
     }
 
@@ -65,12 +83,9 @@ impl Whole {
         ensures accepted { OnOk result (task_refusal checked.side checked.task ≡ None) }
         ensures refused { IfErr result (IsFailOf checked.side checked.task) }
     {
-        match parts_of(alloc, &checked) {
-            Ok(parts) => Ok(Whole::of(checked, parts)),
-            Err(fail) => {
-                drop(checked);
-                Err(fail)
-            }
+        match Accepted::accept(alloc, checked) {
+            Ok(accepted) => Whole::with_all_steps(alloc, accepted),
+            Err(fail) => Err(fail),
         }
     }
 
@@ -98,6 +113,20 @@ impl Whole {
         &self.weights
     }
 
+    /// What all plans of the task are judged by.
+    pub fn grounded(&self) -> Grounded<'_>
+        ensures checked { result.checked.now ≡ self.now.checked }
+        ensures ground_task { result.ground_task.now ≡ self.now.ground_task }
+        ensures weights { result.weights.now ≡ self.now.weights }
+        ensures left_out { LeavesOutOnlyUnfit self.now.checked.task self.now.ground_task }
+    {
+        Grounded {
+            checked: &self.checked,
+            ground_task: &self.ground_task,
+            weights: &self.weights,
+        }
+    }
+
     /// The run of no step of the task, with the memory that it ever needs.
     ///
     /// # Errors
@@ -106,6 +135,7 @@ impl Whole {
     pub fn begin<'a>(&'a self, alloc: Global) -> Result<Run<'a>, NoMemory>
         ensures task { BelongTogether
             self.now.checked.task self.now.ground_task self.now.weights }
+        ensures left_out { LeavesOutOnlyUnfit self.now.checked.task self.now.ground_task }
         ensures begun { IfOk result
             (λ run. run ≡ begun self.now.ground_task self.now.weights) }
     {

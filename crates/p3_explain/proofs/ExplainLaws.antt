@@ -1,30 +1,25 @@
 -- What the marks of a walked plan and the false preferences of its steps come to.
-use Rattle.std.proofs.Common.{◌≡◌, ◌∙◌, ℕ, ◌+◌, ◌≤◌, true, List, ◌++◌, length, refl, sym, ap, subst, arith, Option, None}
+use Rattle.std.proofs.Common.{◌≡◌, ◌∙◌, ℕ, ◌+◌, true, List, ◌++◌, length, refl, sym, ap, subst, arith, Option}
 use Rattle.std.specs.Prelude.{IsTrue, option_map}
-use Rattle.std.proofs.lemmas.Slice.Zip.{AllZip-long}
 use Rattle.std.proofs.Props.{props}
 use Rattle.std.proofs.Math.Logic.{∥∥₁_elim}
 use Rattle.p3_base.specs.declared.showing.Reason.{Reason}
 use Rattle.p3_tree.specs.Explanations.{reasons}
 use Rattle.p3_tree.specs.Plans.{Plan, steps_fit}
-use Rattle.p3_tree.specs.StepNumbers.{HasNumber}
-use Rattle.p3_tree.specs.Validity.{first_fault, step_fault}
+use Rattle.p3_tree.specs.Validity.{first_fault}
 use Rattle.p3_tree.specs.declared.task.Task.{Task}
 use Rattle.p3_tree.proofs.StepNumberLaws.{steps_have_numbers}
 use Rattle.p3_formula.specs.GroundPlans.{GroundPlan, ground_visited}
-use Rattle.p3_formula.specs.declared.target.Weights.{Weights}
 use Rattle.p3_formula.specs.declared.task.GroundTask.{GroundTask}
-use Rattle.p3_ground.specs.PlansByNumber.{AreNumbers}
-use Rattle.p3_run.specs.Runs.{Ran, begun}
+use Rattle.p3_ground.specs.PlansByNumber.{AreAsked}
+use Rattle.p3_run.specs.Runs.{Ran}
 use Rattle.p3_marks.specs.Marked.{Marked, shown_all}
 use Rattle.p3_marks.specs.Reasons.{ground_reasons, operator_reasons, steps_reasons}
 use Rattle.p3_marks.proofs.ReasonLaws.{marks_show}
 use Rattle.p3_eval.specs.Judged.{HasDone, fault_in}
 use Rattle.p3_eval.specs.Runs.{BelongTogether, OfItsPlan}
 use Rattle.p3_eval.specs.declared.fault.PlanFault.{PlanFault}
-use Rattle.p3_eval.proofs.JudgeLaws.{still_together}
-use Rattle.p3_eval.proofs.RunLaws.{no_step_fault}
-use Rattle.p3_explain.specs.Walked.{IsMarked, IsWalked}
+use Rattle.p3_explain.specs.Walked.{IsMarked}
 use Rattle.p3_explain.proofs.StandsLaws.{reasons_alike}
 use Rattle.p3_explain.proofs.WalkLaws.{visited_long}
 
@@ -35,7 +30,7 @@ whole : (G : GroundTask) (numbers : GroundPlan) → operator_reasons G (ground_v
 unfolding ground_reasons
 whole G numbers = refl
 
-module _ (T : Task) (ran : Ran) (all : BelongTogether T ran.task ran.weights) (plan : Plan) (are : AreNumbers T plan ran.plan) (fit : steps_fit T plan ≡ true)
+module _ (T : Task) (ran : Ran) (all : BelongTogether T ran.task ran.weights) (plan : Plan) (are : AreAsked T ran.task plan ran.plan) (fit : steps_fit T plan ≡ true)
     (marks : Marked) (prefs : List Reason) (marked : IsMarked ran marks prefs) where
   pub explained : (count : ℕ) → count ≡ length ran.plan + 1 → (found : List Reason) → found ≡ shown_all ran.task count marks.groups ++ prefs → found ≡ reasons T plan
   explained count long found is =
@@ -50,28 +45,15 @@ module _ (T : Task) (ran : Ran) (all : BelongTogether T ran.task ran.weights) (p
 
 -- ---- a plan that was walked from the first state
 
-module _ (T : Task) (G : GroundTask) (w : Weights) (all : BelongTogether T G w) (before now : Ran) (is : before ≡ begun G w) where
-  pub begun_together : BelongTogether T before.task before.weights
-  begun_together = subst (λ (r : Ran). BelongTogether T r.task r.weights) (sym is) all
+module _ (T : Task) (plan : Plan) (before now : Ran) (all : BelongTogether T before.task before.weights) (done : HasDone T plan before now) (fits : OfItsPlan now (λ U other. IsTrue (steps_fit U other))) where
+  together : BelongTogether T now.task now.weights
+  together = subst (λ G. BelongTogether T G now.weights) (sym done.task) (subst (BelongTogether T before.task) (sym done.weights) all)
 
-  module _ (plan : Plan) (marks : Marked) (prefs : List Reason) (walked : IsWalked T plan before now marks prefs) (fits : OfItsPlan now (λ U other. IsTrue (steps_fit U other))) where
-    together : BelongTogether T now.task now.weights
-    together = still_together T before now begun_together plan walked.done
+  pub walked_fit : IsTrue (steps_fit T plan)
+  walked_fit = fits T together plan done.numbers
 
-    fit : steps_fit T plan ≡ true
-    fit = fits T together plan walked.done.numbers
+  pub walked_explains : (marks : Marked) (prefs : List Reason) → IsMarked now marks prefs → (found : List Reason) → found ≡ shown_all now.task (length now.plan + 1) marks.groups ++ prefs → found ≡ reasons T plan
+  walked_explains marks prefs marked found told = explained T now together plan done.asked walked_fit marks prefs marked (length now.plan + 1) refl found told
 
-    pub walked_explains : (found : List Reason) → found ≡ shown_all now.task (length now.plan + 1) marks.groups ++ prefs → found ≡ reasons T plan
-    walked_explains found told = explained T now together plan walked.done.numbers fit marks prefs walked.marked (length now.plan + 1) refl found told
-
-    pub walked_fits : step_fault T plan ≡ None
-    walked_fits = no_step_fault T plan fit
-
-    pub walked_faults : (fault : Option PlanFault) → OfItsPlan now (λ U other. first_fault U other ≡ option_map fault_in fault) → first_fault T plan ≡ option_map fault_in fault
-    walked_faults fault told = told T together plan walked.done.numbers
-
-    pub walked_fit : IsTrue (steps_fit T plan)
-    walked_fit = fit
-
-pub walked_few : (T : Task) (plan : Plan) (before now : Ran) → HasDone T plan before now → (most : ℕ) → length plan ≤ most → length now.plan ≤ most
-walked_few T plan before now done most few = let l = AllZip-long (HasNumber T) plan now.plan done.numbers in omega (arith, few, l)
+  pub walked_faults : (fault : Option PlanFault) → OfItsPlan now (λ U other. first_fault U other ≡ option_map fault_in fault) → first_fault T plan ≡ option_map fault_in fault
+  walked_faults fault told = told T together plan done.numbers

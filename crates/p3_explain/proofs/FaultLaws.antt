@@ -1,18 +1,16 @@
 -- The least step that does not fit, where a plan's first fault is that of a step.
-use Rattle.std.proofs.Common.{◌≡◌, ◌∙◌, ℕ, ◌+◌, ◌<◌, sym, Bool, true, false, length, get_or, take, Option, Some, None}
+use Rattle.std.proofs.Common.{◌≡◌, ◌∙◌, ℕ, ◌+◌, sym, Bool, true, false, length, Option, Some, None}
 use Rattle.std.specs.Prelude.{option_map, if◌then◌else◌}
 use Rattle.std.specs.Option.{option_or}
 use Rattle.p3_tree.specs.Plans.{Plan, last_state, visited}
 use Rattle.p3_tree.specs.Validity.{AtConstraint, AtGoal, AtStep, Fault, Misfit, constraint_fault, first_fault, goal_fault, misfit, step_fault}
-use Rattle.p3_tree.specs.declared.task.Step.{Step}
 use Rattle.p3_tree.specs.declared.task.Task.{Task}
-use Rattle.p3_types.specs.Finds.{IsFound}
 use Rattle.p3_types.specs.declared.finding.Found.{Found}
 use Rattle.p3_run.specs.Runs.{Ran}
-use Rattle.p3_eval.specs.Judged.{HasDone, NamesMisfitOfFound, TellsOfFound, fault_in}
+use Rattle.p3_eval.specs.Judged.{NamesMisfitOfFound, TellsOfFound, fault_in}
 use Rattle.p3_eval.specs.Runs.{BelongTogether}
 use Rattle.p3_eval.specs.declared.fault.PlanFault.{PlanFault}
-use Rattle.p3_eval.proofs.JudgeLaws.{fault_is_judged, still_together}
+use Rattle.p3_eval.proofs.JudgeLaws.{IsNext, next_faults}
 
 by_parts : (steps : Option Fault) (goal : Bool) (unmet : Option ℕ) (number : ℕ) (kind : Misfit)
     → option_or steps (option_or (if goal then None else Some AtGoal) (option_map AtConstraint unmet)) ≡ Some (AtStep number kind) → steps ≡ Some (AtStep number kind)
@@ -31,9 +29,8 @@ named T plan fault number None first is = absurd (cc)
 named T plan fault number (Some kind) first is = first_is_step T plan number kind (first ∙ is) ∙ sym is
 
 -- the step that was tried is the least one that does not fit
-pub step_faults : (T : Task) (before now : Ran) (all : BelongTogether T before.task before.weights) (plan : Plan) (place : ℕ) (step : Step) → place < length plan → step ≡ get_or plan place step
-    → HasDone T (take place plan) before now → (found : Found) (fault : PlanFault) → IsFound T step found → TellsOfFound now found (Some fault) → NamesMisfitOfFound now found (Some fault) → step_fault T plan ≡ Some (fault_in fault)
-step_faults T before now all plan place step within at has found fault is told names =
-    named T plan fault (length (take place plan) + 1) (misfit T (last_state (visited T (take place plan))) step)
-    (fault_is_judged T before now all plan place step within at has found fault now is told).fault
-    (names T (still_together T before now all (take place plan) has) (take place plan) has.numbers step is)
+pub step_faults : (T : Task) (plan : Plan) (now : Ran) (found : Found) → BelongTogether T now.task now.weights → IsNext T plan now found
+    → (fault : PlanFault) → TellsOfFound now found (Some fault) → NamesMisfitOfFound now found (Some fault) → step_fault T plan ≡ Some (fault_in fault)
+step_faults T plan now found together next fault told names =
+    named T plan fault (length next.front + 1) (misfit T (last_state (visited T next.front)) next.step) (next_faults T plan now found together next fault told)
+    (names T together next.front next.done next.asked next.step next.is)

@@ -1,8 +1,9 @@
 -- The numbers of preference names in a ground task are those of the names in the task for which it stands.
-use Rattle.std.proofs.Common.{◌≡◌, ◌∙◌, ℕ, zero, suc, refl, sym, ap, subst, true, false, List, [], ◌∷◌, Option, Some, None}
+use Rattle.std.proofs.Common.{◌≡◌, ◌∙◌, ℕ, zero, suc, refl, sym, ap, subst, true, false, List, [], ◌∷◌, ◌++◌, Option, Some, None}
 use Rattle.std.specs.Prelude.{option_and_then, position, slice_get, IsSomeAnd, MatchOption}
-use Rattle.std.specs.List.{AllZip}
+use Rattle.std.specs.List.{All, AllZip}
 use Rattle.std.proofs.lemmas.Bool.{and_parts, true≢false}
+use Rattle.std.proofs.lemmas.List.{append-nil}
 use Rattle.std.proofs.lemmas.Slice.Eq.{bytes_eq-Decides}
 use Rattle.std.proofs.lemmas.Slice.Zip.{AllZip-left, AllZip-right}
 use Rattle.p3_tree.specs.Constraints.{Instance, instances}
@@ -28,16 +29,17 @@ use Rattle.p3_formula.specs.declared.modal.GroundPref.{GroundPref}
 use Rattle.p3_formula.specs.declared.modal.GroundSoft.{GroundSoft}
 use Rattle.p3_formula.specs.declared.task.GroundStep.{GroundStep}
 use Rattle.p3_formula.specs.declared.task.GroundTask.{GroundTask}
-use Rattle.p3_types.specs.Finds.{IsFound}
 use Rattle.p3_types.specs.declared.finding.Found.{Found}
 use Rattle.p3_types.specs.declared.finding.Found.TheVariants.{Arguments, Number, UnknownAction}
-use Rattle.p3_ground.specs.PlansByNumber.{AreNumbers}
-use Rattle.p3_ground.specs.StandsFor.{IsMadeOf, PrefStands, SoftStands, StandsBy, number_of_name}
+use Rattle.p3_ground.specs.PlansByNumber.{AreAsked, AreNumbers}
+use Rattle.p3_ground.specs.StandsFor.{IsAsked, IsMadeOf, LeftOutAt, PrefStands, SoftStands, StandsBy, number_of_name}
+use Rattle.p3_ground.proofs.Asked.{those_are_asked}
 use Rattle.p3_ground.proofs.Mentioned.{instance_name_is_ordered, step_name_is_ordered}
 use Rattle.p3_ground.proofs.NameNumbers.{at_place, no_place}
 use Rattle.p3_ground.proofs.PlanNumbers.{has_numbers}
 use Rattle.p3_ground.proofs.Walk.{Met, begun, kept_where_fits, next_met}
-use Rattle.p3_explain.specs.Naming.{instance_number, name_numbered, number_by, own_number, pref_number}
+use Rattle.p3_eval.specs.Steps.{AreFirst, GoesOnAs, LacksNumber}
+use Rattle.p3_explain.specs.Naming.{instance_number, name_numbered, own_number, pref_number}
 
 -- the name of the number of a name that is one of the ordered ones
 named_by_number : (T : Task) (name : Option Name) → ((word : Name) → name ≡ Some word → Has (ordered_names T) word) → name_numbered T (number_of_name T name) ≡ name
@@ -63,6 +65,32 @@ zipped_names {A = A} {B = B} T Q xs ys name number zipped each k = by (slice_get
     by (Some x) None e left right = absurd left
     by (Some x) (Some y) e left right = each k x y e left
 
+-- a plan whose steps fit has no step without a number
+module _ (T : Task) (K : HasStepNumbers T) where
+  at_seam : (front rest : Plan) (step : Step) (numbers : GroundPlan) → AreNumbers T (front ++ step ∷ rest) numbers → (number : ℕ) × HasNumber T step number
+  at_seam [] rest step [] are = absurd are
+  at_seam [] rest step (number ∷ numbers) are = (number, are.0)
+  at_seam (first ∷ front) rest step [] are = absurd are
+  at_seam (first ∷ front) rest step (number ∷ numbers) are = at_seam front rest step numbers are.1
+
+  has_one : (step : Step) (number : ℕ) (found : Found) → HasNumber T step number → LacksNumber T step found → ⊥
+  has_one step number (Number n) has lacks = lacks
+  has_one step number UnknownAction has lacks = let named = sym (K.own number step has).named ∙ lacks in cc
+  has_one step number Arguments has lacks =
+      let own = K.own number step has in
+      let same = Some-injective own.action lacks.action (sym own.named ∙ lacks.named) in
+      true≢false (sym own.args ∙ ap (λ (action : Action). are_arguments T action.params step.args) same ∙ lacks.args)
+
+  all_numbered : (plan : Plan) (numbers : List ℕ) (next : Option Found) → AreFirst T plan numbers next → steps_fit T plan ≡ true → AreNumbers T plan numbers
+  all_numbered plan numbers next first fit = by next first.behind
+    where
+      by : (next : Option Found) → GoesOnAs T first.rest next → AreNumbers T plan numbers
+      by None ends = subst (λ list. AreNumbers T list numbers) (sym (first.parts ∙ ap (λ list. first.front ++ list) ends ∙ append-nil first.front)) first.are
+      by (Some found) (step, more, cuts, lacks) =
+          let (all, are) = has_numbers T K plan fit in
+          let (number, has) = at_seam first.front more step all (subst (λ list. AreNumbers T list all) (first.parts ∙ ap (λ list. first.front ++ list) cuts) are) in
+          absurd (has_one step number found has lacks)
+
 module _ (T : Task) (atoms : List Fact) (G : GroundTask) (S : StandsBy T atoms G) where
   pub instance_named : (k : ℕ) → name_numbered T (instance_number G k) ≡ instance_name T k
   instance_named k =
@@ -74,50 +102,28 @@ module _ (T : Task) (atoms : List Fact) (G : GroundTask) (S : StandsBy T atoms G
       zipped_names T (PrefStands T atoms) (step_prefs T step) made.prefs (λ (pref : StatePref). pref.name) (λ (own : GroundPref). own.name) is.prefs
       (λ i pref own at stands. ap (name_numbered T) stands.name ∙ named_by_number T pref.name (λ word e. step_name_is_ordered T step i pref word at e)) k
 
-  module _ (K : HasStepNumbers T) where
-    named_from : (plan : Plan) (numbers : GroundPlan) → AreNumbers T plan numbers → (s : named.State) (bits : State) → Met T atoms G S K s bits → fit_from T s plan ≡ true
-        → (k : ℕ) (step : Step) (number : ℕ) → slice_get plan k ≡ Some step → HasNumber T step number → (pref : ℕ) → name_numbered T (pref_number G number pref) ≡ pref_name T step pref
-    named_from [] numbers are s bits met fit k step number at has pref = absurd (cc)
-    named_from (first ∷ plan) [] are s bits met fit k step number at has pref = absurd are
-    named_from (first ∷ plan) (one ∷ numbers) (own, are) s bits met fit zero step number at has pref =
+  module _ (K : HasStepNumbers T) (pref : ℕ) where
+    named_from : (plan : Plan) (numbers : GroundPlan) → AreAsked T G plan numbers → (s : named.State) (bits : State) → Met T atoms G S K s bits → fit_from T s plan ≡ true
+        → (k : ℕ) (step : Step) (number : ℕ) → slice_get plan k ≡ Some step → IsAsked T G step number → name_numbered T (pref_number G number pref) ≡ pref_name T step pref
+    named_from [] numbers are s bits met fit k step number at has = absurd (cc)
+    named_from (first ∷ plan) [] are s bits met fit k step number at has = absurd are
+    named_from (first ∷ plan) (one ∷ numbers) (own, are) s bits met fit zero step number at has =
         let here = ap (fits T s) (sym (Some-injective first step at)) ∙ (and_parts _ _ fit).0 in
         kept_where_fits T atoms G S K (λ made. name_numbered T (option_and_then (own_number pref) made) ≡ pref_name T step pref) s bits number step met has here
         (λ made is. own_named step made is pref)
-    named_from (first ∷ plan) (one ∷ numbers) (own, are) s bits met fit (suc k) step number at has pref =
+    named_from (first ∷ plan) (one ∷ numbers) (own, are) s bits met fit (suc k) step number at has =
         let parts = and_parts _ _ fit in
-        named_from plan numbers are (state_after T s first) (state_by bits (step_of G one)) (next_met T atoms G S K s bits one first met own parts.0) parts.1 k step number at has pref
+        named_from plan numbers are (state_after T s first) (state_by bits (step_of G one)) (next_met T atoms G S K s bits one first met own parts.0) parts.1 k step number at has
 
     -- of a plan whose steps fit
-    pub step_named : (plan : Plan) → steps_fit T plan ≡ true → (k : ℕ) (step : Step) (number : ℕ) → slice_get plan k ≡ Some step → HasNumber T step number
-        → (pref : ℕ) → name_numbered T (pref_number G number pref) ≡ pref_name T step pref
-    step_named plan fit =
-        let (numbers, are) = has_numbers T K plan fit in
-        named_from plan numbers are (start T) G.initial (begun T atoms G S K) (sym (steps_fit-walk T plan) ∙ fit)
+    steps_named : (plan : Plan) (numbers : GroundPlan) → AreAsked T G plan numbers → steps_fit T plan ≡ true
+        → (k : ℕ) → name_numbered T (option_and_then (λ number. pref_number G number pref) (slice_get numbers k)) ≡ option_and_then (λ step. pref_name T step pref) (slice_get plan k)
+    steps_named plan numbers asked fit =
+        zipped_names T (IsAsked T G) plan numbers (λ step. pref_name T step pref) (λ number. pref_number G number pref) asked
+        (λ k step number at has. named_from plan numbers asked (start T) G.initial (begun T atoms G S K) (sym (steps_fit-walk T plan) ∙ fit) k step number at has)
 
-    -- each step of it is found by its number
-    found_by_number : (plan : Plan) → steps_fit T plan ≡ true → (k : ℕ) (step : Step) → slice_get plan k ≡ Some step → (found : Found) → IsFound T step found
-        → (number : ℕ) × (found ≡ Number number) × HasNumber T step number
-    found_by_number plan fit k step at found is =
-        let (numbers, are) = has_numbers T K plan fit in
-        by (slice_get plan k) at (slice_get numbers k) (AllZip-left (HasNumber T) plan numbers are k) found is
-      where
-        own_found : (number : ℕ) → HasNumber T step number → (found : Found) → IsFound T step found → (n : ℕ) × (found ≡ Number n) × HasNumber T step n
-        own_found number has (Number n) is = (n, refl, is)
-        own_found number has UnknownAction is = absurd (let named = sym (K.own number step has).named ∙ is in cc)
-        own_found number has Arguments is =
-            let own = K.own number step has in
-            let same = Some-injective own.action is.action (sym own.named ∙ is.named) in
-            absurd (true≢false (sym own.args ∙ ap (λ (action : Action). are_arguments T action.params step.args) same ∙ is.args))
-
-        by : (o : Option Step) → o ≡ Some step → (p : Option ℕ) → MatchOption o (Unit {0}) (λ x. IsSomeAnd p (HasNumber T x)) → (found : Found) → IsFound T step found
-            → (n : ℕ) × (found ≡ Number n) × HasNumber T step n
-        by None e p zipped = absurd (cc)
-        by (Some x) e None zipped = absurd zipped
-        by (Some x) e (Some number) zipped = own_found number (subst (λ s. HasNumber T s number) (Some-injective x step e) zipped)
-
-    -- what is found of a step of the plan gives the number of the name of its preference
-    pub found_named : (plan : Plan) → steps_fit T plan ≡ true → (k : ℕ) (step : Step) → slice_get plan k ≡ Some step → (found : Found) → IsFound T step found
-        → (pref : ℕ) → name_numbered T (number_by G found pref) ≡ pref_name T step pref
-    found_named plan fit k step at found is pref =
-        let (number, same, has) = found_by_number plan fit k step at found is in
-        ap (λ f. name_numbered T (number_by G f pref)) same ∙ step_named plan fit k step number at has pref
+    -- of the steps of one
+    pub first_named : (plan : Plan) (numbers : List ℕ) (next : Option Found) → AreFirst T plan numbers next → All (LeftOutAt T G) numbers → steps_fit T plan ≡ true
+        → (k : ℕ) → name_numbered T (option_and_then (λ number. pref_number G number pref) (slice_get numbers k)) ≡ option_and_then (λ step. pref_name T step pref) (slice_get plan k)
+    first_named plan numbers next first left fit =
+        steps_named plan numbers (those_are_asked T G plan numbers left (all_numbered T K plan numbers next first fit)) fit

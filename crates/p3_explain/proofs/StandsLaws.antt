@@ -36,7 +36,7 @@ use Rattle.p3_formula.specs.declared.modal.GroundPref.{GroundPref}
 use Rattle.p3_formula.specs.declared.modal.GroundSoft.{GroundSoft}
 use Rattle.p3_formula.specs.declared.task.GroundTask.{GroundTask}
 use Rattle.p3_ground.specs.StandsFor.{FormStands, HardStands, ModalStands, PrefStands, SoftStands, StandsBy}
-use Rattle.p3_ground.specs.PlansByNumber.{AreNumbers}
+use Rattle.p3_ground.specs.PlansByNumber.{AreAsked}
 use Rattle.p3_ground.proofs.Validity.{AreMet, are_met, same_modal, some_visited}
 use Rattle.p3_ground.proofs.Walk.{Met, begun, kept_where_fits, next_met, reached}
 use Rattle.p3_marks.specs.Reasons.{ground_reasons, ground_shown, is_false_in, move_reasons, pref_reason, soft_reasons, step_reasons, steps_reasons}
@@ -137,7 +137,7 @@ module _ (T : Task) (atoms : List Fact) (G : GroundTask) (S : StandsBy T atoms G
         by true rest = rest
         by false rest = ap (λ list. pref_reason step (from, y) ∷ list) rest
 
-  same_moves : (from : ℕ) (plan : Plan) (numbers : GroundPlan) → AreNumbers T plan numbers → (s : named.State) (bits : State) → Met T atoms G S K s bits → fit_from T s plan ≡ true
+  same_moves : (from : ℕ) (plan : Plan) (numbers : GroundPlan) → AreAsked T G plan numbers → (s : named.State) (bits : State) → Met T atoms G S K s bits → fit_from T s plan ≡ true
       → flat_map (told.move_reasons T) (enumerate_from from (moves_from T s plan)) ≡ flat_map (move_reasons G) (enumerate_from from (zip (visited_from G bits numbers) numbers))
   unfolding visited_from
   same_moves from [] [] e s bits m f = refl
@@ -151,7 +151,7 @@ module _ (T : Task) (atoms : List Fact) (G : GroundTask) (S : StandsBy T atoms G
 
   -- ---- all
 
-  pub reasons_alike : (plan : Plan) (numbers : GroundPlan) → AreNumbers T plan numbers → steps_fit T plan ≡ true → ground_reasons G numbers ≡ reasons T plan
+  pub reasons_alike : (plan : Plan) (numbers : GroundPlan) → AreAsked T G plan numbers → steps_fit T plan ≡ true → ground_reasons G numbers ≡ reasons T plan
   unfolding reasons ground_reasons steps_reasons visited
   reasons_alike plan numbers e f =
       let W = visited T plan in

@@ -1,10 +1,8 @@
 -- The numbers of the names of preferences in a ground task.
-use Rattle.std.specs.Prelude.{ℕ, Option, None, option_and_then, slice_get}
+use Rattle.std.specs.Prelude.{ℕ, List, Option, option_and_then, slice_get}
 use Rattle.p3_tree.specs.Names.{Name}
 use Rattle.p3_tree.specs.PreferenceNames.{ordered_names}
 use Rattle.p3_tree.specs.declared.task.Task.{Task}
-use Rattle.p3_types.specs.declared.finding.Found.{Found}
-use Rattle.p3_types.specs.declared.finding.Found.TheVariants.{Arguments, Number, UnknownAction}
 use Rattle.p3_formula.specs.GroundPlans.{step_of}
 use Rattle.p3_formula.specs.declared.modal.GroundPref.{GroundPref}
 use Rattle.p3_formula.specs.declared.modal.GroundSoft.{GroundSoft}
@@ -26,8 +24,6 @@ own_number pref step = option_and_then (λ (own : GroundPref). own.name) (slice_
 abbrev pub pref_number : GroundTask → ℕ → ℕ → Option ℕ
 pref_number G number pref = option_and_then (own_number pref) (step_of G number)
 
--- the same of what a step is found as
-abbrev pub number_by : GroundTask → Found → ℕ → Option ℕ
-number_by G (Number number) pref = pref_number G number pref
-number_by G UnknownAction pref = None
-number_by G Arguments pref = None
+-- the number of the name of a preference of the step at a place
+abbrev pub pref_number_at : GroundTask → List ℕ → ℕ → ℕ → Option ℕ
+pref_number_at G numbers place pref = option_and_then (λ number. pref_number G number pref) (slice_get numbers place)

@@ -1,8 +1,6 @@
 -- A run whose states were marked: what is known of the marks and of the false preferences of its steps.
 use Rattle.std.specs.Prelude.{◌≡◌, List, Option, None}
 use Rattle.p3_base.specs.declared.showing.Reason.{Reason}
-use Rattle.p3_tree.specs.Plans.{Plan}
-use Rattle.p3_tree.specs.declared.task.Task.{Task}
 use Rattle.p3_formula.specs.GroundPlans.{ground_visited, step_of}
 use Rattle.p3_formula.specs.declared.task.GroundStep.{GroundStep}
 use Rattle.p3_formula.specs.declared.task.GroundTask.{GroundTask}
@@ -11,7 +9,6 @@ use Rattle.p3_types.specs.declared.finding.Found.TheVariants.{Number, UnknownAct
 use Rattle.p3_marks.specs.Marked.{AreMarks, Marked}
 use Rattle.p3_marks.specs.Reasons.{steps_reasons}
 use Rattle.p3_run.specs.Runs.{Ran}
-use Rattle.p3_eval.specs.Judged.{HasDone}
 
 -- the marks are right of the states visited, and the reasons are those of the false preferences of the steps done
 pub record IsMarked (ran : Ran) (marks : Marked) (prefs : List Reason) : Type 0 where
@@ -23,8 +20,3 @@ abbrev pub kept_of : GroundTask → Found → Option GroundStep
 kept_of G (Number number) = step_of G number
 kept_of G UnknownAction = None
 kept_of G Arguments = None
-
--- the run has done the steps of the plan, and is marked
-pub record IsWalked (T : Task) (plan : Plan) (before now : Ran) (marks : Marked) (prefs : List Reason) : Type 0 where
-  pub done : HasDone T plan before now
-  pub marked : IsMarked now marks prefs

@@ -1,21 +1,24 @@
 //! Why a plan satisfies its constraints and preferences, or does not.
 
 ghost use Rattle.std.specs.Prelude.{◌≡◌, ◌+◌, ◌≤◌, ◌++◌, None, length, option_map, IfErr, IfOk, IsTrue, OnOk};
+ghost use Rattle.std.specs.List.{All};
 ghost use Rattle.p3_tree.specs.Explanations.{reasons};
 ghost use Rattle.p3_tree.specs.PlanTexts.{step_limit};
 ghost use Rattle.p3_tree.specs.Plans.{steps_fit};
 ghost use Rattle.p3_tree.specs.Validity.{first_fault, step_fault};
+ghost use Rattle.p3_ground.specs.StandsFor.{LeftOutAt};
 ghost use Rattle.p3_run.specs.Runs.{most_steps};
 ghost use Rattle.p3_marks.specs.Marked.{shown_all};
 ghost use Rattle.p3_eval.specs.Judged.{fault_in};
 ghost use Rattle.p3_eval.specs.Runs.{OfItsPlan};
+ghost use Rattle.p3_eval.specs.Steps.{OfSteps};
 ghost use Rattle.p3_explain.specs.Explaining.{IsExplainFail};
 ghost use Rattle.p3_explain.specs.Walked.{IsMarked};
 
 use crate::ExplainFail;
 use crate::walking::walk;
 use p3_base::{List, NoMemory, Reason};
-use p3_eval::{PlanFault, Run, Whole};
+use p3_eval::{Grounded, PlanFault, Run, Steps, Whole};
 use p3_formula::GroundTask;
 use p3_marks::Marks;
 use p3_tree::Plan;
@@ -42,41 +45,42 @@ pub fn explain(alloc: Global, whole: &Whole, plan: &Plan) -> Result<List<Reason>
     ensures fits { OnOk result (step_fault whole.now.checked.task plan.now ≡ None) }
     ensures fail { IfErr result (IsExplainFail whole.now.checked.task plan.now) }
 {
-    match explained(alloc, whole, plan) {
+    let steps = Steps::of_plan(alloc, whole.checked(), plan.items())?;
+    let grounded = whole.grounded();
+    match explain_steps(alloc, &grounded, &steps) {
         Ok(Explanation { fault: _, reasons }) => Ok(reasons),
         Err(fail) => Err(fail),
     }
 }
 
-/// Explains a plan whose steps fit, and judges it in the same run. A step costs about what it costs
+/// Explains steps that fit, and judges their plan in the same run. A step costs about what it costs
 /// to judge it, and what the operators that read its changes cost.
 ///
 /// # Errors
 ///
 /// The first step that does not fit. And want of memory.
-pub fn explained(alloc: Global, whole: &Whole, plan: &Plan) -> Result<Explanation, ExplainFail>
-    requires few { length plan.now ≤ step_limit }
-    ensures reasons { IfOk result
-        (λ found. found.reasons ≡ reasons whole.now.checked.task plan.now) }
-    ensures fault { IfOk result (λ found. first_fault whole.now.checked.task plan.now
-        ≡ option_map fault_in found.fault) }
-    ensures fit { OnOk result (IsTrue (steps_fit whole.now.checked.task plan.now)) }
-    ensures fits { OnOk result (step_fault whole.now.checked.task plan.now ≡ None) }
-    ensures fail { IfErr result (IsExplainFail whole.now.checked.task plan.now) }
+pub fn explain_steps(
+    alloc: Global,
+    grounded: &Grounded<'_>,
+    steps: &Steps,
+) -> Result<Explanation, ExplainFail>
+    requires asked { All (LeftOutAt grounded.now.checked.now.task grounded.now.ground_task.now)
+        steps.now.numbers.items }
+    ensures reasons { IfOk result (λ found. OfSteps grounded.now.checked.now.task steps.now
+        (λ plan. found.reasons ≡ reasons grounded.now.checked.now.task plan)) }
+    ensures fault { IfOk result (λ found. OfSteps grounded.now.checked.now.task steps.now
+        (λ plan. first_fault grounded.now.checked.now.task plan
+        ≡ option_map fault_in found.fault)) }
+    ensures fit { OnOk result (OfSteps grounded.now.checked.now.task steps.now
+        (λ plan. IsTrue (steps_fit grounded.now.checked.now.task plan))) }
+    ensures fail { IfErr result (λ fail. OfSteps grounded.now.checked.now.task steps.now
+        (λ plan. IsExplainFail grounded.now.checked.now.task plan fail)) }
 {
-    let task = whole.ground_task();
-    let steps = plan.items();
-    let mut run = whole.begin(alloc)?;
+    let task = grounded.ground_task();
+    let mut run = grounded.begin(alloc)?;
     let mut marks = Marks::open(alloc, task)?;
     let mut prefs = List::new(alloc);
-    match walk(
-        &mut run,
-        &mut marks,
-        &mut prefs,
-        task,
-        whole.checked(),
-        steps,
-    ) {
+    match walk(&mut run, &mut marks, &mut prefs, task, steps) {
         Ok(()) => {
             let reasons = gathered(alloc, &run, &marks, &prefs, task)?;
             let fault = run.judge();

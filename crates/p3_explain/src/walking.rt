@@ -3,26 +3,23 @@
 ghost use Rattle.std.specs.Prelude.{◌≡◌, ◌+◌, ◌<◌, ◌≤◌, ◌++◌, [], None, length, IfErr, IfOk, IsTrue, OnOk};
 ghost use Rattle.std.specs.List.{All, list_all};
 ghost use Rattle.std.specs.Option.{option_copied};
-ghost use Rattle.p3_tree.specs.Limits.{step_count};
-ghost use Rattle.p3_tree.specs.Sides.{step_count_limit};
 ghost use Rattle.p3_formula.specs.Targets.{is_sized_change};
 ghost use Rattle.p3_run.specs.Runs.{CanBeRun, ground_state, most_steps};
 ghost use Rattle.p3_run.specs.Steps.{HasBodyBelow, IsByNumber};
 ghost use Rattle.p3_marks.specs.Marked.{CanFollow, followed};
 ghost use Rattle.p3_marks.specs.Reasons.{pref_reasons};
-ghost use Rattle.p3_eval.specs.Judged.{NamesMisfitOfFound, TellsOfFound, ran_with};
-ghost use Rattle.p3_eval.specs.Runs.{BelongTogether};
+ghost use Rattle.p3_eval.specs.Judged.{HasDone, NamesMisfitOfFound, TellsOfFound, ran_with};
+ghost use Rattle.p3_eval.specs.Steps.{OfItsSteps};
 ghost use Rattle.p3_explain.specs.Explaining.{IsExplainFail};
-ghost use Rattle.p3_explain.specs.Walked.{IsMarked, IsWalked, kept_of};
+ghost use Rattle.p3_explain.specs.Walked.{IsMarked, kept_of};
 
 use crate::ExplainFail;
 use p3_base::{List, NoMemory, Reason};
-use p3_eval::{PlanFault, Run};
+use p3_eval::{PlanFault, Run, Steps};
 use p3_formula::{GroundStep, GroundTask};
 use p3_marks::{Marks, push_false_prefs};
 use p3_run::step_at;
-use p3_tree::Step;
-use p3_types::{Checked, Found};
+use p3_types::Found;
 
 /// The step that is found so, where it is kept.
 fn kept_step(task: &GroundTask, found: Found) -> Option<&GroundStep>
@@ -92,27 +89,33 @@ fn walk_step(
     }
 }
 
-/// Does the steps of a plan until one does not fit, and marks the operators.
+/// Does steps until one does not fit, and marks the operators.
 pub(crate) fn walk(
     run: &mut Run<'_>,
     marks: &mut Marks,
     prefs: &mut List<Reason>,
     task: &GroundTask,
-    checked: &Checked,
-    plan: &[Step],
+    steps: &Steps,
 ) -> Result<(), ExplainFail>
     requires task { task.now ≡ run.old.task }
-    requires together { BelongTogether checked.now.task run.old.task run.old.weights }
+    requires can { CanBeRun run.old.task run.old.weights }
     requires begun { run.old.plan ≡ [] }
-    requires few { length plan.now ≤ most_steps }
-    requires count { step_count checked.now.task ≤ step_count_limit }
     requires marked { IsMarked run.old marks.old prefs.old }
-    ensures walked { OnOk result
-        (IsWalked checked.now.task plan.now run.old run.new marks.new prefs.new) }
-    ensures fail { IfErr result (IsExplainFail checked.now.task plan.now) }
+    ensures task { OnOk result (task.now ≡ run.new.task) }
+    ensures few { OnOk result (length run.new.plan ≤ most_steps) }
+    ensures marked { OnOk result (IsMarked run.new marks.new prefs.new) }
+    ensures done { OnOk result
+        (OfItsSteps run.old steps.now (λ T plan. HasDone T plan run.old run.new)) }
+    ensures fail { IfErr result (λ fail.
+        OfItsSteps run.old steps.now (λ T plan. IsExplainFail T plan fail)) }
 {
-    for step in plan {
-        let found = checked.find(step);
+    for number in steps.numbers.as_slice() {
+        if let Some(fault) = walk_step(run, marks, prefs, task, Found::Number(*number))? {
+            return Err(ExplainFail::Fault(fault));
+        }
+    }
+    if let Some(found) = steps.rest {
+        // It has no number, so it does not fit.
         if let Some(fault) = walk_step(run, marks, prefs, task, found)? {
             return Err(ExplainFail::Fault(fault));
         }

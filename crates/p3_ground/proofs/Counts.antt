@@ -27,7 +27,7 @@ use Rattle.p3_formula.specs.declared.modal.GroundSoft.{GroundSoft}
 use Rattle.p3_formula.specs.declared.target.Weights.{Weights}
 use Rattle.p3_formula.specs.declared.task.GroundTask.{GroundTask}
 use Rattle.p3_ground.specs.StandsFor.{StandsBy, PrefStands, SoftStands}
-use Rattle.p3_ground.specs.PlansByNumber.{AreNumbers, CountsAgree, weighed_violations}
+use Rattle.p3_ground.specs.PlansByNumber.{AreAsked, CountsAgree, weighed_violations}
 use Rattle.p3_ground.proofs.NameNumbers.{same_called}
 use Rattle.p3_ground.proofs.Walk.{Met, reached, begun, kept_where_fits, sums_same, move_sums_same, AgreeWhereFits}
 use Rattle.p3_ground.proofs.Validity.{AreMet, are_met, same_modals, some_visited}
@@ -65,7 +65,7 @@ module _ (T : Task) (atoms : List Fact) (G : GroundTask) (S : StandsBy T atoms G
         kept_where_fits T atoms G S K (λ o. false_in T s name (step_prefs T step) ≡ false_prefs bits k o) s bits number step m e f
         (λ made is. same_false s bits m _ made.prefs is.prefs)
 
-    counts_alike : (plan : Plan) (numbers : GroundPlan) → AreNumbers T plan numbers → steps_fit T plan ≡ true → violated T plan name ≡ ground_violated G numbers k
+    counts_alike : (plan : Plan) (numbers : GroundPlan) → AreAsked T G plan numbers → steps_fit T plan ≡ true → violated T plan name ≡ ground_violated G numbers k
     unfolding violated ground_violated visited
     counts_alike plan numbers e f = λ i.
         same_unsatisfied (visited T plan) (ground_visited G numbers) (are_met T atoms G S K plan numbers e f) (some_visited T atoms G S K (start T) plan) (instances T) G.soft S.soft i
@@ -79,12 +79,12 @@ module _ (T : Task) (atoms : List Fact) (G : GroundTask) (S : StandsBy T atoms G
       kept_where_fits T atoms G S K (λ o. unwrap_or (step_cost T step) 0 ≡ cost_by o) s bits number step m e f
       (λ made is. ap (λ c. unwrap_or c 0) (sym is.cost))
 
-  costs_alike : (plan : Plan) (numbers : GroundPlan) → AreNumbers T plan numbers → steps_fit T plan ≡ true → cost T plan ≡ initial_cost T + ground_cost G numbers
+  costs_alike : (plan : Plan) (numbers : GroundPlan) → AreAsked T G plan numbers → steps_fit T plan ≡ true → cost T plan ≡ initial_cost T + ground_cost G numbers
   unfolding cost ground_cost
   costs_alike plan numbers e f = ap (λ n. initial_cost T + n)
       (sums_same T atoms G S K (λ step. unwrap_or (step_cost T step) 0) (λ number. cost_by (step_of G number)) same_costs plan numbers e (start T) G.initial (begun T atoms G S K) (sym (steps_fit-walk T plan) ∙ f))
 
-  pub counts_agree : (plan : Plan) (numbers : GroundPlan) → AreNumbers T plan numbers → steps_fit T plan ≡ true → CountsAgree T G plan numbers
+  pub counts_agree : (plan : Plan) (numbers : GroundPlan) → AreAsked T G plan numbers → steps_fit T plan ≡ true → CountsAgree T G plan numbers
   counts_agree plan numbers e f = record { counts = λ k name at. counts_alike k name at plan numbers e f; costs = costs_alike plan numbers e f }
 
   -- ---- the loss
@@ -97,7 +97,7 @@ module _ (T : Task) (atoms : List Fact) (G : GroundTask) (S : StandsBy T atoms G
       ∙ (λ i. slice_index_or by_name from 0 * same from (omega arith) i + same_weighed by_name first second (from + 1) count (λ k lt. same k (omega (arith, lt))) i)
       ∙ sym (sum_by-cons (λ k. slice_index_or by_name k 0 * second k) from (range_with_len (from + 1) count))
 
-  pub losses_alike : (weights : Weights) → length weights.by_name ≡ length (ordered_names T) → (plan : Plan) (numbers : GroundPlan) → AreNumbers T plan numbers → steps_fit T plan ≡ true
+  pub losses_alike : (weights : Weights) → length weights.by_name ≡ length (ordered_names T) → (plan : Plan) (numbers : GroundPlan) → AreAsked T G plan numbers → steps_fit T plan ≡ true
       → ground_loss G weights numbers ≡ weights.total_cost * ground_cost G numbers + weighed_violations T weights.by_name plan
   unfolding ground_loss
   losses_alike weights long plan numbers e f = sym (ap (λ n. weights.total_cost * ground_cost G numbers + n)

@@ -30,7 +30,7 @@ use Rattle.p3_formula.specs.declared.target.Weights.{Weights}
 use Rattle.p3_formula.specs.declared.task.GroundStep.{GroundStep}
 use Rattle.p3_formula.specs.declared.task.GroundTask.{GroundTask}
 use Rattle.p3_ground.specs.StandsFor.{StandsBy, PrefStands, IsMadeOf, number_of_name}
-use Rattle.p3_ground.specs.PlansByNumber.{AreNumbers, HasNameWeights}
+use Rattle.p3_ground.specs.PlansByNumber.{AreAsked, HasNameWeights}
 use Rattle.p3_ground.proofs.Mentioned.{step_name_is_ordered}
 use Rattle.p3_ground.proofs.NameNumbers.{no_place, at_place}
 use Rattle.p3_ground.proofs.Walk.{begun, kept_where_fits, sums_same, AgreeWhereFits}
@@ -109,9 +109,9 @@ module _ (T : Task) where
       step_extra : AgreeWhereFits T atoms G S K (λ s bits number step. extra_by T (action_named T step.action) ≡ weighted.extra_by w.by_name (step_of G number))
       step_extra s bits number step m e f =
           kept_where_fits T atoms G S K (λ o. extra_by T (action_named T step.action) ≡ weighted.extra_by w.by_name o) s bits number step m e f
-          (λ made is. made_extra number step made e is)
+          (λ made is. made_extra number step made e.0 is)
 
-      pub extras_alike : (plan : Plan) (numbers : GroundPlan) → AreNumbers T plan numbers → steps_fit T plan ≡ true → extra T plan ≡ ground_extra G w numbers
+      pub extras_alike : (plan : Plan) (numbers : GroundPlan) → AreAsked T G plan numbers → steps_fit T plan ≡ true → extra T plan ≡ ground_extra G w numbers
       unfolding extra ground_extra
       extras_alike plan numbers e f =
           sums_same T atoms G S K (λ (step : Step). extra_by T (action_named T step.action)) (λ number. weighted.extra_by w.by_name (step_of G number)) step_extra

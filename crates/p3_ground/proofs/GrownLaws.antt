@@ -1,5 +1,5 @@
 -- How sets of atoms grow by what steps may add.
-use Rattle.std.proofs.Common.{◌≡◌, ◌∙◌, ℕ, zero, suc, ◌+◌, ◌<◌, Bool, true, false, not, ◌&&◌, ◌||◌, List, [], ◌∷◌, length, take, set, get_or, refl, sym, ap}
+use Rattle.std.proofs.Common.{◌≡◌, ◌∙◌, ℕ, zero, suc, ◌+◌, ◌<◌, Bool, true, ◌&&◌, List, [], ◌∷◌, length, take, set, get_or, sym, ap}
 use Rattle.std.specs.List.{list_all}
 use Rattle.std.proofs.lemmas.Bool.{and_parts}
 use Rattle.std.proofs.lemmas.List.{length-set}
@@ -8,7 +8,7 @@ use Rattle.p3_formula.specs.Forms.{State, is_set}
 use Rattle.p3_formula.specs.declared.form.Change.{Change}
 use Rattle.p3_formula.specs.declared.task.GroundStep.{GroundStep}
 use Rattle.p3_ground.specs.May.{may_hold}
-use Rattle.p3_ground.specs.Closed.{IsWithin, change_keeps, step_keeps}
+use Rattle.p3_ground.specs.Closed.{change_keeps, step_keeps}
 use Rattle.p3_ground.specs.Grown.{IsGrown}
 use Rattle.p3_ground.proofs.FoundLaws.{set_grows}
 use Rattle.p3_ground.proofs.MayGrows.{hold-grows}

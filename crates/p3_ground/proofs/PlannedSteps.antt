@@ -1,12 +1,12 @@
--- The ground steps that are made of the planned steps of a task are all that may begin.
-use Rattle.std.proofs.Common.{◌≡◌, ◌∙◌, ℕ, ◌+◌, ◌<◌, ◌≤◌, ◌≢◌, ◌==◌, nat_lt, Bool, true, false, ◌&&◌, cond, List, [], ◌∷◌, ◌++◌, map, length, take, slice_get, Some, is_some, refl, sym, ap, subst, arith, zero, suc, true≢false}
-use Rattle.std.specs.Prelude.{filter, find, sum}
+-- The ground steps that are made of the wanted steps of a task are all of them that may begin.
+use Rattle.std.proofs.Common.{◌≡◌, ◌∙◌, ℕ, ◌+◌, ◌<◌, ◌≤◌, ◌≢◌, ◌==◌, nat_lt, Bool, true, false, ◌&&◌, cond, List, [], ◌∷◌, ◌++◌, map, length, take, slice_get, get_or, Option, Some, None, is_some, refl, sym, ap, subst, arith, zero, suc, true≢false}
+use Rattle.std.specs.Prelude.{filter, find, sum, Contains}
 use Rattle.std.specs.List.{All, range_with_len}
 use Rattle.std.proofs.lemmas.Bool.{and_parts, and_from, lt-ltb}
 use Rattle.std.proofs.lemmas.Bool.Decides.{Decides-eqb, nat_tests}
-use Rattle.std.proofs.lemmas.List.{map-append}
-use Rattle.std.proofs.lemmas.List.Elements.{All-nil, All-cons, All-head, All-tail, All-append, All-map, All-weaker}
-use Rattle.std.proofs.lemmas.List.Folds.{list_all-append}
+use Rattle.std.proofs.lemmas.List.{get_or_default, map-append}
+use Rattle.std.proofs.lemmas.List.Elements.{All-nil, All-cons, All-head, All-tail, All-append, All-filter, All-map, All-weaker, filter_passes}
+use Rattle.std.proofs.lemmas.List.Folds.{Any-from_list_any, list_all-append, list_any_at}
 use Rattle.std.proofs.lemmas.List.Sums.{sum_by-cons}
 use Rattle.p3_tree.specs.Costs.{cost_places}
 use Rattle.p3_tree.specs.Lifting.{steps}
@@ -34,10 +34,10 @@ use Rattle.p3_expansion.specs.declared.statics.Statics.{Statics}
 use Rattle.p3_expansion.proofs.NamedReads.{reads-named}
 use Rattle.p3_steps.specs.Possible.{may_begin}
 use Rattle.p3_steps.specs.Candidates.{candidates_of}
-use Rattle.p3_steps.specs.Steps.{PlannedStep, StepIsMade, StepsAreMade, action_steps, all_atoms, count_of_steps, planned_step, planned_steps, step_atoms, steps_from}
+use Rattle.p3_steps.specs.Steps.{PlannedStep, StepIsMade, StepsAreMade, action_steps, all_atoms, count_of_steps, planned_step, planned_steps, step_atoms, steps_from, is_among, planned_among}
 use Rattle.p3_ground.specs.Expanded.{AreExpanded, IsAtChoice, IsKept, OfExpanded, choice_of, step_of as step_at, steps_before}
-use Rattle.p3_ground.specs.Grounding.{KeepsWhatMayBegin, MayBegin}
-use Rattle.p3_ground.specs.Planned.{PlannedStepsAreAll, PlannedStepsReadNames, StepsAreCounted}
+use Rattle.p3_ground.specs.Grounding.{KeepsAt, MayBegin}
+use Rattle.p3_ground.specs.Planned.{IsWanted, PlannedStepsAreAll, PlannedStepsReadNames, StepsAreCounted, wanted_steps}
 use Rattle.p3_ground.specs.StepParts.{IsKnownWhole}
 use Rattle.p3_ground.proofs.StepChoices.{parameters-known, steps-are-at-choices}
 use Rattle.p3_ground.proofs.StepParts.{steps-cost-alike}
@@ -71,10 +71,10 @@ range-has from (suc len) n low high = by (from == n) refl (λ above. range-has (
         let found = rest (omega (arith, low, apart)) in
         (suc found.0, found.1)
 
-filter-has : (test : ℕ → Bool) (xs : List ℕ) (k x : ℕ) → slice_get xs k ≡ Some x → test x ≡ true → Has (filter test xs) x
+filter-has : {A : Type 0} (test : A → Bool) (xs : List A) (k : ℕ) (x : A) → slice_get xs k ≡ Some x → test x ≡ true → Has (filter test xs) x
 filter-has test [] k x at passes = absurd (cc)
 filter-has test (y ∷ xs) zero x at passes = subst (λ t. Has (cond t (y ∷ filter test xs) (filter test xs)) x) (sym (ap test (Some-injective y x at) ∙ passes)) (0, at)
-filter-has test (y ∷ xs) (suc k) x at passes = by (test y) (filter-has test xs k x at passes)
+filter-has {A = A} test (y ∷ xs) (suc k) x at passes = by (test y) (filter-has test xs k x at passes)
   where
     by : (t : Bool) → Has (filter test xs) x → Has (cond t (y ∷ filter test xs) (filter test xs)) x
     by true found = (suc found.0, found.1)
@@ -88,6 +88,14 @@ find-some test (y ∷ xs) (suc k) x at passes = by (test y) (find-some test xs k
     by : (t : Bool) → is_some (find test xs) ≡ true → is_some (cond t (Some y) (find test xs)) ≡ true
     by true rest = refl
     by false rest = rest
+
+among : (those : List ℕ) (number : ℕ) → Contains those number → is_among those number ≡ true
+among those number (k, within, at) = list_any_at (λ one. one == number) those k number within ((Decides-eqb (get_or those k number) number).1 at)
+
+contained : (those : List ℕ) (number : ℕ) → is_among those number ≡ true → Contains those number
+contained those number is =
+    let (k, one, within, at, same) = Any-from_list_any (λ one. one == number) those is in
+    (k, within, get_or_default those k number one within ∙ at ∙ (Decides-eqb one number).0 same)
 
 from-test : (a b : ℕ) → nat_lt a b ≡ true → a < b
 from-test a b test = grind (arith, nat_tests)
@@ -104,6 +112,18 @@ rise-lower low high count (number ∷ numbers) less up =
     let more = and_parts (nat_lt number count) (nat_lt high (number + 1)) parts.0 in
     let above : high < number + 1 = from-test high (number + 1) more.1 in
     and_from (nat_lt number count && nat_lt low (number + 1)) (rise (number + 1) count numbers) (and_from (nat_lt number count) (nat_lt low (number + 1)) more.0 (lt-ltb low (number + 1) (omega (arith, less, above)))) parts.1
+
+rise-filter : {A : Type 0} (number_of : A → ℕ) (test : A → Bool) (low count : ℕ) (xs : List A) → rise low count (map number_of xs) ≡ true → rise low count (map number_of (filter test xs)) ≡ true
+rise-filter number_of test low count [] up = refl
+rise-filter number_of test low count (x ∷ xs) up =
+    let parts = and_parts (nat_lt (number_of x) count && nat_lt low (number_of x + 1)) (rise (number_of x + 1) count (map number_of xs)) up in
+    by (test x) parts.0 (rise-filter number_of test (number_of x + 1) count xs parts.1)
+  where
+    by : (t : Bool) → (nat_lt (number_of x) count && nat_lt low (number_of x + 1)) ≡ true → rise (number_of x + 1) count (map number_of (filter test xs)) ≡ true → rise low count (map number_of (cond t (x ∷ filter test xs) (filter test xs))) ≡ true
+    by true here later = and_from (nat_lt (number_of x) count && nat_lt low (number_of x + 1)) (rise (number_of x + 1) count (map number_of (filter test xs))) here later
+    by false here later =
+        let above : low < number_of x + 1 = from-test low (number_of x + 1) (and_parts (nat_lt (number_of x) count) (nat_lt low (number_of x + 1)) here).1 in
+        rise-lower low (number_of x + 1) count (map number_of (filter test xs)) (omega (arith, above)) later
 
 rise-append : (low mid count : ℕ) (first second : List ℕ) → low ≤ mid → mid ≤ count → rise low mid first ≡ true → rise mid count second ≡ true → rise low count (first ++ second) ≡ true
 rise-append low mid count [] second less within up more = rise-lower low mid count second less more
@@ -261,8 +281,12 @@ module _ (T : Task) (X : NumberedTask) (S : Statics) (well : WellFormed T) (numb
   at-choice : (planned : PlannedStep) (origin : Origin T X S planned) → IsAtChoice T X.numbers origin.place origin.action origin.rest
   at-choice planned origin = steps-are-at-choices T X origin.place origin.rest origin.action well numbered origin.here origin.within
 
-  all-origins : All (Origin T X S) (planned_steps X S)
-  all-origins = subst (λ actions. All (Origin T X S) (steps_from X.numbers S 0 actions)) (sym numbered.actions) (origins T X S T.domain.actions 0 (λ k action at. subst (λ n. slice_get T.domain.actions n ≡ Some action) (omega arith) at))
+  planned-origins : All (Origin T X S) (planned_steps X S)
+  planned-origins = subst (λ actions. All (Origin T X S) (steps_from X.numbers S 0 actions)) (sym numbered.actions) (origins T X S T.domain.actions 0 (λ k action at. subst (λ n. slice_get T.domain.actions n ≡ Some action) (omega arith) at))
+
+  all-origins : (wanted : Option (List ℕ)) → All (Origin T X S) (wanted_steps X S wanted)
+  all-origins None = planned-origins
+  all-origins (Some those) = All-filter (λ (one : PlannedStep). is_among those one.number) (Origin T X S) (planned_steps X S) planned-origins
 
   -- ---- names
 
@@ -284,8 +308,8 @@ module _ (T : Task) (X : NumberedTask) (S : Statics) (well : WellFormed T) (numb
       list_all-append (is_named X.numbers) (step_atoms X.numbers one) (all_atoms X.numbers planned)
       ∙ and_from (are_named X.numbers (step_atoms X.numbers one)) _ (step-named one (All-head (Origin T X S) one planned all)) (steps-named planned (All-tail (Origin T X S) one planned all))
 
-  planned-named : are_named X.numbers (all_atoms X.numbers (planned_steps X S)) ≡ true
-  planned-named = steps-named (planned_steps X S) all-origins
+  planned-named : (wanted : Option (List ℕ)) → are_named X.numbers (all_atoms X.numbers (wanted_steps X S wanted)) ≡ true
+  planned-named wanted = steps-named (wanted_steps X S wanted) (all-origins wanted)
 
   -- ---- counts
 
@@ -327,51 +351,76 @@ module _ (T : Task) (X : NumberedTask) (S : Statics) (atoms : List GroundAtom) (
       let kept = one-kept planned made origin stands in
       record { action = kept.action; slots = kept.slots; step = kept.step; number = kept.number; at = kept.at; may = origin.may }
 
-  all-kept : (planned : List PlannedStep) (made : List GroundStep) → All (Origin T X S) planned → StepsAreMade X S (cost_places T) atoms planned made → All (IsKept T X S atoms) made
-  all-kept [] [] from all = All-nil (IsKept T X S atoms)
-  all-kept [] (step ∷ made) from all = absurd all
-  all-kept (one ∷ planned) [] from all = absurd all
-  all-kept (one ∷ planned) (step ∷ made) from all =
-      All-cons (IsKept T X S atoms) step made (one-kept one step (All-head (Origin T X S) one planned from) all.0) (all-kept planned made (All-tail (Origin T X S) one planned from) all.1)
+  -- what each planned step tells of the one that is made of it is so of all
+  of-all : (Tells : PlannedStep → Type 0) (Says : GroundStep → Type 0) → ((one : PlannedStep) (made : GroundStep) → Tells one → StepIsMade X S (cost_places T) atoms one made → Says made)
+      → (planned : List PlannedStep) (made : List GroundStep) → All Tells planned → StepsAreMade X S (cost_places T) atoms planned made → All Says made
+  of-all Tells Says each [] [] from all = All-nil Says
+  of-all Tells Says each [] (step ∷ made) from all = absurd all
+  of-all Tells Says each (one ∷ planned) [] from all = absurd all
+  of-all Tells Says each (one ∷ planned) (step ∷ made) from all =
+      All-cons Says step made (each one step (All-head Tells one planned from) all.0) (of-all Tells Says each planned made (All-tail Tells one planned from) all.1)
 
-  all-may : (planned : List PlannedStep) (made : List GroundStep) → All (Origin T X S) planned → StepsAreMade X S (cost_places T) atoms planned made → All (MayBegin T X S) made
-  all-may [] [] from all = All-nil (MayBegin T X S)
-  all-may [] (step ∷ made) from all = absurd all
-  all-may (one ∷ planned) [] from all = absurd all
-  all-may (one ∷ planned) (step ∷ made) from all =
-      All-cons (MayBegin T X S) step made (one-may one step (All-head (Origin T X S) one planned from) all.0) (all-may planned made (All-tail (Origin T X S) one planned from) all.1)
+  -- ---- the wanted steps
 
-  keeps : (made : List GroundStep) → StepsAreMade X S (cost_places T) atoms (planned_steps X S) made → (G : GroundTask) → G.steps ≡ made → KeepsWhatMayBegin T X S G
-  keeps made all G is place number action here low may =
-      let one = planned_step (numbered_action X.numbers action) (steps_before X.numbers T place) number in
-      let found : Has (planned_steps X S) one =
-      subst (λ actions. Has (steps_from X.numbers S 0 actions) one) (sym ex.numbered.actions)
+  planned-rise : rise 0 (length (steps T)) (map (λ (one : PlannedStep). one.number) (planned_steps X S)) ≡ true
+  planned-rise =
+      ap (λ n. rise 0 n (map (λ (one : PlannedStep). one.number) (planned_steps X S))) (sym (counted T X S ex.well ex.numbered))
+      ∙ ap (λ actions. rise 0 (count_of_steps X.numbers actions) (map (λ (one : PlannedStep). one.number) (steps_from X.numbers S 0 actions))) ex.numbered.actions
+      ∙ subst (λ n. rise 0 n (map (λ (one : PlannedStep). one.number) (planned_from T X S 0 T.domain.actions)) ≡ true) (omega arith) (numbers-rise T X S T.domain.actions 0)
+
+  wanted-rise : (wanted : Option (List ℕ)) → rise 0 (length (steps T)) (map (λ (one : PlannedStep). one.number) (wanted_steps X S wanted)) ≡ true
+  wanted-rise None = planned-rise
+  wanted-rise (Some those) = rise-filter (λ (one : PlannedStep). one.number) (λ (one : PlannedStep). is_among those one.number) 0 (length (steps T)) (planned_steps X S) planned-rise
+
+  only-wanted : (wanted : Option (List ℕ)) → All (λ (one : PlannedStep). IsWanted wanted one.number) (wanted_steps X S wanted)
+  only-wanted None = λ k d within. tt
+  only-wanted (Some those) =
+      All-weaker (λ (one : PlannedStep). is_among those one.number ≡ true) (λ (one : PlannedStep). Contains those one.number) (λ one. contained those one.number) (planned_among X S those)
+      (filter_passes (λ (one : PlannedStep). is_among those one.number) (planned_steps X S))
+
+  abbrev step_there : ℕ → ℕ → Action → PlannedStep
+  step_there place rest action = planned_step (numbered_action X.numbers action) (steps_before X.numbers T place) rest
+
+  planned-there : (place rest : ℕ) (action : Action) → slice_get T.domain.actions place ≡ Some action → rest < count_at T X S action → may_begin X.numbers S (choice_of X.numbers action rest) (numbered_action X.numbers action).pre ≡ true
+      → Has (planned_steps X S) (step_there place rest action)
+  planned-there place rest action here low may =
+      subst (λ actions. Has (steps_from X.numbers S 0 actions) (step_there place rest action)) (sym ex.numbered.actions)
       (
-      subst (λ n. Has (steps_from X.numbers S 0 (map (numbered_action X.numbers) T.domain.actions)) (planned_step (numbered_action X.numbers action) (steps_before X.numbers T n) number)) (omega arith)
-      (planned-has T X S T.domain.actions 0 place action number (λ k action at. subst (λ n. slice_get T.domain.actions n ≡ Some action) (omega arith) at) here low may)
+      subst (λ n. Has (steps_from X.numbers S 0 (map (numbered_action X.numbers) T.domain.actions)) (step_there n rest action)) (omega arith)
+      (planned-has T X S T.domain.actions 0 place action rest (λ k action at. subst (λ n. slice_get T.domain.actions n ≡ Some action) (omega arith) at) here low may)
       )
-      in
-      let (step, at, same) = made-at T X S (cost_places T) atoms (planned_steps X S) made all found.0 one found.1 in
-      ap (λ steps. is_some (find (λ (step : GroundStep). step.number == steps_before X.numbers T place + number) steps)) is
-      ∙ find-some (λ (step : GroundStep). step.number == steps_before X.numbers T place + number) made found.0 step at ((Decides-eqb step.number (steps_before X.numbers T place + number)).1 same)
+
+  wanted-there : (wanted : Option (List ℕ)) (place rest : ℕ) (action : Action) → IsWanted wanted (steps_before X.numbers T place + rest) → Has (planned_steps X S) (step_there place rest action) → Has (wanted_steps X S wanted) (step_there place rest action)
+  wanted-there None place rest action want found = found
+  wanted-there (Some those) place rest action want found =
+      filter-has (λ (one : PlannedStep). is_among those one.number) (planned_steps X S) found.0 (step_there place rest action) found.1 (among those (steps_before X.numbers T place + rest) want)
+
+  keeps : (wanted : Option (List ℕ)) (made : List GroundStep) → StepsAreMade X S (cost_places T) atoms (wanted_steps X S wanted) made → (G : GroundTask) → G.steps ≡ made → (number : ℕ) → IsWanted wanted number → KeepsAt T X S G number
+  keeps wanted made all G is number want place rest action here low at may =
+      let found = wanted-there wanted place rest action (subst (IsWanted wanted) (sym at) want) (planned-there place rest action here low may) in
+      let (step, there, same) = made-at T X S (cost_places T) atoms (wanted_steps X S wanted) made all found.0 (step_there place rest action) found.1 in
+      ap (λ steps. is_some (find (λ (step : GroundStep). step.number == number) steps)) is
+      ∙ find-some (λ (step : GroundStep). step.number == number) made found.0 step there ((Decides-eqb step.number number).1 (same ∙ at))
 
   planned-are-all : PlannedStepsAreAll T X S atoms
-  planned-are-all made all = record {
-    kept = all-kept (planned_steps X S) made (all-origins T X S ex.well ex.numbered) all;
-    may = all-may (planned_steps X S) made (all-origins T X S ex.well ex.numbered) all;
-    rising =
-        made-rise T X S (cost_places T) atoms 0 (length (steps T)) (planned_steps X S) made all
-        ∙ ap (λ n. rise 0 n (map (λ (planned : PlannedStep). planned.number) (planned_steps X S))) (sym (counted T X S ex.well ex.numbered))
-        ∙ ap (λ actions. rise 0 (count_of_steps X.numbers actions) (map (λ (planned : PlannedStep). planned.number) (steps_from X.numbers S 0 actions))) ex.numbered.actions
-        ∙ subst (λ n. rise 0 n (map (λ (planned : PlannedStep). planned.number) (planned_from T X S 0 T.domain.actions)) ≡ true) (omega arith) (numbers-rise T X S T.domain.actions 0);
-    whole = keeps made all;
-  }
+  planned-are-all wanted made all =
+      let planned = wanted_steps X S wanted in
+      let origins = all-origins T X S ex.well ex.numbered wanted in
+      record {
+        kept = of-all (Origin T X S) (IsKept T X S atoms) one-kept planned made origins all;
+        may = of-all (Origin T X S) (MayBegin T X S) one-may planned made origins all;
+        only =
+            of-all (λ (one : PlannedStep). IsWanted wanted one.number) (λ (step : GroundStep). IsWanted wanted step.number) (λ one made want stands. subst (IsWanted wanted) (sym stands.number) want) planned made
+            (only-wanted wanted) all;
+        rising = made-rise T X S (cost_places T) atoms 0 (length (steps T)) planned made all ∙ wanted-rise wanted;
+        whole = keeps wanted made all;
+      }
 
 pub planned-steps-are-all : OfExpanded PlannedStepsAreAll
 planned-steps-are-all = planned-are-all
 
 pub planned-steps-read-names : PlannedStepsReadNames
-planned-steps-read-names = planned-named
+planned-steps-read-names T X S wanted well numbered = planned-named T X S well numbered wanted
 
 pub steps-are-counted : StepsAreCounted
 steps-are-counted T X well numbered = counted T X (record { changed = []; facts = [] }) well numbered

@@ -73,9 +73,33 @@ rises-filter p from count (step ∷ steps) h = by (p step) (rises-filter p (step
     by true rest = and_from _ _ parts.0 rest
     by false rest = rises-from from (step.number + 1) count (filter p steps) low rest
 
+-- ---- the steps that are left are those of the task
+
+module _ (T : Task) (atoms : List Fact) (G : GroundTask) (set : State) (S : StandsBy T atoms G) where
+  pub pruned_stands : StandsBy T atoms (pruned set G)
+  pruned_stands = record {
+    count = S.count;
+    different = S.different;
+    below = record {
+      steps = list_all-filter (λ (made : GroundStep). may_hold set made.pre) (is_step_below G.atoms) G.steps S.below.steps;
+      goal = S.below.goal;
+      hard = S.below.hard;
+      soft = S.below.soft;
+    };
+    initial = S.initial;
+    initial_cost = S.initial_cost;
+    step_count = S.step_count;
+    rising = rises-filter (λ (made : GroundStep). may_hold set made.pre) 0 G.step_count G.steps S.rising;
+    kept = All-filter (λ (made : GroundStep). may_hold set made.pre) (StepStands T atoms) G.steps S.kept;
+    goal = S.goal;
+    hard = S.hard;
+    soft = S.soft;
+    name_count = S.name_count;
+  }
+
 -- ---- reached states have bits that the steps lead to
 
-module _ (T : Task) (atoms : List Fact) (G : GroundTask) (S : StandsBy T atoms G) (K : HasStepNumbers T) where
+module _ (T : Task) (atoms : List Fact) (G : GroundTask) (S : StandsBy T atoms G) (left_out : LeavesOutOnlyUnfit T G) (K : HasStepNumbers T) where
   -- bits that steps of the ground task lead to, matched with the state
   record Led (s : named.State) : Type 0 where
     pub bits : State
@@ -85,12 +109,12 @@ module _ (T : Task) (atoms : List Fact) (G : GroundTask) (S : StandsBy T atoms G
   led_further : (s : named.State) (step : Step) → Led s → fits T s step ≡ true → Led (state_after T s step)
   led_further s step led f =
       let (number, at) = K.found step (fitting_own T s step f) in
-      let (made, found, own) = kept_at T atoms G S K s led.bits number step led.met at f in
+      let (made, found, own) = kept_at T atoms G S K s led.bits number step led.met (at, left_out number) f in
       let is = made_of T atoms G S K number step made at found in
       let begins = (and_parts (can_begin T s step) (is_some (step_cost T step)) (sym (fits_is T atoms G S K s number step at) ∙ f)).0 in
       record {
         bits = after led.bits made.effects;
-        met = subst (λ o. Met T atoms G S K (state_after T s step) (state_by led.bits o)) found (next_met T atoms G S K s led.bits number step led.met at f);
+        met = subst (λ o. Met T atoms G S K (state_after T s step) (state_by led.bits o)) found (next_met T atoms G S K s led.bits number step led.met (at, left_out number) f);
         reach = Further led.bits (after led.bits made.effects) made led.reach own (is.pre s led.bits (reached T atoms G S K s led.bits led.met) led.met.matched ∙ begins) refl;
       }
 
@@ -129,31 +153,9 @@ module _ (T : Task) (atoms : List Fact) (G : GroundTask) (S : StandsBy T atoms G
         sym (is.pre s led.bits r led.matched)
         ∙ false_from_ne_true (truth led.bits made.pre) (λ holds. true≢false (sym (truth-may led.bits set (reach.reached G set closed led.bits led.reach) made.pre holds) ∙ out))
 
-    leaves_out : LeavesOutOnlyUnfit T (pruned set G)
-    leaves_out number step at none s r = by (step_of G number) refl
+    pub pruned_leaves_out : LeavesOutOnlyUnfit T (pruned set G)
+    pruned_leaves_out number step at none s r = by (step_of G number) refl
       where
         by : (o : Option GroundStep) → step_of G number ≡ o → can_begin T s step ≡ false
-        by None out = S.left_out number step at out s r
+        by None out = left_out number step at out s r
         by (Some made) found = never s number step made r at found (find_nothing (λ (made : GroundStep). may_hold set made.pre) (λ (other : GroundStep). other.number == number) G.steps made found none)
-
-    pub pruned_stands : StandsBy T atoms (pruned set G)
-    pruned_stands = record {
-      count = S.count;
-      different = S.different;
-      below = record {
-        steps = list_all-filter (λ (made : GroundStep). may_hold set made.pre) (is_step_below G.atoms) G.steps S.below.steps;
-        goal = S.below.goal;
-        hard = S.below.hard;
-        soft = S.below.soft;
-      };
-      initial = S.initial;
-      initial_cost = S.initial_cost;
-      step_count = S.step_count;
-      rising = rises-filter (λ (made : GroundStep). may_hold set made.pre) 0 G.step_count G.steps S.rising;
-      kept = All-filter (λ (made : GroundStep). may_hold set made.pre) (StepStands T atoms) G.steps S.kept;
-      left_out = leaves_out;
-      goal = S.goal;
-      hard = S.hard;
-      soft = S.soft;
-      name_count = S.name_count;
-    }

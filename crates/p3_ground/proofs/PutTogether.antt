@@ -80,7 +80,6 @@ module _ (T : Task) (X : NumberedTask) (S : Statics) (atoms : List GroundAtom) (
       kept =
           All-weaker (IsKept T X S atoms) (StepStands T (facts_of X.numbers atoms)) (λ made kept. record { step = kept.step; number = kept.number; is = steps-stand T X S atoms expanded kept.action kept.slots kept.step made kept.at kept.is })
           G.steps is.kept;
-      left_out = is.left_out;
       goal = the-goal-stands T X S atoms expanded G.goal is.goal;
       hard =
           hard-constraints-stand T X S atoms expanded G.hard

@@ -28,7 +28,7 @@ use Rattle.p3_formula.specs.declared.modal.GroundModal.{GroundModal}
 use Rattle.p3_formula.specs.declared.modal.GroundModal.TheVariants as ground_modal
 use Rattle.p3_formula.specs.declared.task.GroundTask.{GroundTask}
 use Rattle.p3_ground.specs.StandsFor.{StandsBy, FormStands, ModalStands, HardStands}
-use Rattle.p3_ground.specs.PlansByNumber.{AreNumbers}
+use Rattle.p3_ground.specs.PlansByNumber.{AreAsked}
 use Rattle.p3_ground.proofs.Walk.{Met, reached, begun, all_fit, fit_same, both_visited}
 
 three_tests : (a b c x y z : Bool) → a ≡ x → (a ≡ true → b ≡ y) → (a ≡ true → c ≡ z) → (a && b && c) ≡ (x && y && z)
@@ -96,11 +96,11 @@ module _ (T : Task) (atoms : List Fact) (G : GroundTask) (S : StandsBy T atoms G
   ground_moves_fit bits [] = refl
   ground_moves_fit bits (number ∷ numbers) = ap (λ rest. ground_fits G bits number && rest) (ground_moves_fit (state_by bits (step_of G number)) numbers)
 
-  pub are_met : (plan : Plan) (numbers : GroundPlan) → AreNumbers T plan numbers → steps_fit T plan ≡ true → AreMet (visited T plan) (ground_visited G numbers)
+  pub are_met : (plan : Plan) (numbers : GroundPlan) → AreAsked T G plan numbers → steps_fit T plan ≡ true → AreMet (visited T plan) (ground_visited G numbers)
   unfolding visited
   are_met plan numbers e f = both_visited T atoms G S K plan numbers e (start T) G.initial (begun T atoms G S K) (sym (steps_fit-walk T plan) ∙ f)
 
-  pub valid_alike : (plan : Plan) (numbers : GroundPlan) → AreNumbers T plan numbers → is_valid T plan ≡ is_ground_valid G numbers
+  pub valid_alike : (plan : Plan) (numbers : GroundPlan) → AreAsked T G plan numbers → is_valid T plan ≡ is_ground_valid G numbers
   unfolding is_valid is_ground_valid goal_holds visited
   valid_alike plan numbers e =
       let W = visited T plan in

@@ -23,8 +23,8 @@ use Rattle.p3_formula.specs.Next.{after}
 use Rattle.p3_formula.specs.GroundPlans.{GroundPlan, step_of, fits_by, ground_fits, state_by, visited_from}
 use Rattle.p3_formula.specs.declared.task.GroundStep.{GroundStep}
 use Rattle.p3_formula.specs.declared.task.GroundTask.{GroundTask}
-use Rattle.p3_ground.specs.StandsFor.{Matched, StandsBy, StepStands, IsMadeOf, can_begin, can_begin_by}
-use Rattle.p3_ground.specs.PlansByNumber.{AreNumbers}
+use Rattle.p3_ground.specs.StandsFor.{Matched, StandsBy, StepStands, IsAsked, IsMadeOf, can_begin, can_begin_by}
+use Rattle.p3_ground.specs.PlansByNumber.{AreAsked}
 
 -- the second test is asked only where the first passes
 pub two_tests : (a b c d : Bool) → a ≡ b → (a ≡ true → c ≡ d) → (a && c) ≡ (b && d)
@@ -79,17 +79,17 @@ module _ (T : Task) (atoms : List Fact) (G : GroundTask) (S : StandsBy T atoms G
       ∙ (λ i. own.args i && hard_holds T s (arguments own.action step) own.action.pre.body && is_some (cost_by T step own.action))
       ∙ sym (λ i. can_begin_by T s step (own.named i) && is_some (option_and_then (cost_by T step) (own.named i)))
 
-  pub one_step : (s : named.State) (bits : State) (number : ℕ) (step : Step) → Met s bits → HasNumber T step number → fits T s step ≡ ground_fits G bits number
+  pub one_step : (s : named.State) (bits : State) (number : ℕ) (step : Step) → Met s bits → IsAsked T G step number → fits T s step ≡ ground_fits G bits number
   one_step s bits number step m e = by (step_of G number) refl
     where
       by : (o : Option GroundStep) → step_of G number ≡ o → fits T s step ≡ fits_by bits o
-      by None out = fits_is s number step e ∙ ap (λ t. t && is_some (step_cost T step)) (S.left_out number step e out s (reached s bits m))
+      by None out = fits_is s number step e.0 ∙ ap (λ t. t && is_some (step_cost T step)) (e.1 step e.0 out s (reached s bits m))
       by (Some made) found =
-          let is = made_of number step made e found in
-          fits_is s number step e ∙ sym (λ i. is.pre s bits (reached s bits m) m.matched i && is_some (is.cost i))
+          let is = made_of number step made e.0 found in
+          fits_is s number step e.0 ∙ sym (λ i. is.pre s bits (reached s bits m) m.matched i && is_some (is.cost i))
 
   -- a step that fits is kept
-  pub kept_at : (s : named.State) (bits : State) (number : ℕ) (step : Step) → Met s bits → HasNumber T step number → fits T s step ≡ true
+  pub kept_at : (s : named.State) (bits : State) (number : ℕ) (step : Step) → Met s bits → IsAsked T G step number → fits T s step ≡ true
       → (made : GroundStep) × (step_of G number ≡ Some made) × Contains G.steps made
   kept_at s bits number step m e f = by (step_of G number) refl
     where
@@ -99,13 +99,13 @@ module _ (T : Task) (atoms : List Fact) (G : GroundTask) (S : StandsBy T atoms G
           let (k, at, same) = find_found (λ (other : GroundStep). other.number == number) G.steps made found in
           (made, found, subst (Contains G.steps) (get_or_from_slice_get G.steps k made made at) (Contains-get_or G.steps k made (slice_get_within G.steps k made at)))
 
-  pub kept_where_fits : (A : Option GroundStep → Type 0) (s : named.State) (bits : State) (number : ℕ) (step : Step) → Met s bits → HasNumber T step number → fits T s step ≡ true
+  pub kept_where_fits : (A : Option GroundStep → Type 0) (s : named.State) (bits : State) (number : ℕ) (step : Step) → Met s bits → IsAsked T G step number → fits T s step ≡ true
       → ((made : GroundStep) → IsMadeOf T atoms step made → A (Some made)) → A (step_of G number)
   kept_where_fits A s bits number step m e f where_kept =
       let (made, found, own) = kept_at s bits number step m e f in
-      subst A (sym found) (where_kept made (made_of number step made e found))
+      subst A (sym found) (where_kept made (made_of number step made e.0 found))
 
-  pub next_met : (s : named.State) (bits : State) (number : ℕ) (step : Step) → Met s bits → HasNumber T step number → fits T s step ≡ true → Met (state_after T s step) (state_by bits (step_of G number))
+  pub next_met : (s : named.State) (bits : State) (number : ℕ) (step : Step) → Met s bits → IsAsked T G step number → fits T s step ≡ true → Met (state_after T s step) (state_by bits (step_of G number))
   next_met s bits number step m e f =
       kept_where_fits (λ o. Met (state_after T s step) (state_by bits o)) s bits number step m e f
       (λ made is. next s bits (after bits made.effects) step m f (is.effects s bits (reached s bits m) m.matched))
@@ -116,7 +116,7 @@ module _ (T : Task) (atoms : List Fact) (G : GroundTask) (S : StandsBy T atoms G
   all_fit bits [] = true
   all_fit bits (number ∷ numbers) = ground_fits G bits number && all_fit (state_by bits (step_of G number)) numbers
 
-  pub fit_same : (plan : Plan) (numbers : GroundPlan) → AreNumbers T plan numbers → (s : named.State) (bits : State) → Met s bits → fit_from T s plan ≡ all_fit bits numbers
+  pub fit_same : (plan : Plan) (numbers : GroundPlan) → AreAsked T G plan numbers → (s : named.State) (bits : State) → Met s bits → fit_from T s plan ≡ all_fit bits numbers
   fit_same [] [] e s bits m = refl
   fit_same [] (number ∷ numbers) e s bits m = absurd e
   fit_same (step ∷ plan) [] e s bits m = absurd e
@@ -124,7 +124,7 @@ module _ (T : Task) (atoms : List Fact) (G : GroundTask) (S : StandsBy T atoms G
       two_tests (fits T s step) (ground_fits G bits number) _ _ (one_step s bits number step m e)
       (λ f. fit_same plan numbers es (state_after T s step) (state_by bits (step_of G number)) (next_met s bits number step m e f))
 
-  pub both_visited : (plan : Plan) (numbers : GroundPlan) → AreNumbers T plan numbers → (s : named.State) (bits : State) → Met s bits → fit_from T s plan ≡ true
+  pub both_visited : (plan : Plan) (numbers : GroundPlan) → AreAsked T G plan numbers → (s : named.State) (bits : State) → Met s bits → fit_from T s plan ≡ true
       → AllZip Met (plans.visited_from T s plan) (visited_from G bits numbers)
   unfolding visited_from
   both_visited [] [] e s bits m f = (m, tt)
@@ -138,10 +138,10 @@ module _ (T : Task) (atoms : List Fact) (G : GroundTask) (S : StandsBy T atoms G
 
   -- what agrees at a step that fits, and its number
   abbrev pub AgreeWhereFits : (named.State → State → ℕ → Step → Type 0) → Type 0
-  AgreeWhereFits Agree = (s : named.State) (bits : State) (number : ℕ) (step : Step) → Met s bits → HasNumber T step number → fits T s step ≡ true → Agree s bits number step
+  AgreeWhereFits Agree = (s : named.State) (bits : State) (number : ℕ) (step : Step) → Met s bits → IsAsked T G step number → fits T s step ≡ true → Agree s bits number step
 
   pub sums_same : (of_step : Step → ℕ) (of_number : ℕ → ℕ) → AgreeWhereFits (λ s bits number step. of_step step ≡ of_number number)
-      → (plan : Plan) (numbers : GroundPlan) → AreNumbers T plan numbers → (s : named.State) (bits : State) → Met s bits → fit_from T s plan ≡ true → sum_by of_step plan ≡ sum_by of_number numbers
+      → (plan : Plan) (numbers : GroundPlan) → AreAsked T G plan numbers → (s : named.State) (bits : State) → Met s bits → fit_from T s plan ≡ true → sum_by of_step plan ≡ sum_by of_number numbers
   sums_same of_step of_number same [] [] e s bits m f = refl
   sums_same of_step of_number same [] (number ∷ numbers) e s bits m f = absurd e
   sums_same of_step of_number same (step ∷ plan) [] e s bits m f = absurd e
@@ -153,7 +153,7 @@ module _ (T : Task) (atoms : List Fact) (G : GroundTask) (S : StandsBy T atoms G
 
   -- the same of moves, at the state before each
   pub move_sums_same : (of_step : named.State → Step → ℕ) (of_number : State → ℕ → ℕ) → AgreeWhereFits (λ s bits number step. of_step s step ≡ of_number bits number)
-      → (plan : Plan) (numbers : GroundPlan) → AreNumbers T plan numbers → (s : named.State) (bits : State) → Met s bits → fit_from T s plan ≡ true
+      → (plan : Plan) (numbers : GroundPlan) → AreAsked T G plan numbers → (s : named.State) (bits : State) → Met s bits → fit_from T s plan ≡ true
       → sum_by (λ (move : Move). of_step move.state move.step) (moves_from T s plan) ≡ sum_by (λ (move : State × ℕ). of_number move.0 move.1) (zip (visited_from G bits numbers) numbers)
   unfolding visited_from
   move_sums_same of_step of_number same [] [] e s bits m f = refl

@@ -1,16 +1,16 @@
--- A ground task of all steps that may begin, and the limit on its steps.
-use Rattle.std.proofs.Common.{◌≡◌, ◌∙◌, ℕ, ◌+◌, ◌-◌, ◌*◌, ◌≤◌, Bool, true, false, ◌&&◌, nat_lt, if◌then◌else◌, List, [], ◌∷◌, ◌++◌, Option, Some, None, length, map, min, refl, sym, ap, subst, arith}
+-- A ground task of the wanted steps that may begin, and the limit on its steps.
+use Rattle.std.proofs.Common.{◌≡◌, ◌∙◌, ℕ, ◌+◌, ◌-◌, ◌*◌, ◌≤◌, Bool, true, false, ◌&&◌, nat_lt, if◌then◌else◌, List, [], ◌∷◌, ◌++◌, Option, Some, None, get_or, length, map, min, refl, sym, ap, subst, arith}
 use Rattle.std.specs.Prelude.{fold, drop, option_map, slice_index_or, IsTrue}
 use Rattle.std.specs.List.{list_all}
 use Rattle.std.specs.Option.{option_or}
 use Rattle.std.proofs.lemmas.Bool.{and_parts, ltb-false}
 use Rattle.std.proofs.lemmas.List.{append-nil, length-map}
-use Rattle.std.proofs.lemmas.List.Elements.{filter-append}
+use Rattle.std.proofs.lemmas.List.Elements.{Contains-get_or, filter-append}
 use Rattle.std.proofs.Math.Nat.{mul_assoc}
 use Rattle.p3_base.specs.declared.refusal.Side.{Side}
 use Rattle.p3_tree.specs.Costs.{cost_places, initial_cost}
 use Rattle.p3_tree.specs.Lifting.{steps}
-use Rattle.p3_tree.specs.Limits.{binding_count}
+use Rattle.p3_tree.specs.Limits.{binding_count, step_count}
 use Rattle.p3_tree.specs.Offences.{WellFormed}
 use Rattle.p3_tree.specs.PreferenceNames.{ordered_names}
 use Rattle.p3_tree.specs.Refusals.Counts.{passes_at, size_refusals}
@@ -37,7 +37,7 @@ use Rattle.p3_numbers.specs.declared.task.NumberedTask.{NumberedTask}
 use Rattle.p3_numbers.proofs.KnownLaws.{task-known}
 use Rattle.p3_types.specs.Texts.{has_short_numbers}
 use Rattle.p3_types.proofs.CostLemmas.{few_places}
-use Rattle.p3_steps.specs.Steps.{StepIsMade, StepsAreMade, MakesSteps, count_of_steps, planned_steps}
+use Rattle.p3_steps.specs.Steps.{StepIsMade, StepsAreMade, MakesSteps, count_of_steps}
 use Rattle.p3_steps.proofs.StepLemmas.{made-keeps}
 use Rattle.p3_ground.specs.Closed.{IsClosed, IsInEachClosed, steps_that_may}
 use Rattle.p3_ground.specs.May.{may_hold}
@@ -57,12 +57,13 @@ use Rattle.p3_expansion.proofs.GrowthLemmas.{keeps-trans}
 use Rattle.p3_expansion.proofs.NamedReads.{reads-named}
 use Rattle.p3_expansion.proofs.OperatorLemmas.{operators-keep}
 use Rattle.p3_expansion.proofs.WalkLemmas.{zip-weaker}
-use Rattle.p3_ground.specs.Planned.{AreAllThatMayBegin}
+use Rattle.p3_ground.specs.Planned.{AreAllThatMayBegin, wanted_steps}
 use Rattle.p3_ground.specs.Pruned.{pruned, steps_over}
-use Rattle.p3_ground.specs.Sparse.{IsGroundingOf}
+use Rattle.p3_ground.specs.Expanded.{facts_of}
+use Rattle.p3_ground.specs.Sparse.{IsGroundingAmong, IsGroundingOf}
 use Rattle.p3_ground.specs.Whole.{HasFewSteps, ArePartsOf, IsWhole}
 use Rattle.p3_ground.specs.declared.parts.Parts.{Parts}
-use Rattle.p3_ground.proofs.GroundingLaws.{leaves-out-what-never-begins, is-grounding}
+use Rattle.p3_ground.proofs.GroundingLaws.{have-possible-conjuncts, is-grounding, leaves-out-there}
 use Rattle.p3_ground.proofs.PutTogether.{what-is-put-together-stands}
 use Rattle.p3_ground.proofs.PlannedSteps.{planned-steps-are-all, planned-steps-read-names, steps-are-counted}
 use Rattle.p3_types.specs.FirstSteps.{too_many}
@@ -140,12 +141,12 @@ module _ (T : Task) (X : NumberedTask) (S : Statics) (places : ℕ) (well : Well
   named = is_named X.numbers
 
   -- what is expanded in turn, from no atom on
-  pub parts-are : (old first second third new : Work) (parts : Parts) → old.atoms ≡ [] → AreDistinct new.atoms → parts.atoms ≡ length new.atoms
-      → MakesSteps X S places old first parts.steps → Makes X.numbers S first second (hard_meaning X.numbers [] X.goal) parts.goal
-      → MakesHard X S second third parts.hard → MakesSoft X S third new parts.soft → ArePartsOf T X S places new.atoms parts
-  parts-are old first second third new parts none distinct count steps goal hard soft =
+  pub parts-are : (wanted : Option (List ℕ)) (old first second third new : Work) (parts : Parts) → old.atoms ≡ [] → AreDistinct new.atoms → parts.atoms ≡ length new.atoms
+      → MakesSteps X S places (wanted_steps X S wanted) old first parts.steps → Makes X.numbers S first second (hard_meaning X.numbers [] X.goal) parts.goal
+      → MakesHard X S second third parts.hard → MakesSoft X S third new parts.soft → ArePartsOf T X S places new.atoms wanted parts
+  parts-are wanted old first second third new parts none distinct count steps goal hard soft =
       let reads : ReadsAreNamed T X = reads-named T X well is in
-      let at_first = steps.grows.brings.passed named (ap (list_all named) none) (planned-steps-read-names T X S well is) in
+      let at_first = steps.grows.brings.passed named (ap (list_all named) none) (planned-steps-read-names T X S wanted well is) in
       let at_second = goal.grows.brings.passed named at_first reads.goal in
       let at_third = hard.grows.brings.passed named at_second reads.hard in
       let at_last = soft.grows.brings.passed named at_third reads.soft in
@@ -155,7 +156,7 @@ module _ (T : Task) (X : NumberedTask) (S : Statics) (places : ℕ) (well : Well
       record {
         expanded = record { well = well; numbered = is; statics = statics; distinct = distinct; named = at_last };
         count = count;
-        steps = zip-weaker (StepIsMade X S places first.atoms) (StepIsMade X S places new.atoms) (made-keeps X S places first.atoms new.atoms all) (planned_steps X S) parts.steps steps.are;
+        steps = zip-weaker (StepIsMade X S places first.atoms) (StepIsMade X S places new.atoms) (made-keeps X S places first.atoms new.atoms all) (wanted_steps X S wanted) parts.steps steps.are;
         goal = stands-grows X.numbers S second.atoms new.atoms (hard_meaning X.numbers [] X.goal) parts.goal late goal.stands;
         hard = operators-keep X.numbers S third.atoms new.atoms last (task_operators X) parts.hard hard.stand;
         soft = soft.stand;
@@ -166,16 +167,16 @@ module _ (T : Task) (X : NumberedTask) (S : Statics) (places : ℕ) (well : Well
 min-within : (count : ℕ) → count ≤ step_count_limit → min count too_many ≡ count
 min-within count few = omega (arith, few)
 
--- with the numbers of the task they make up a ground task of all steps that may begin
-pub whole-is : (T : Task) (X : NumberedTask) (S : Statics) (places : ℕ) (atoms : List GroundAtom) (parts : Parts) (G : GroundTask) → HasFewSteps X → places ≡ cost_places T → ArePartsOf T X S places atoms parts
+-- with the numbers of the task they make up a ground task of the wanted steps that may begin
+pub whole-is : (T : Task) (X : NumberedTask) (S : Statics) (places : ℕ) (atoms : List GroundAtom) (wanted : Option (List ℕ)) (parts : Parts) (G : GroundTask) → HasFewSteps X → places ≡ cost_places T → ArePartsOf T X S places atoms wanted parts
     → G.atoms ≡ parts.atoms → G.initial ≡ start_bits S atoms → G.initial_cost ≡ initial_cost T → G.step_count ≡ min (length (steps T)) too_many
-    → G.steps ≡ parts.steps → G.goal ≡ parts.goal → G.hard ≡ parts.hard → G.soft ≡ parts.soft → G.names ≡ length (ordered_names T) → IsWhole T X G
-whole-is T X S places atoms parts G few units are count initial cost steps_count steps_are goal_is hard_are soft_are names =
+    → G.steps ≡ parts.steps → G.goal ≡ parts.goal → G.hard ≡ parts.hard → G.soft ≡ parts.soft → G.names ≡ length (ordered_names T) → IsWhole T X wanted G
+whole-is T X S places atoms wanted parts G few units are count initial cost steps_count steps_are goal_is hard_are soft_are names =
     let ex = are.expanded in
-    let made : StepsAreMade X S (cost_places T) atoms (planned_steps X S) G.steps =
-    subst (λ made. StepsAreMade X S (cost_places T) atoms (planned_steps X S) made) (sym steps_are) (subst (λ n. StepsAreMade X S n atoms (planned_steps X S) parts.steps) units are.steps)
+    let made : StepsAreMade X S (cost_places T) atoms (wanted_steps X S wanted) G.steps =
+    subst (λ made. StepsAreMade X S (cost_places T) atoms (wanted_steps X S wanted) made) (sym steps_are) (subst (λ n. StepsAreMade X S n atoms (wanted_steps X S wanted) parts.steps) units are.steps)
     in
-    let all : AreAllThatMayBegin T X S atoms G.steps = planned-steps-are-all T X S atoms ex G.steps made in
+    let all : AreAllThatMayBegin T X S atoms wanted G.steps = planned-steps-are-all T X S atoms ex wanted G.steps made in
     let counted : length (steps T) ≤ step_count_limit = omega (arith, few, steps-are-counted T X ex.well ex.numbered) in
     let numbers : G.step_count ≡ length (steps T) = steps_count ∙ min-within (length (steps T)) counted in
     record {
@@ -189,25 +190,44 @@ whole-is T X S places atoms parts G few units are count initial cost steps_count
         step_count = numbers;
         rising = ap (λ n. rises 0 n G.steps) numbers ∙ all.rising;
         kept = all.kept;
-        left_out = leaves-out-what-never-begins T X S G (record { well = ex.well; numbered = ex.numbered; statics = ex.statics }) (all.whole G refl);
         goal = subst (Stands X.numbers S atoms (hard_meaning X.numbers [] X.goal)) (sym goal_is) are.goal;
         hard = subst (OperatorsStand X.numbers S atoms (task_operators X)) (sym hard_are) are.hard;
         soft = subst (InstancesStand X.numbers S atoms (task_instances X)) (sym soft_are) are.soft;
         names = names ∙ ap length (sym ex.numbered.names.preferences);
       };
+      left_out = λ number want. leaves-out-there T X S G number (record { well = ex.well; numbered = ex.numbered; statics = ex.statics }) (all.whole G refl number want);
+      only = all.only;
       may = all.may;
     }
 
 -- ---- the steps over the least closed set
 
 -- the atoms of the whole are below their count, and there is a bit for each
-pub whole-below : (T : Task) (X : NumberedTask) (G : GroundTask) → IsWhole T X G → HasAtomsBelow G × (length G.initial ≡ G.atoms)
+pub whole-below : (T : Task) (X : NumberedTask) (G : GroundTask) → IsWhole T X None G → HasAtomsBelow G × (length G.initial ≡ G.atoms)
 whole-below T X G whole =
     let little = what-is-put-together-stands T X whole.statics whole.atoms whole.expanded G whole.together in
     (little.stands.below, little.stands.initial.count ∙ sym little.stands.count)
 
-pub whole-grounds : (T : Task) (X : NumberedTask) (G : GroundTask) (set : forms.State) → IsWhole T X G → IsClosed G set → IsInEachClosed G set → IsGroundingOf T (pruned set G)
-whole-grounds T X G set whole closed least = is-grounding T X whole.statics whole.atoms whole.expanded G set whole.together whole.may closed least
+pub whole-grounds : (T : Task) (X : NumberedTask) (G : GroundTask) (set : forms.State) → IsWhole T X None G → IsClosed G set → IsInEachClosed G set → IsGroundingOf T (pruned set G)
+whole-grounds T X G set whole closed least = is-grounding T X whole.statics whole.atoms whole.expanded G set whole.together (λ number. whole.left_out number tt) whole.may closed least
+
+-- ---- some steps
+
+-- the steps of a task are few where they are few by name
+pub few-by-name : (T : Task) (X : NumberedTask) → WellFormed T → IsNumberedTask T X → step_count T ≤ step_count_limit → HasFewSteps X
+few-by-name T X well is few = omega (arith, few, steps-are-counted T X well is)
+
+pub whole-grounds-among : (T : Task) (X : NumberedTask) (those : List ℕ) (G : GroundTask) → IsWhole T X (Some those) G → IsGroundingAmong T those G
+whole-grounds-among T X those G whole =
+    let ex = whole.expanded in
+    let little = what-is-put-together-stands T X whole.statics whole.atoms ex G whole.together in
+    record {
+      stands = (record { atoms = facts_of X.numbers whole.atoms; stands = little.stands }, λ k d within. whole.left_out (get_or those k d) (Contains-get_or those k d within));
+      only = whole.only;
+      changes = little.changes;
+      constraints = little.constraints;
+      conjuncts = have-possible-conjuncts T X whole.statics (record { well = ex.well; numbered = ex.numbered; statics = ex.statics }) G whole.may;
+    }
 
 -- ---- steps that are marked
 

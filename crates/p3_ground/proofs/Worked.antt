@@ -82,7 +82,6 @@ stands = record {
   step_count = refl;
   rising = refl;
   kept = kept;
-  left_out = left_out;
   goal = λ s bits reached matched. refl;
   hard = tt;
   soft = (record { name = refl; parts = ((λ s bits reached matched. matched.atom 0 p refl), tt) }, tt);
@@ -115,4 +114,4 @@ unfolding both_compute
 sparse = record { changes = changes; constraints = record { hard = tt; soft = ((refl, tt), tt) }; conjuncts = conjuncts; may_fit = may_fit }
 
 pub smallest_grounds : IsGroundingOf read smallest
-smallest_grounds = record { atoms = atoms; stands = stands; sparse = sparse }
+smallest_grounds = record { atoms = atoms; stands = stands; left_out = left_out; sparse = sparse }

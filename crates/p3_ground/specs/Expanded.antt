@@ -36,7 +36,7 @@ use Rattle.p3_expansion.specs.Statics.{AreStatics, start_bits}
 use Rattle.p3_expansion.specs.TaskConstraints.{task_operators, task_instances, HardHave, SoftHave}
 use Rattle.p3_expansion.specs.declared.statics.Statics.{Statics}
 use Rattle.p3_ground.specs.Sparse.{HasFewChanges, HasOwnAtoms, PartsHaveOwnAtoms, StepsHaveFewChanges, ConstraintsHaveOwnAtoms}
-use Rattle.p3_ground.specs.StandsFor.{AreDifferent, HardStands, HasTruthOf, IsMadeOf, SoftStands, LeavesOutOnlyUnfit, StandsBy}
+use Rattle.p3_ground.specs.StandsFor.{AreDifferent, HardStands, HasTruthOf, IsMadeOf, SoftStands, StandsBy}
 
 -- the facts that the atoms say
 abbrev pub facts_of : Numbers → List GroundAtom → List Fact
@@ -115,7 +115,6 @@ pub record IsPutTogether (T : Task) (X : NumberedTask) (S : Statics) (atoms : Li
   pub step_count : G.step_count ≡ length (steps T)
   pub rising : IsTrue (rises 0 G.step_count G.steps)
   pub kept : All (IsKept T X S atoms) G.steps
-  pub left_out : LeavesOutOnlyUnfit T G
   pub goal : Stands X.numbers S atoms (hard_meaning X.numbers [] X.goal) G.goal
   pub hard : OperatorsStand X.numbers S atoms (task_operators X) G.hard
   pub soft : InstancesStand X.numbers S atoms (task_instances X) G.soft

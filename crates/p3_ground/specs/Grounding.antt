@@ -21,7 +21,7 @@ use Rattle.p3_steps.specs.Possible.{may_begin}
 use Rattle.p3_ground.specs.Expanded.{IsPutTogether, IsStepAt, choice_of, steps_before}
 use Rattle.p3_ground.specs.Pruned.{pruned}
 use Rattle.p3_ground.specs.Sparse.{IsGroundingOf}
-use Rattle.p3_ground.specs.StandsFor.{LeavesOutOnlyUnfit}
+use Rattle.p3_ground.specs.StandsFor.{LeavesOutOnlyUnfit, LeftOutAt}
 use Rattle.p3_ground.specs.StepParts.{IsKnownWhole}
 
 -- ---- the steps that may begin
@@ -30,6 +30,11 @@ use Rattle.p3_ground.specs.StepParts.{IsKnownWhole}
 abbrev pub KeepsWhatMayBegin : Task → NumberedTask → Statics → GroundTask → Type 0
 KeepsWhatMayBegin T X S G = (place number : ℕ) (action : Action) → slice_get T.domain.actions place ≡ Some action → number < choice_count X.numbers (ranges_of X.numbers action.params)
     → may_begin X.numbers S (choice_of X.numbers action number) (numbered_action X.numbers action).pre ≡ true → IsSome (step_of G (steps_before X.numbers T place + number))
+
+-- the step of that number is there, if its precondition may begin
+abbrev pub KeepsAt : Task → NumberedTask → Statics → GroundTask → ℕ → Type 0
+KeepsAt T X S G number = (place rest : ℕ) (action : Action) → slice_get T.domain.actions place ≡ Some action → rest < choice_count X.numbers (ranges_of X.numbers action.params)
+    → steps_before X.numbers T place + rest ≡ number → may_begin X.numbers S (choice_of X.numbers action rest) (numbered_action X.numbers action).pre ≡ true → IsSome (step_of G number)
 
 -- a kept step is one whose precondition may begin
 pub record MayBegin (T : Task) (X : NumberedTask) (S : Statics) (made : GroundStep) : Type 0 where
@@ -44,8 +49,12 @@ pub record MayBegin (T : Task) (X : NumberedTask) (S : Statics) (made : GroundSt
 abbrev pub LeavesOutWhatNeverBegins : Type 0
 LeavesOutWhatNeverBegins = (T : Task) (X : NumberedTask) (S : Statics) (G : GroundTask) → IsKnownWhole T X S → KeepsWhatMayBegin T X S G → LeavesOutOnlyUnfit T G
 
+-- so it is at one number
+abbrev pub LeavesOutThere : Type 0
+LeavesOutThere = (T : Task) (X : NumberedTask) (S : Statics) (G : GroundTask) (number : ℕ) → IsKnownWhole T X S → KeepsAt T X S G number → LeftOutAt T G number
+
 -- ---- the whole
 
 -- over the least closed set of atoms it is a grounding of the task
 abbrev pub IsGroundingOverReached : Task → NumberedTask → Statics → List GroundAtom → Type 0
-IsGroundingOverReached T X S atoms = (G : GroundTask) (set : State) → IsPutTogether T X S atoms G → All (MayBegin T X S) G.steps → IsClosed G set → IsInEachClosed G set → IsGroundingOf T (pruned set G)
+IsGroundingOverReached T X S atoms = (G : GroundTask) (set : State) → IsPutTogether T X S atoms G → LeavesOutOnlyUnfit T G → All (MayBegin T X S) G.steps → IsClosed G set → IsInEachClosed G set → IsGroundingOf T (pruned set G)

@@ -11,10 +11,15 @@ use Rattle.p3_tree.specs.declared.task.Step.{Step}
 use Rattle.p3_tree.specs.declared.task.Task.{Task}
 use Rattle.p3_formula.specs.GroundPlans.{GroundPlan, GroundValid, ground_violated, ground_cost}
 use Rattle.p3_formula.specs.declared.task.GroundTask.{GroundTask}
+use Rattle.p3_ground.specs.StandsFor.{IsAsked}
 
 -- each step of the plan is a step of the task, and has the number at its place
 abbrev pub AreNumbers : Task → Plan → GroundPlan → Type 0
 AreNumbers T plan numbers = AllZip (HasNumber T) plan numbers
+
+-- each step of the plan has the number at its place, and is there or can begin in no reached state
+abbrev pub AreAsked : Task → GroundTask → Plan → GroundPlan → Type 0
+AreAsked T G plan numbers = AllZip (IsAsked T G) plan numbers
 
 -- all steps of the plan are steps of the task, and the list of their numbers is a valid ground plan
 pub record HasValidNumbers (T : Task) (G : GroundTask) (plan : Plan) : Type 0 where

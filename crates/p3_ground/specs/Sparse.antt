@@ -1,5 +1,5 @@
 -- What it is that a ground task has little beside what it needs: few changes, few atoms in its constraints, and no step that plainly never fits.
-use Rattle.std.specs.Prelude.{ℕ, ◌≤◌, Bool, true, false, not, ◌||◌, List, length, map, slice_get, count_by, IsTrue}
+use Rattle.std.specs.Prelude.{ℕ, ◌≤◌, Bool, true, false, not, ◌||◌, List, length, map, slice_get, count_by, Contains, IsTrue}
 use Rattle.std.specs.List.{All, AllZip, list_all}
 use Rattle.std.specs.Option.{option_map_or}
 use Rattle.p3_tree.specs.States.{has_fact, start}
@@ -20,7 +20,7 @@ use Rattle.p3_formula.specs.declared.task.GroundStep.{GroundStep}
 use Rattle.p3_formula.specs.declared.task.GroundTask.{GroundTask}
 use Rattle.p3_ground.specs.May.{may_hold}
 use Rattle.p3_ground.specs.Closed.{IsClosed}
-use Rattle.p3_ground.specs.StandsFor.{StandsBy}
+use Rattle.p3_ground.specs.StandsFor.{LeavesOutOnlyUnfit, StandsBy, StandsForSteps}
 use Rattle.p3_tree.specs.Mentions.{operator_atoms, step_literals, is_under_when, step_conjuncts}
 
 -- the atom of that number is one of those
@@ -92,4 +92,13 @@ pub record Sparse (T : Task) (atoms : List Fact) (G : GroundTask) : Type 0 where
 pub record IsGroundingOf (T : Task) (G : GroundTask) : Type 0 where
   pub atoms : List Fact
   pub stands : StandsBy T atoms G
+  pub left_out : LeavesOutOnlyUnfit T G
   pub sparse : Sparse T atoms G
+
+-- of the steps of some numbers: it has no other steps, few changes, few atoms in its constraints, and only possible atoms in what its steps want
+pub record IsGroundingAmong (T : Task) (numbers : List ℕ) (G : GroundTask) : Type 0 where
+  pub stands : StandsForSteps T G numbers
+  pub only : All (λ (made : GroundStep). Contains numbers made.number) G.steps
+  pub changes : StepsHaveFewChanges T stands.0.atoms G
+  pub constraints : ConstraintsHaveOwnAtoms T stands.0.atoms G
+  pub conjuncts : StepsHavePossibleConjuncts T G

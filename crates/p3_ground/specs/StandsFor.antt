@@ -104,13 +104,21 @@ pub record StepStands (T : Task) (atoms : List Fact) (made : GroundStep) : Type 
   pub number : HasNumber T step made.number
   pub is : IsMadeOf T atoms step made
 
+-- where the step of the number is left out, it can begin in no reached state
+abbrev pub LeftOutAt : Task → GroundTask → ℕ → Type 0
+LeftOutAt T G number = (step : Step) → HasNumber T step number → step_of G number ≡ None → (s : State) → Reached T s → can_begin T s step ≡ false
+
 -- a step that is left out can begin in no reached state
 abbrev pub LeavesOutOnlyUnfit : Task → GroundTask → Type 0
-LeavesOutOnlyUnfit T G = (number : ℕ) (step : Step) → HasNumber T step number → step_of G number ≡ None → (s : State) → Reached T s → can_begin T s step ≡ false
+LeavesOutOnlyUnfit T G = (number : ℕ) → LeftOutAt T G number
+
+-- the step has the number, and is there or can begin in no reached state
+abbrev pub IsAsked : Task → GroundTask → Step → ℕ → Type 0
+IsAsked T G step number = HasNumber T step number × LeftOutAt T G number
 
 -- ---- ground tasks
 
--- the ground task stands for the task, where its atoms are these
+-- all but the steps that are left out stands for the task, where the atoms are these
 pub record StandsBy (T : Task) (atoms : List Fact) (G : GroundTask) : Type 0 where
   pub count : G.atoms ≡ length atoms
   pub different : AreDifferent atoms
@@ -120,12 +128,22 @@ pub record StandsBy (T : Task) (atoms : List Fact) (G : GroundTask) : Type 0 whe
   pub step_count : G.step_count ≡ length (steps T)
   pub rising : IsTrue (rises 0 G.step_count G.steps)
   pub kept : All (StepStands T atoms) G.steps
-  pub left_out : LeavesOutOnlyUnfit T G
   pub goal : HasTruthOf T atoms (λ s. hard_holds T s [] T.problem.goal.body) G.goal
   pub hard : AllZip (HardStands T atoms) (hard_list T) G.hard
   pub soft : AllZip (SoftStands T atoms) (instances T) G.soft
   pub name_count : G.names ≡ length (ordered_names T)
 
+-- the ground task stands for the task
 pub record StandsFor (T : Task) (G : GroundTask) : Type 0 where
   pub atoms : List Fact
   pub stands : StandsBy T atoms G
+  pub left_out : LeavesOutOnlyUnfit T G
+
+-- it stands for the task in the steps that it has
+pub record StandsIn (T : Task) (G : GroundTask) : Type 0 where
+  pub atoms : List Fact
+  pub stands : StandsBy T atoms G
+
+-- it stands for the task in the steps of these numbers
+abbrev pub StandsForSteps : Task → GroundTask → List ℕ → Type 0
+StandsForSteps T G numbers = StandsIn T G × All (LeftOutAt T G) numbers

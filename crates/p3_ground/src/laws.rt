@@ -1,10 +1,11 @@
 //! The laws of ground tasks that stand for tasks. Each is the contract of a function without a
 //! body.
 
-ghost use Rattle.std.specs.Prelude.{◌≡◌, ◌↔◌, ◌+◌, ◌*◌, List, length, IsTrue};
+ghost use Rattle.std.specs.Prelude.{◌≡◌, ◌↔◌, ℕ, ◌+◌, ◌*◌, List, length, IsTrue};
+ghost use Rattle.std.specs.List.{list_all, range_with_len};
 ghost use Rattle.p3_tree.specs.Constraints.{instances};
 ghost use Rattle.p3_tree.specs.Faithful.{extra};
-ghost use Rattle.p3_tree.specs.Lifting.{lift};
+ghost use Rattle.p3_tree.specs.Lifting.{lift, steps};
 ghost use Rattle.p3_tree.specs.Offences.{WellFormed};
 ghost use Rattle.p3_tree.specs.Plans.{Plan, steps_fit};
 ghost use Rattle.p3_tree.specs.PreferenceNames.{ordered_names};
@@ -14,13 +15,21 @@ ghost use Rattle.p3_tree.specs.declared.task.Task.{Task};
 ghost use Rattle.p3_tree.specs.Worked.FirstExample.{read};
 ghost use Rattle.p3_formula.specs.Conditions.{HasNamesBelow};
 ghost use Rattle.p3_formula.specs.Forms.{State};
-ghost use Rattle.p3_formula.specs.GroundPlans.{GroundPlan, GroundValid, ground_cost, ground_loss};
+ghost use Rattle.p3_formula.specs.GroundPlans.{
+  GroundPlan,
+  GroundValid,
+  ground_cost,
+  ground_fits,
+  ground_loss,
+  ground_moves,
+};
 ghost use Rattle.p3_formula.specs.Targets.{ground_lift};
 ghost use Rattle.p3_formula.specs.Weighted.{ground_extra};
 ghost use Rattle.p3_formula.specs.declared.target.Weights.{Weights};
 ghost use Rattle.p3_formula.specs.declared.task.GroundTask.{GroundTask};
 ghost use Rattle.p3_ground.specs.Closed.{IsClosed, IsInEachClosed};
 ghost use Rattle.p3_ground.specs.PlansByNumber.{
+  AreAsked,
   AreNumbers,
   CountsAgree,
   HasNameWeights,
@@ -37,7 +46,13 @@ ghost use Rattle.p3_ground.specs.Sparse.{
   StepsHaveFewChanges,
   StepsHavePossibleConjuncts,
 };
-ghost use Rattle.p3_ground.specs.StandsFor.{StandsBy, StandsFor};
+ghost use Rattle.p3_ground.specs.StandsFor.{
+  LeavesOutOnlyUnfit,
+  StandsBy,
+  StandsFor,
+  StandsForSteps,
+  StandsIn,
+};
 ghost use Rattle.p3_ground.specs.Worked.{smallest};
 
 /// A plan is valid exactly where all its steps are steps of the task and the list of their numbers
@@ -75,6 +90,42 @@ pub fn wide_steps_take_as_many_actions()
         → IsTrue (steps_fit T plan) → extra T plan ≡ ground_extra G weights numbers }
 {}
 
+/// A ground task stands for the task exactly where it stands for it in the steps of all numbers;
+/// then it does so in those of any numbers.
+pub fn all_steps_are_the_whole_task()
+    ensures exactly { (T : Task) (G : GroundTask)
+        → StandsFor T G ↔ StandsForSteps T G (range_with_len 0 (length (steps T))) }
+    ensures any { (T : Task) (G : GroundTask) (numbers : List ℕ)
+        → StandsFor T G → StandsForSteps T G numbers }
+{}
+
+/// Steps may be asked of a ground task where it has each of them, or leaves it out as one that can
+/// begin in no reached state: all steps of one that stands for the task; those of its numbers, of
+/// one that stands for the task in these; and of any ground task the steps that were done.
+pub fn steps_that_were_done_are_asked()
+    ensures all { (T : Task) (G : GroundTask) → StandsFor T G
+        → (plan : Plan) (numbers : GroundPlan) → AreNumbers T plan numbers
+        → AreAsked T G plan numbers }
+    ensures those { (T : Task) (G : GroundTask)
+        → (plan : Plan) (numbers : GroundPlan) → StandsForSteps T G numbers
+        → AreNumbers T plan numbers → AreAsked T G plan numbers }
+    ensures done { (T : Task) (G : GroundTask)
+        → (plan : Plan) (numbers : GroundPlan) → AreNumbers T plan numbers
+        → IsTrue (list_all (λ (move : State × ℕ). ground_fits G move.0 move.1)
+        (ground_moves G numbers)) → AreAsked T G plan numbers }
+{}
+
+/// A plan whose steps are asked of a ground task that stands for the task in some steps is valid
+/// exactly where the list of their numbers is a valid ground plan, and violates and costs as much.
+pub fn plans_that_are_asked_agree()
+    ensures alike { (T : Task) (G : GroundTask) → WellFormed T → StandsIn T G
+        → (plan : Plan) (numbers : GroundPlan) → AreAsked T G plan numbers
+        → Valid T plan ↔ GroundValid G numbers }
+    ensures agree { (T : Task) (G : GroundTask) → WellFormed T → StandsIn T G
+        → (plan : Plan) (numbers : GroundPlan) → AreAsked T G plan numbers
+        → IsTrue (steps_fit T plan) → CountsAgree T G plan numbers }
+{}
+
 /// A plan has one list of numbers, as long as the plan, and no other plan has it.
 pub fn numbers_are_one_to_one()
     ensures one_list { (T : Task) → WellFormed T → (plan : Plan) (numbers others : GroundPlan)
@@ -103,6 +154,9 @@ pub fn names_are_below()
 pub fn steps_that_never_fit_may_be_left_out()
     ensures stands { (T : Task) (atoms : List Fact) (G : GroundTask) (set : State) → WellFormed T
         → StandsBy T atoms G → IsClosed G set → StandsBy T atoms (pruned set G) }
+    ensures left_out { (T : Task) (atoms : List Fact) (G : GroundTask) (set : State)
+        → WellFormed T → StandsBy T atoms G → LeavesOutOnlyUnfit T G → IsClosed G set
+        → LeavesOutOnlyUnfit T (pruned set G) }
     ensures sparse { (T : Task) (atoms : List Fact) (G : GroundTask) (set : State)
         → StepsHaveFewChanges T atoms G → ConstraintsHaveOwnAtoms T atoms G
         → StepsHavePossibleConjuncts T G

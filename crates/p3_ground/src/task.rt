@@ -1,13 +1,16 @@
 //! From a checked task to its ground task.
 
-ghost use Rattle.std.specs.Prelude.{◌≡◌, ◌++◌, ◌∷◌, [], false, drop as drop_first, if◌then◌else◌};
-ghost use Rattle.std.specs.Prelude.{slice_index_or, IfOk, IfErr, OnOk};
+ghost use Rattle.std.specs.Prelude.{◌≡◌, ◌≤◌, ◌++◌, ◌∷◌, [], false, drop as drop_first, if◌then◌else◌};
+ghost use Rattle.std.specs.Prelude.{slice_index_or, None, IfOk, IfErr, OnOk};
 ghost use Rattle.std.specs.List.{list_all};
+ghost use Rattle.std.specs.List.Sorted.{IsStrictlyIncreasing};
+ghost use Rattle.p3_tree.specs.Limits.{step_count};
+ghost use Rattle.p3_tree.specs.Sides.{step_count_limit};
 ghost use Rattle.p3_ground.specs.Closed.{steps_that_may};
 ghost use Rattle.p3_formula.specs.Forms.{State};
 ghost use Rattle.p3_ground.specs.Pruned.{pruned, steps_over};
 ghost use Rattle.p3_ground.specs.Rests.{joined_of};
-ghost use Rattle.p3_ground.specs.Sparse.{IsGroundingOf};
+ghost use Rattle.p3_ground.specs.Sparse.{IsGroundingAmong, IsGroundingOf};
 ghost use Rattle.p3_ground.specs.Whole.{IsFailOf, IsWhole, IsWithinLimits};
 
 use crate::error::GroundFail;
@@ -140,7 +143,7 @@ fn with_marked(alloc: Global, task: GroundTask, marks: &[bool]) -> Result<Ground
 
 /// A ground task of all steps that may begin without those that can never fit.
 fn without_unfit(alloc: Global, task: GroundTask, checked: &Checked) -> Result<GroundTask, NoMemory>
-    requires { IsWhole checked.now.task checked.now.numbered task }
+    requires { IsWhole checked.now.task checked.now.numbered None task }
     ensures { IfOk result (IsGroundingOf checked.now.task) }
 {
     let marks = reachable(alloc, &task)?;
@@ -164,7 +167,27 @@ pub fn ground(alloc: Global, task: &Checked) -> Result<GroundTask, GroundFail>
     if let Some(refusal) = size_refusal(task.side(), task.task(), task.numbered())? {
         return Err(GroundFail::Refused(refusal));
     }
-    let whole = whole(alloc, task)?;
+    let whole = whole(alloc, task, None)?;
     let ground = without_unfit(alloc, whole, task)?;
     Ok(ground)
+}
+
+/// The ground task of the steps of these numbers alone, which rise. It stands for the task in them:
+/// those whose static conditions fail for their objects are left out, and nothing of them or of any
+/// other step is expanded.
+///
+/// Nothing is refused of the task here: that it has no more steps than it may is asked for.
+///
+/// # Errors
+///
+/// Want of memory.
+pub fn ground_among(alloc: Global, task: &Checked, those: &[u32]) -> Result<GroundTask, NoMemory>
+    requires few { step_count task.now.task ≤ step_count_limit }
+    requires rising { IsStrictlyIncreasing those.now }
+    ensures { IfOk result (IsGroundingAmong task.now.task those.now) }
+{
+    // what is known of a checked task
+    let _ = task.task();
+    let _ = task.numbered();
+    whole(alloc, task, Some(those))
 }

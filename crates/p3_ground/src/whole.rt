@@ -1,21 +1,46 @@
-//! A ground task of all steps that may begin.
+//! A ground task of all steps that may begin, or of those of some numbers.
 
-ghost use Rattle.std.specs.Prelude.{◌≡◌, ◌≤◌, [], IfOk};
+ghost use Rattle.std.specs.Prelude.{◌≡◌, ◌≤◌, ℕ, List, [], Option, IfOk, IfSome};
+ghost use Rattle.std.specs.List.Sorted.{IsStrictlyIncreasing};
+ghost use Rattle.std.specs.Option.{option_copied};
 ghost use Rattle.p3_tree.specs.Costs.{cost_places as places_of_costs, initial_cost as cost_at_start};
 ghost use Rattle.p3_tree.specs.Offences.{WellFormed};
 ghost use Rattle.p3_expansion.specs.Statics.{AreStatics, start_bits};
+ghost use Rattle.p3_steps.specs.Steps.{MakesSteps};
+ghost use Rattle.p3_ground.specs.Planned.{wanted_steps};
 ghost use Rattle.p3_ground.specs.Whole.{ArePartsOf, IsWhole, HasFewSteps};
 
 use crate::initial::{initial_cost, places_of};
 use crate::parts::Parts;
-use p3_base::NoMemory;
+use p3_base::{List, NoMemory};
 use p3_expansion::{
     Atoms, Statics, Work, hard_constraints, hard_form, initial_bits, soft_constraints,
 };
-use p3_formula::{Bits, GroundTask};
-use p3_steps::{Costs, steps};
+use p3_formula::{Bits, GroundStep, GroundTask};
+use p3_numbers::NumberedTask;
+use p3_steps::{Costs, steps, steps_among};
 use p3_types::Checked;
 use std::alloc::Global;
+
+/// The steps that may begin: all, or those of the wanted numbers.
+fn steps_of(
+    task: &NumberedTask,
+    statics: &Statics,
+    costs: &Costs,
+    work: &mut Work,
+    wanted: Option<&[u32]>,
+) -> Result<List<GroundStep>, NoMemory>
+    requires few { HasFewSteps task.now }
+    requires values { costs.now.values.now ≡ task.now.values }
+    requires rising { IfSome wanted (λ those. IsStrictlyIncreasing those.now) }
+    ensures { IfOk result (MakesSteps task.now statics.now costs.now.places
+        (wanted_steps task.now statics.now (option_copied wanted.entry)) work.old work.new) }
+{
+    match wanted {
+        None => steps(task, statics, costs, work),
+        Some(those) => steps_among(task, statics, costs, work, those),
+    }
+}
 
 /// What is expanded of a task, the steps first.
 fn parts_of(
@@ -23,17 +48,19 @@ fn parts_of(
     statics: &Statics,
     costs: &Costs,
     work: &mut Work,
+    wanted: Option<&[u32]>,
 ) -> Result<Parts, NoMemory>
     requires well { WellFormed task.now.task }
     requires few { HasFewSteps task.now.numbered }
     requires statics { AreStatics task.now.numbered statics.now }
     requires values { costs.now.values.now ≡ task.now.numbered.values }
     requires none { work.old.atoms ≡ [] }
+    requires rising { IfSome wanted (λ those. IsStrictlyIncreasing those.now) }
     ensures { IfOk result (ArePartsOf task.now.task task.now.numbered statics.now
-        costs.now.places work.new.atoms) }
+        costs.now.places work.new.atoms (option_copied wanted.entry)) }
 {
     let numbered = task.numbered();
-    let steps = steps(numbered, statics, costs, work)?;
+    let steps = steps_of(numbered, statics, costs, work, wanted)?;
     let goal = hard_form(&numbered.numbers, statics, work, &[], &numbered.goal)?;
     let hard = hard_constraints(numbered, statics, work)?;
     let soft = soft_constraints(numbered, statics, work)?;
@@ -80,11 +107,11 @@ fn together(
 ) -> GroundTask
     requires few { HasFewSteps task.now.numbered }
     requires places { costs.now.places ≡ places_of_costs task.now.task }
-    requires parts { ArePartsOf task.now.task task.now.numbered statics.now
-        costs.now.places atoms.now parts }
     requires initial { start.initial ≡ start_bits statics.now atoms.now }
     requires cost { start.cost ≡ cost_at_start task.now.task }
-    ensures { IsWhole task.now.task task.now.numbered result }
+    ensures { (wanted : Option (List ℕ)) → ArePartsOf task.now.task task.now.numbered
+        statics.now costs.now.places atoms.now wanted parts
+        → IsWhole task.now.task task.now.numbered wanted result }
 {
     GroundTask {
         atoms: parts.atoms,
@@ -99,35 +126,42 @@ fn together(
     }
 }
 
-/// The ground task of all steps that may begin, by what no step changes and what effects cost.
+/// The ground task of the wanted steps, by what no step changes and what effects cost.
 fn whole_by(
     alloc: Global,
     task: &Checked,
     statics: &Statics,
     costs: &Costs,
+    wanted: Option<&[u32]>,
 ) -> Result<GroundTask, NoMemory>
     requires well { WellFormed task.now.task }
     requires few { HasFewSteps task.now.numbered }
     requires statics { AreStatics task.now.numbered statics.now }
     requires values { costs.now.values.now ≡ task.now.numbered.values }
     requires places { costs.now.places ≡ places_of_costs task.now.task }
-    ensures { IfOk result (IsWhole task.now.task task.now.numbered) }
+    requires rising { IfSome wanted (λ those. IsStrictlyIncreasing those.now) }
+    ensures { IfOk result (IsWhole task.now.task task.now.numbered (option_copied wanted.entry)) }
 {
     let mut work = Work::new(alloc);
-    let parts = parts_of(task, statics, costs, &mut work)?;
+    let parts = parts_of(task, statics, costs, &mut work, wanted)?;
     let start = start_of(alloc, task, statics, &work.atoms)?;
     Ok(together(task, statics, costs, &work.atoms, parts, start))
 }
 
-/// The ground task of all steps of a task that may begin.
-pub(crate) fn whole(alloc: Global, task: &Checked) -> Result<GroundTask, NoMemory>
+/// The ground task of the steps of a task that may begin: of all, or of those of the wanted numbers.
+pub(crate) fn whole(
+    alloc: Global,
+    task: &Checked,
+    wanted: Option<&[u32]>,
+) -> Result<GroundTask, NoMemory>
     requires well { WellFormed task.now.task }
     requires few { HasFewSteps task.now.numbered }
-    ensures { IfOk result (IsWhole task.now.task task.now.numbered) }
+    requires rising { IfSome wanted (λ those. IsStrictlyIncreasing those.now) }
+    ensures { IfOk result (IsWhole task.now.task task.now.numbered (option_copied wanted.entry)) }
 {
     let numbered = task.numbered();
     let statics = Statics::of(alloc, numbered)?;
     let costs = Costs::of(alloc, numbered.values.items(), places_of(task))?;
-    let whole = whole_by(alloc, task, &statics, &costs)?;
+    let whole = whole_by(alloc, task, &statics, &costs, wanted)?;
     Ok(whole)
 }

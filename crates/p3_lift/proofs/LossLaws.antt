@@ -23,7 +23,7 @@ use Rattle.p3_tree.proofs.ValidityLemmas.{valid_where_no_fault}
 use Rattle.p3_formula.specs.GroundPlans.{GroundPlan, ground_loss, ground_visited}
 use Rattle.p3_formula.specs.declared.target.Weights.{Weights}
 use Rattle.p3_formula.specs.declared.task.GroundTask.{GroundTask}
-use Rattle.p3_ground.specs.PlansByNumber.{AreNumbers}
+use Rattle.p3_ground.specs.PlansByNumber.{AreAsked}
 use Rattle.p3_run.specs.Groups.{watches_of}
 use Rattle.p3_run.specs.Runs.{CanBeRun, Ran, begun, ground_metric, most_steps, signed_by}
 use Rattle.p3_run.proofs.FollowLaws.{shape_of}
@@ -60,7 +60,7 @@ signed_alike Minimize z = refl
 signed_alike Maximize z = omega (arith, ints)
 
 module _ (T : Task) (G : GroundTask) (w : Weights) (all : BelongTogether T G w) (metric : ℤ) where
-  above_base : (plan : Plan) (numbers : GroundPlan) → All (λ weight. weight < 2 ^ 64) w.by_name → AreNumbers T plan numbers → steps_fit T plan ≡ true → length numbers ≤ most_steps → metric ≡ value T plan
+  above_base : (plan : Plan) (numbers : GroundPlan) → All (λ weight. weight < 2 ^ 64) w.by_name → AreAsked T G plan numbers → steps_fit T plan ≡ true → length numbers ≤ most_steps → metric ≡ value T plan
       → IsAboveBase w.direction w.base metric
   unfolding ground_metric
   above_base plan numbers small are fit short is = record {
@@ -100,7 +100,7 @@ module _ (T : Task) (plan : Plan) (G : GroundTask) (w : Weights) (before now : R
 
   pub is_above : All (λ weight. weight < 2 ^ 64) w.by_name → length plan ≤ most_steps → IsAboveBase w.direction w.base metric
   is_above small few =
-      above_base T G w together metric plan now.plan small done.numbers (valid_fits T plan valid)
+      above_base T G w together metric plan now.plan small (subst (λ other. AreAsked T other plan now.plan) (done.task ∙ ap (λ (ran : Ran). ran.task) begins) done.asked) (valid_fits T plan valid)
       (let long = AllZip-long (HasNumber T) plan now.plan done.numbers in omega (arith, long, few)) is_value
 
   pub is_worth : (above : ℤ) → above ≡ signed w.direction metric -ℤ w.base → IsWorth T plan (record { metric = metric; loss = above })

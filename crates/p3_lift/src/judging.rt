@@ -1,14 +1,14 @@
 //! Plans judged by runs: the first fault of one, or what it comes to.
 
-ghost use Rattle.std.specs.Prelude.{◌≡◌, ◌≤◌, ◌<◌, ◌^◌, ◌-ℤ◌, length, IfOk};
+ghost use Rattle.std.specs.Prelude.{◌≡◌, ◌<◌, ◌^◌, ◌-ℤ◌, IfOk};
 ghost use Rattle.std.specs.List.{All};
 ghost use Rattle.p3_tree.specs.Metrics.{signed};
-ghost use Rattle.p3_run.specs.Runs.{most_steps};
+ghost use Rattle.p3_ground.specs.StandsFor.{LeftOutAt};
+ghost use Rattle.p3_eval.specs.Steps.{AreOfPlan, OfSteps};
 ghost use Rattle.p3_lift.specs.Judging.{IsAboveBase, IsOutcome};
 
 use p3_base::{Direction, NoMemory};
-use p3_eval::{PlanFault, Whole};
-use p3_tree::Step;
+use p3_eval::{Grounded, PlanFault, Steps};
 use std::alloc::Global;
 
 /// What a valid plan comes to, in units.
@@ -48,20 +48,28 @@ fn loss_above(direction: Direction, base: i128, metric: i128) -> i128
     }
 }
 
-/// The first fault of the plan; or its value and its loss above the base, where it is valid.
+/// The first fault of the plan of these steps; or its value and its loss above the base, where it is
+/// valid.
 ///
 /// # Errors
 ///
 /// Want of memory.
-pub(crate) fn judged(alloc: Global, whole: &Whole, plan: &[Step]) -> Result<Outcome, NoMemory>
-    requires few { length plan.now ≤ most_steps }
-    ensures { IfOk result (IsOutcome whole.now.checked.task plan.now) }
+pub(crate) fn judged(
+    alloc: Global,
+    grounded: &Grounded<'_>,
+    steps: &Steps,
+) -> Result<Outcome, NoMemory>
+    requires asked { All (LeftOutAt grounded.now.checked.now.task grounded.now.ground_task.now)
+        steps.now.numbers.items }
+    requires some { AreOfPlan grounded.now.checked.now.task steps.now }
+    ensures { IfOk result (λ outcome. OfSteps grounded.now.checked.now.task steps.now
+        (λ plan. IsOutcome grounded.now.checked.now.task plan outcome)) }
 {
-    let mut run = whole.begin(alloc)?;
-    if let Some(fault) = run.judge_plan(whole.checked(), plan) {
+    let mut run = grounded.begin(alloc)?;
+    if let Some(fault) = run.judge_steps(steps) {
         return Ok(Outcome::Fault(fault));
     }
-    let weights = whole.weights();
+    let weights = grounded.weights();
     // No sum of so few weights of 64 bits leaves 126 bits.
     let _bounded = bounded(weights.by_name.items());
     let metric = run.metric();

@@ -11,4 +11,4 @@ mod steps;
 
 pub use answers::{Differ, LiftFail, Lifted};
 pub use laws::{answers_exclude_each_other, faithful_tasks_never_mismatch};
-pub use lifting::lift;
+pub use lifting::{lift, lift_by_steps};

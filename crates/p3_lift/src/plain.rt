@@ -7,7 +7,7 @@ ghost use Rattle.p3_tree.specs.Lifting.{constrains, is_cost_metric, is_plain, pr
 ghost use Rattle.p3_lift.specs.Plain.{has_plain_trees, some_prefers};
 
 use p3_base::Direction;
-use p3_eval::Whole;
+use p3_eval::Grounded;
 use p3_tree::{Action, Constraint, Metric, Num, PreGoal, Task};
 
 /// Whether an operator or a preference stands in the constraints.
@@ -103,10 +103,10 @@ fn is_plain_from(task: &Task, initial_cost: u64) -> bool
 }
 
 /// Whether the task is plain.
-pub(crate) fn is_plain(whole: &Whole) -> bool
-    ensures { result ≡ is_plain whole.now.checked.task }
+pub(crate) fn is_plain(grounded: &Grounded<'_>) -> bool
+    ensures { result ≡ is_plain grounded.now.checked.now.task }
 {
-    let task = whole.checked().task();
-    let initial_cost = whole.ground_task().initial_cost;
+    let task = grounded.checked().task();
+    let initial_cost = grounded.ground_task().initial_cost;
     is_plain_from(task, initial_cost)
 }

@@ -1,13 +1,16 @@
 //! The steps as which written steps count, in order.
 
-ghost use Rattle.std.specs.Prelude.{◌≡◌, ◌≤◌, [], ◌++◌, IfOk, OnOk};
+ghost use Rattle.std.specs.Prelude.{◌≡◌, ◌≤◌, [], ◌++◌, length, IfOk, OnOk};
 ghost use Rattle.std.specs.List.{cons_option};
 ghost use Rattle.p3_tree.specs.Lifting.{lift, lifted_step};
 ghost use Rattle.p3_tree.specs.Limits.{step_count as count_of_steps};
 ghost use Rattle.p3_tree.specs.Sides.{step_count_limit};
+ghost use Rattle.p3_run.specs.Runs.{most_steps};
+ghost use Rattle.p3_eval.specs.Steps.{AreStepsOf};
 
 use crate::names::counted_step;
 use p3_base::{List, NoMemory};
+use p3_eval::Steps;
 use p3_tree::{Plan, Step};
 use p3_types::Checked;
 use std::alloc::Global;
@@ -48,4 +51,30 @@ pub(crate) fn lifted_steps(alloc: Global, task: &Checked, plan: &[Step]) -> Resu
         push_step(&mut lifted, step)?;
     }
     Ok(lifted)
+}
+
+/// The numbers of the steps as which the written steps count; the others are dropped.
+pub(crate) fn copied_steps(alloc: Global, task: &Checked, plan: &[Step]) -> Result<Steps, NoMemory>
+    requires few { count_of_steps task.now.task ≤ step_count_limit }
+    requires room { length plan.now ≤ most_steps }
+    ensures { IfOk result (AreStepsOf task.now.task (lift task.now.task plan.now)) }
+{
+    let mut numbers = Vec::new(alloc);
+    for written in plan {
+        push_number(&mut numbers, counted_step(task, written))?;
+    }
+    Ok(Steps {
+        numbers,
+        rest: None,
+    })
+}
+
+/// The number stands behind the others, where there is one.
+fn push_number(numbers: &mut Vec<u32>, number: Option<u32>) -> Result<(), NoMemory>
+    ensures { OnOk result (numbers.new.items ≡ numbers.old.items ++ cons_option number []) }
+{
+    if let Some(number) = number {
+        numbers.push(number)?;
+    }
+    Ok(())
 }

@@ -1,20 +1,20 @@
 -- The candidates of one range more are those that come behind the candidates of the ranges before.
-use Rattle.std.proofs.Common.{◌≡◌, ◌∙◌, ℕ, ◌+◌, ◌*◌, ◌/◌, ◌%◌, ◌<◌, ◌≤◌, nat_lt, Bool, true, false, List, [], ◌∷◌, ◌++◌, map, length, take, drop, get_or, refl, sym, ap, subst, add-one, arith, append_assoc, zero, suc, if◌then◌else◌}
+use Rattle.std.proofs.Common.{◌≡◌, ◌∙◌, ℕ, ◌+◌, ◌*◌, ◌/◌, ◌%◌, ◌<◌, ◌≤◌, Bool, true, false, List, [], ◌∷◌, ◌++◌, map, length, take, drop, get_or, refl, sym, ap, subst, add-one, arith, append_assoc, zero, suc, if◌then◌else◌}
 use Rattle.std.specs.Prelude.{flat_map}
 use Rattle.std.specs.List.{All, filter, range_with_len}
 use Rattle.std.proofs.Math.Nat.{add-mul, suc-mul, mul-suc, mul-le-mul_right, mul_assoc, mul_comm, div-div-eq-div-mul}
 use Rattle.std.proofs.lemmas.Grind.{flat_map-append}
-use Rattle.std.proofs.lemmas.List.{append-nil, drop-append-le, drop_all, length-take-le, map-append, map-id, take-append-drop, take-append-le, take_all, take_more}
+use Rattle.std.proofs.lemmas.List.{append-nil, drop-append-le, drop_all, length-take-le, map-append, map-id, take-append-drop, take_more}
 use Rattle.std.proofs.lemmas.List.Elements.{All-filter}
 use Rattle.std.proofs.lemmas.List.FromFn.{filter_of_map_range_with_len_more, get_or-range_with_len, length-range_with_len}
-use Rattle.std.proofs.lemmas.Nat.{div_below, div-add-mod', div-mul-add, mod_below, mod-mul-add}
+use Rattle.std.proofs.lemmas.Nat.{div-add-mod', div-mul-add, mod_below, mod-mul-add}
 use Rattle.p3_tree.specs.Sides.{step_count_limit}
 use Rattle.p3_numbers.specs.Choices.{choice_count, choice}
-use Rattle.p3_numbers.specs.Slots.{Slots, range_at}
+use Rattle.p3_numbers.specs.Slots.{range_at}
 use Rattle.p3_numbers.specs.declared.goal.Goal.{Goal}
 use Rattle.p3_numbers.specs.declared.numbers.Numbers.{Numbers}
 use Rattle.p3_expansion.specs.declared.statics.Statics.{Statics}
-use Rattle.p3_steps.specs.Candidates.{first_candidates, candidates_of, may_take, first_taken, all_taken, taken_behind}
+use Rattle.p3_steps.specs.Candidates.{first_candidates, candidates_of, may_take, first_taken, taken_behind}
 use Rattle.p3_steps.specs.Possible.{may_begin}
 use Rattle.p3_steps.proofs.PossibleLaws.{cannot-narrower}
 
@@ -49,18 +49,15 @@ none-behind p base n fails =
     filter-behind p (λ _. false) base n fails
     ∙ ap (λ more. filter p (range_with_len 0 base) ++ map (λ k. base + k) more) (filter-nothing (range_with_len 0 n)) ∙ append-nil (filter p (range_with_len 0 base))
 
+pub range-below : (count : ℕ) → All (λ number. number < count) (range_with_len 0 count)
+range-below count k d within =
+    let inside : k < count = subst (λ n. k < n) (length-range_with_len 0 count) within in
+    subst (λ n. n < count) (sym (get_or-range_with_len 0 count k d inside)) (omega (arith, inside))
+
 -- those that may begin are numbers of choices
 pub candidates-below : (N : Numbers) (S : Statics) (ranges : List ℕ) (goal : Goal) → All (λ number. number < choice_count N ranges) (candidates_of N S ranges goal)
 candidates-below N S ranges goal =
-    All-filter (λ number. may_begin N S (choice N ranges number) goal) (λ number. number < count) (range_with_len 0 count) below
-  where
-    count : ℕ
-    count = choice_count N ranges
-
-    below : All (λ number. number < choice_count N ranges) (range_with_len 0 (choice_count N ranges))
-    below k d within =
-        let inside : k < choice_count N ranges = subst (λ n. k < n) (length-range_with_len 0 (choice_count N ranges)) within in
-        subst (λ n. n < choice_count N ranges) (sym (get_or-range_with_len 0 (choice_count N ranges) k d inside)) (omega (arith, inside))
+    All-filter (λ number. may_begin N S (choice N ranges number) goal) (λ number. number < choice_count N ranges) (range_with_len 0 (choice_count N ranges)) (range-below (choice_count N ranges))
 
 -- ---- choices of some ranges and then others
 

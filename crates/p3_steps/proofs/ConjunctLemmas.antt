@@ -5,11 +5,10 @@ use Rattle.std.proofs.lemmas.List.Folds.{list_all-append, list_all_more}
 use denote.Ref.{Bor}
 use Rattle.p3_numbers.specs.Slots.{Slots}
 use Rattle.p3_numbers.specs.declared.condition.Condition.{Condition}
-use Rattle.p3_numbers.specs.declared.goal.Goal.{Goal}
 use Rattle.p3_numbers.specs.declared.numbers.Numbers.{Numbers}
 use Rattle.p3_expansion.specs.declared.statics.Statics.{Statics}
 use Rattle.p3_steps.specs.Conjuncts.{all_may, JoinsWhat, Joins}
-use Rattle.p3_steps.specs.Possible.{may_be, may_begin}
+use Rattle.p3_steps.specs.Possible.{may_be}
 
 and-true : (a : Bool) → a ≡ (a && true)
 and-true true = refl

@@ -1,3 +1,4 @@
+pub mod AmongLemmas
 pub mod CandidateLemmas
 pub mod ConjunctLemmas
 pub mod CostLaws
@@ -6,4 +7,5 @@ pub mod LinkLemmas
 pub mod MarkLemmas
 pub mod PossibleLaws
 pub mod PossibleLemmas
+pub mod RisingNumbers
 pub mod StepLemmas

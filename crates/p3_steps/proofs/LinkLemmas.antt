@@ -1,9 +1,9 @@
 -- What files of facts tell of the newest variable.
-use Rattle.std.proofs.Common.{◌≡◌, ◌∙◌, ℕ, ◌+◌, ◌<◌, ◌≤◌, ◌==◌, nat_lt, Bool, true, false, not, ◌&&◌, ◌||◌, List, [], ◌∷◌, ◌++◌, map, length, take, get_or, refl, sym, ap, subst, arith, add-one, length-append, inl, inr, ⊎_elim}
-use Rattle.std.specs.Prelude.{slice_set, bytes_eq, slice_get, Some}
+use Rattle.std.proofs.Common.{◌≡◌, ◌∙◌, ℕ, ◌+◌, ◌<◌, ◌≤◌, ◌==◌, nat_lt, Bool, true, false, not, ◌&&◌, ◌||◌, List, [], ◌∷◌, ◌++◌, length, take, get_or, refl, sym, ap, subst, arith, add-one, length-append, ⊎_elim}
+use Rattle.std.specs.Prelude.{slice_set, bytes_eq}
 use Rattle.std.specs.List.{list_any, list_all}
 use Rattle.std.proofs.Math.Seq.{get_or-append_seam}
-use Rattle.std.proofs.lemmas.Bool.{and_parts, and_from, or_left, or_right, eqb-true, eq-eqb, ltb-true, lt-ltb, false≢true, cases_eq}
+use Rattle.std.proofs.lemmas.Bool.{and_parts, and_from, or_left, or_right, eqb-true, eq-eqb, ltb-true, false≢true, cases_eq}
 use Rattle.std.proofs.lemmas.List.{get_or_default, get_or-map, get_or-set_same, get_or-set_other, get_or_append_left, length-set}
 use Rattle.std.proofs.lemmas.List.Folds.{list_any-append, list_all_more, list_all_at}
 use Rattle.std.proofs.lemmas.Slice.Eq.{bytes_eq-Decides}
@@ -17,9 +17,9 @@ use Rattle.p3_numbers.specs.declared.numbers.Numbers.{Numbers}
 use Rattle.p3_expansion.specs.Atoms.{GroundAtom, atom_at}
 use Rattle.p3_expansion.specs.Statics.{is_static, is_decided}
 use Rattle.p3_expansion.specs.declared.statics.Statics.{Statics}
-use Rattle.p3_steps.specs.Conjuncts.{AreConjuncts, all_may}
-use Rattle.p3_steps.specs.Links.{is_newest, is_older, is_ready, word_at, IsNewestPlace, IsKeyPlace, file_at, is_filed, AreFiled, Files, words_at, row_at, is_missing, TellsOf, TellsOfAtom, Tells}
-use Rattle.p3_steps.specs.Possible.{is_chosen, are_chosen, is_at_start, atom_may, may_be, may_begin}
+use Rattle.p3_steps.specs.Conjuncts.{AreConjuncts}
+use Rattle.p3_steps.specs.Links.{is_newest, is_older, is_ready, word_at, IsNewestPlace, IsKeyPlace, file_at, is_filed, AreFiled, Files, words_at, row_at, TellsOf, TellsOfAtom, Tells}
+use Rattle.p3_steps.specs.Possible.{is_chosen, are_chosen, is_at_start, may_be}
 use Rattle.p3_steps.specs.declared.links.Links.{Links}
 
 -- ---- values of arguments

@@ -1,16 +1,17 @@
 -- Ground steps that are made while atoms and nodes come.
 use Rattle.std.proofs.Common.{◌≡◌, ◌∙◌, ℕ, ◌+◌, ◌<◌, ◌≤◌, Bool, true, List, [], ◌∷◌, ◌++◌, length, take, get_or, map, sym, ap, subst, arith, zero, suc, append_assoc}
 use Rattle.std.specs.Prelude.{IsTrue}
-use Rattle.std.specs.List.{list_all}
+use Rattle.std.specs.List.{filter, list_all, range_with_len}
 use Rattle.std.proofs.lemmas.Bool.{and_parts}
 use Rattle.std.proofs.lemmas.List.{append-nil, map-append, take_more, take_all}
+use Rattle.std.proofs.lemmas.List.Elements.{All-weaker, filter-append}
 use Rattle.std.proofs.lemmas.List.Folds.{list_all-append}
 use Rattle.p3_formula.specs.Tidy.{is_tidy}
 use Rattle.p3_formula.specs.declared.form.Change.{Change}
 use Rattle.p3_formula.specs.declared.form.Form.{Form}
 use Rattle.p3_formula.specs.declared.modal.GroundPref.{GroundPref}
 use Rattle.p3_formula.specs.declared.task.GroundStep.{GroundStep}
-use Rattle.p3_numbers.specs.Choices.{choice_count}
+use Rattle.p3_numbers.specs.Choices.{choice, choice_count}
 use Rattle.p3_numbers.specs.Goals.{preferences}
 use Rattle.p3_numbers.specs.Slots.{Slots}
 use Rattle.p3_numbers.specs.declared.goal.Goal.{Goal}
@@ -19,6 +20,7 @@ use Rattle.p3_numbers.specs.declared.task.NumberedAction.{NumberedAction}
 use Rattle.p3_numbers.specs.declared.task.NumberedTask.{NumberedTask}
 use Rattle.p3_steps.specs.Candidates.{candidates_of}
 use Rattle.p3_steps.specs.Costs.{cost_of}
+use Rattle.p3_steps.specs.Possible.{may_begin}
 use Rattle.p3_expansion.specs.Atoms.{GroundAtom, Keeps}
 use Rattle.p3_expansion.specs.Changes.{ChangesStand, MakesChanges, always, effect_atoms, guarded_literals}
 use Rattle.p3_expansion.specs.Expansions.{Stands}
@@ -33,7 +35,9 @@ use Rattle.p3_expansion.proofs.ExpansionLemmas.{stands-grows}
 use Rattle.p3_expansion.proofs.GrowthLemmas.{Covers, grows-trans, grows-wider}
 use Rattle.p3_expansion.proofs.PreferenceLemmas as preference_lemma
 use Rattle.p3_expansion.proofs.WalkLemmas.{zip-push, zip-weaker, pushes-by, pushes-join}
-use Rattle.p3_steps.specs.Steps.{PlannedStep, slots_of, step_atoms, StepIsMade, MakesStep, StepsAreMade, planned_step, action_steps, count_of_steps, steps_from, planned_steps, all_atoms, MakesSteps}
+use Rattle.p3_steps.specs.Steps.{PlannedStep, slots_of, step_atoms, StepIsMade, MakesStep, StepsAreMade, planned_step, action_steps, action_steps_among, count_of_steps, steps_from, planned_steps, all_atoms, MakesSteps, is_among, planned_among, with_numbers}
+use Rattle.p3_steps.proofs.CandidateLemmas.{range-below}
+use Rattle.p3_steps.proofs.RisingNumbers.{IsParted, RiseWithin, filter-map, filter-same, filter-swap, stretch-among}
 
 -- ---- one step
 
@@ -112,6 +116,15 @@ module _ (X : NumberedTask) (S : Statics) (places : ℕ) where
         (zip-weaker (StepIsMade X S places old.atoms) (StepIsMade X S places new.atoms) (made-keeps old.atoms new.atoms makes.grows.atoms) those before stand) makes.is;
   }
 
+  -- a list that is parted
+  pushes-joined : (a b c : Work) (before behind whole : List PlannedStep) (p q r : List GroundStep) → whole ≡ before ++ behind → Pushes Stand (all_atoms N before) a b before p q → Pushes Stand (all_atoms N behind) b c behind q r
+      → Pushes Stand (all_atoms N whole) a c whole p r
+  pushes-joined a b c before behind whole p q r longer first second =
+      pushes-by Stand (all_atoms N whole) (all_atoms N (before ++ behind)) a c whole (before ++ behind) p r (ap (all_atoms N) longer) longer (pushes-join Stand (step_atoms N) a b c before behind p q r first second)
+
+  makes-steps : (a b : Work) (planned : List PlannedStep) (made : List GroundStep) → Pushes Stand (all_atoms N planned) a b planned [] made → MakesSteps X S places planned a b made
+  makes-steps a b planned made pushes = record { grows = pushes.grows; are = pushes.made [] tt }
+
   -- one step more of an action
   pub steps-more : (action : NumberedAction) (first : ℕ) (kept : List ℕ) (i number : ℕ) (a b c : Work) (p q r : List GroundStep) (made : GroundStep) → i < length kept → number ≡ get_or kept i 0
       → Pushes Stand (all_atoms N (map (planned_step action first) (take i kept))) a b (map (planned_step action first) (take i kept)) p q
@@ -123,15 +136,14 @@ module _ (X : NumberedTask) (S : Statics) (places : ℕ) where
       ap (map plan) (take_more kept i 0 within ∙ ap (λ item. take i kept ++ item ∷ []) (sym read)) ∙ map-append plan (take i kept) (number ∷ [])
       in
       subst (Pushes Stand (all_atoms N (map plan (take (i + 1) kept))) a c (map plan (take (i + 1) kept)) p) (sym is)
-      (pushes-by Stand (all_atoms N (map plan (take (i + 1) kept))) (all_atoms N (map plan (take i kept) ++ plan number ∷ [])) a c (map plan (take (i + 1) kept)) (map plan (take i kept) ++ plan number ∷ []) p (q ++ made ∷ []) (ap (all_atoms N) longer) longer
-      (pushes-join Stand (step_atoms N) a b c (map plan (take i kept)) (plan number ∷ []) p q (q ++ made ∷ []) pushes (push-one b c (plan number) q made makes)))
+      (pushes-joined a b c (map plan (take i kept)) (plan number ∷ []) (map plan (take (i + 1) kept)) p q (q ++ made ∷ []) longer pushes (push-one b c (plan number) q made makes))
 
-  -- all steps of an action
-  pub steps-all : (action : NumberedAction) (first : ℕ) (kept : List ℕ) (i : ℕ) (a b : Work) (p q : List GroundStep) → length kept ≤ i → kept ≡ candidates_of N S action.ranges action.pre
+  -- the steps at all choices
+  pub steps-at : (action : NumberedAction) (first : ℕ) (kept : List ℕ) (i : ℕ) (a b : Work) (p q : List GroundStep) → length kept ≤ i
       → Pushes Stand (all_atoms N (map (planned_step action first) (take i kept))) a b (map (planned_step action first) (take i kept)) p q
-      → Pushes Stand (all_atoms N (action_steps N S action first)) a b (action_steps N S action first) p q
-  steps-all action first kept i a b p q past are pushes =
-      subst (λ numbers. Pushes Stand (all_atoms N (map (planned_step action first) numbers)) a b (map (planned_step action first) numbers) p q) (take_all i kept past ∙ are) pushes
+      → Pushes Stand (all_atoms N (map (planned_step action first) kept)) a b (map (planned_step action first) kept) p q
+  steps-at action first kept i a b p q past pushes =
+      subst (λ numbers. Pushes Stand (all_atoms N (map (planned_step action first) numbers)) a b (map (planned_step action first) numbers) p q) (take_all i kept past) pushes
 
   -- ---- actions in turn
 
@@ -150,29 +162,71 @@ module _ (X : NumberedTask) (S : Statics) (places : ℕ) where
   count-more actions i action within read =
       ap (count_of_steps N) (take_more actions i action within ∙ ap (λ item. take i actions ++ item ∷ []) (sym read)) ∙ count-append (take i actions) (action ∷ []) ∙ omega arith
 
-  pub count-within : (actions : List NumberedAction) (i : ℕ) → count_of_steps N (take i actions) ≤ count_of_steps N actions
+  count-within : (actions : List NumberedAction) (i : ℕ) → count_of_steps N (take i actions) ≤ count_of_steps N actions
   count-within [] zero = omega arith
   count-within [] (suc i) = omega arith
   count-within (x ∷ xs) zero = omega arith
   count-within (x ∷ xs) (suc i) = let rest = count-within xs i in omega (arith, rest)
+
+  -- those of one action more
+  steps-more-actions : (actions : List NumberedAction) (i first : ℕ) (action : NumberedAction) → i < length actions → action ≡ get_or actions i action → first ≡ count_of_steps N (take i actions)
+      → steps_from N S 0 (take (i + 1) actions) ≡ steps_from N S 0 (take i actions) ++ action_steps N S action first
+  steps-more-actions actions i first action within read here =
+      ap (steps_from N S 0) (take_more actions i action within ∙ ap (λ item. take i actions ++ item ∷ []) (sym read))
+      ∙ steps-append 0 (take i actions) (action ∷ [])
+      ∙ ap (λ rest. steps_from N S 0 (take i actions) ++ rest) (append-nil (action_steps N S action (0 + count_of_steps N (take i actions))) ∙ ap (action_steps N S action) (omega (arith, here)))
+
+  -- with those of the action they are among all
+  pub count-so-far : (actions : List NumberedAction) (i first : ℕ) (action : NumberedAction) → i < length actions → action ≡ get_or actions i action → first ≡ count_of_steps N (take i actions)
+      → first + choice_count N action.ranges ≤ count_of_steps N actions
+  count-so-far actions i first action within read here = omega (arith, here, count-more actions i action within read, count-within actions (i + 1))
 
   pub action-more : (actions : List NumberedAction) (i first : ℕ) (action : NumberedAction) (a b c : Work) (p q r : List GroundStep) → i < length actions → action ≡ get_or actions i action → first ≡ count_of_steps N (take i actions)
       → Pushes Stand (all_atoms N (steps_from N S 0 (take i actions))) a b (steps_from N S 0 (take i actions)) p q
       → Pushes Stand (all_atoms N (action_steps N S action first)) b c (action_steps N S action first) q r
       → Pushes Stand (all_atoms N (steps_from N S 0 (take (i + 1) actions))) a c (steps_from N S 0 (take (i + 1) actions)) p r
   action-more actions i first action a b c p q r within read here pushes more =
-      let longer : steps_from N S 0 (take (i + 1) actions) ≡ steps_from N S 0 (take i actions) ++ action_steps N S action first =
-      ap (steps_from N S 0) (take_more actions i action within ∙ ap (λ item. take i actions ++ item ∷ []) (sym read))
-      ∙ steps-append 0 (take i actions) (action ∷ [])
-      ∙ ap (λ rest. steps_from N S 0 (take i actions) ++ rest) (append-nil (action_steps N S action (0 + count_of_steps N (take i actions))) ∙ ap (action_steps N S action) (omega (arith, here)))
-      in
-      pushes-by Stand (all_atoms N (steps_from N S 0 (take (i + 1) actions))) (all_atoms N (steps_from N S 0 (take i actions) ++ action_steps N S action first)) a c (steps_from N S 0 (take (i + 1) actions)) (steps_from N S 0 (take i actions) ++ action_steps N S action first) p r
-      (ap (all_atoms N) longer) longer (pushes-join Stand (step_atoms N) a b c (steps_from N S 0 (take i actions)) (action_steps N S action first) p q r pushes more)
+      pushes-joined a b c (steps_from N S 0 (take i actions)) (action_steps N S action first) (steps_from N S 0 (take (i + 1) actions)) p q r (steps-more-actions actions i first action within read here) pushes more
 
   -- all actions
-  pub actions-all : (i : ℕ) (a b : Work) (made : List GroundStep) → length X.actions ≤ i → Pushes Stand (all_atoms N (steps_from N S 0 (take i X.actions))) a b (steps_from N S 0 (take i X.actions)) [] made → MakesSteps X S places a b made
+  pub actions-all : (i : ℕ) (a b : Work) (made : List GroundStep) → length X.actions ≤ i → Pushes Stand (all_atoms N (steps_from N S 0 (take i X.actions))) a b (steps_from N S 0 (take i X.actions)) [] made → MakesSteps X S places (planned_steps X S) a b made
   actions-all i a b made past pushes =
-      let whole : Pushes Stand (all_atoms N (planned_steps X S)) a b (planned_steps X S) [] made =
-      subst (λ actions. Pushes Stand (all_atoms N (steps_from N S 0 actions)) a b (steps_from N S 0 actions) [] made) (take_all i X.actions past) pushes
+      makes-steps a b (planned_steps X S) made (subst (λ actions. Pushes Stand (all_atoms N (steps_from N S 0 actions)) a b (steps_from N S 0 actions) [] made) (take_all i X.actions past) pushes)
+
+  -- ---- those with some numbers
+
+  -- of an action, they are those at the choices of the numbers here
+  action-among : (action : NumberedAction) (first : ℕ) (those here later : List ℕ) → IsParted first (first + choice_count N action.ranges) those here later → with_numbers those (action_steps N S action first) ≡ action_steps_among N S action first here
+  action-among action first those here later parted =
+      let count = choice_count N action.ranges in
+      let test : ℕ → Bool = λ number. may_begin N S (choice N action.ranges number) action.pre in
+      let has : List ℕ → ℕ → Bool = λ numbers k. is_among numbers (first + k) in
+      filter-map (λ (one : PlannedStep). is_among those one.number) (planned_step action first) (candidates_of N S action.ranges action.pre)
+      ∙ ap (map (planned_step action first))
+      (
+      filter-swap (has those) test (range_with_len 0 count)
+      ∙ ap (filter test)
+      (filter-same (has those) (has here) (range_with_len 0 count) (All-weaker (λ k. k < count) (λ k. has those k ≡ has here k) (λ k below. parted.same (first + k) (omega arith) (omega (arith, below))) (range_with_len 0 count) (range-below count))
+      ∙ stretch-among first 0 count here (subst (λ low. RiseWithin low (first + (0 + count)) here) (omega arith) (subst (λ high. RiseWithin first high here) (omega arith) parted.rise)))
+      )
+
+  pub action-among-more : (actions : List NumberedAction) (i first : ℕ) (action : NumberedAction) (those here later : List ℕ) (a b c : Work) (p q r : List GroundStep)
+      → i < length actions → action ≡ get_or actions i action → first ≡ count_of_steps N (take i actions)
+      → IsParted first (first + choice_count N action.ranges) those here later
+      → Pushes Stand (all_atoms N (with_numbers those (steps_from N S 0 (take i actions)))) a b (with_numbers those (steps_from N S 0 (take i actions))) p q
+      → Pushes Stand (all_atoms N (action_steps_among N S action first here)) b c (action_steps_among N S action first here) q r
+      → Pushes Stand (all_atoms N (with_numbers those (steps_from N S 0 (take (i + 1) actions)))) a c (with_numbers those (steps_from N S 0 (take (i + 1) actions))) p r
+  action-among-more actions i first action those here later a b c p q r within read begins parted pushes more =
+      let before = steps_from N S 0 (take i actions) in
+      let longer : with_numbers those (steps_from N S 0 (take (i + 1) actions)) ≡ with_numbers those before ++ action_steps_among N S action first here =
+      ap (with_numbers those) (steps-more-actions actions i first action within read begins)
+      ∙ filter-append (λ (one : PlannedStep). is_among those one.number) before (action_steps N S action first)
+      ∙ ap (λ rest. with_numbers those before ++ rest) (action-among action first those here later parted)
       in
-      record { grows = whole.grows; are = whole.made [] tt }
+      pushes-joined a b c (with_numbers those before) (action_steps_among N S action first here) (with_numbers those (steps_from N S 0 (take (i + 1) actions))) p q r longer pushes more
+
+  pub actions-among-all : (those : List ℕ) (i : ℕ) (a b : Work) (made : List GroundStep) → length X.actions ≤ i
+      → Pushes Stand (all_atoms N (with_numbers those (steps_from N S 0 (take i X.actions)))) a b (with_numbers those (steps_from N S 0 (take i X.actions))) [] made → MakesSteps X S places (planned_among X S those) a b made
+  actions-among-all those i a b made past pushes =
+      makes-steps a b (planned_among X S those) made
+      (subst (λ actions. Pushes Stand (all_atoms N (with_numbers those (steps_from N S 0 actions))) a b (with_numbers those (steps_from N S 0 actions)) [] made) (take_all i X.actions past) pushes)

@@ -1,5 +1,5 @@
 -- Choices of objects by number, and those of them that may begin.
-use Rattle.std.specs.Prelude.{◌≡◌, ℕ, ◌+◌, ◌*◌, ◌<◌, ◌==◌, nat_lt, Bool, true, false, not, ◌&&◌, List, [], ◌∷◌, ◌++◌, map, length, slice_index_or}
+use Rattle.std.specs.Prelude.{◌≡◌, ℕ, ◌+◌, ◌-◌, ◌*◌, ◌<◌, ◌==◌, nat_lt, Bool, true, false, not, ◌&&◌, List, [], ◌∷◌, ◌++◌, map, length, slice_index_or}
 use Rattle.std.specs.List.{filter, list_any, range_with_len}
 use Rattle.p3_numbers.specs.Choices.{choice_count, choice}
 use Rattle.p3_numbers.specs.Slots.{Slots}
@@ -15,6 +15,10 @@ first_candidates N S ranges goal count = filter (λ number. may_begin N S (choic
 -- the numbers of all choices that may begin, rising
 abbrev pub candidates_of : Numbers → Statics → List ℕ → Goal → List ℕ
 candidates_of N S ranges goal = first_candidates N S ranges goal (choice_count N ranges)
+
+-- the choices of these numbers, which follow on so many, that may begin
+abbrev pub candidates_among : Numbers → Statics → List ℕ → Goal → ℕ → List ℕ → List ℕ
+candidates_among N S ranges goal first those = filter (λ number. may_begin N S (choice N ranges number) goal) (map (λ number. number - first) those)
 
 -- ---- one object more
 

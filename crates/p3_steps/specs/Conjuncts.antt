@@ -1,5 +1,5 @@
 -- The conditions that `and` alone joins in a precondition.
-use Rattle.std.specs.Prelude.{◌≡◌, Bool, true, ◌&&◌, List, []}
+use Rattle.std.specs.Prelude.{◌≡◌, Bool, true, ◌&&◌, List}
 use Rattle.std.specs.List.{list_all}
 use denote.Ref.{Bor}
 use Rattle.p3_numbers.specs.Slots.{Slots}

@@ -1,5 +1,5 @@
 -- The objects that facts have at one place, filed by the object at another place.
-use Rattle.std.specs.Prelude.{◌≡◌, ℕ, ◌+◌, ◌<◌, ◌==◌, nat_lt, Bool, true, false, not, ◌&&◌, ◌||◌, List, [], ◌∷◌, ◌++◌, length, slice_index_or}
+use Rattle.std.specs.Prelude.{◌≡◌, ℕ, ◌+◌, ◌==◌, nat_lt, Bool, true, false, not, ◌&&◌, ◌||◌, List, [], ◌∷◌, ◌++◌, length, slice_index_or}
 use Rattle.std.specs.List.{list_any, list_all}
 use Rattle.p3_numbers.specs.Slots.{Slots}
 use Rattle.p3_numbers.specs.declared.condition.Argument.{Argument}

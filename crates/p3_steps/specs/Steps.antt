@@ -1,6 +1,6 @@
 -- The steps of a numbered task, as ground steps.
-use Rattle.std.specs.Prelude.{◌≡◌, ℕ, ◌+◌, true, List, [], ◌∷◌, ◌++◌, map, flat_map, IsTrue}
-use Rattle.std.specs.List.{AllZip}
+use Rattle.std.specs.Prelude.{◌≡◌, ℕ, ◌+◌, ◌==◌, Bool, true, List, [], ◌∷◌, ◌++◌, map, flat_map, IsTrue}
+use Rattle.std.specs.List.{AllZip, filter, list_any}
 use Rattle.p3_formula.specs.Tidy.{is_tidy}
 use Rattle.p3_formula.specs.declared.task.GroundStep.{GroundStep}
 use Rattle.p3_numbers.specs.Choices.{choice_count, choice}
@@ -9,7 +9,7 @@ use Rattle.p3_numbers.specs.Slots.{Slots}
 use Rattle.p3_numbers.specs.declared.numbers.Numbers.{Numbers}
 use Rattle.p3_numbers.specs.declared.task.NumberedAction.{NumberedAction}
 use Rattle.p3_numbers.specs.declared.task.NumberedTask.{NumberedTask}
-use Rattle.p3_steps.specs.Candidates.{candidates_of}
+use Rattle.p3_steps.specs.Candidates.{candidates_among, candidates_of}
 use Rattle.p3_steps.specs.Costs.{cost_of}
 use Rattle.p3_expansion.specs.Atoms.{GroundAtom}
 use Rattle.p3_expansion.specs.Changes.{ChangesStand, always, effect_atoms, guarded_literals}
@@ -61,6 +61,10 @@ planned_step action first choice = record { action = action; choice = choice; nu
 abbrev pub action_steps : Numbers → Statics → NumberedAction → ℕ → List PlannedStep
 action_steps N S action first = map (planned_step action first) (candidates_of N S action.ranges action.pre)
 
+-- the steps of an action that have these numbers and may begin, behind so many steps
+abbrev pub action_steps_among : Numbers → Statics → NumberedAction → ℕ → List ℕ → List PlannedStep
+action_steps_among N S action first those = map (planned_step action first) (candidates_among N S action.ranges action.pre first those)
+
 -- how many steps the actions have
 abbrev pub count_of_steps : Numbers → List NumberedAction → ℕ
 count_of_steps N [] = 0
@@ -78,7 +82,21 @@ planned_steps X S = steps_from X.numbers S 0 X.actions
 abbrev pub all_atoms : Numbers → List PlannedStep → List GroundAtom
 all_atoms N planned = flat_map (step_atoms N) planned
 
--- the steps that may begin, among the atoms and nodes that came
-pub record MakesSteps (X : NumberedTask) (S : Statics) (places : ℕ) (old new : Work) (made : List GroundStep) : Type 0 where
-  pub grows : Grows (all_atoms X.numbers (planned_steps X S)) old new
-  pub are : StepsAreMade X S places new.atoms (planned_steps X S) made
+-- the planned steps, among the atoms and nodes that came
+pub record MakesSteps (X : NumberedTask) (S : Statics) (places : ℕ) (planned : List PlannedStep) (old new : Work) (made : List GroundStep) : Type 0 where
+  pub grows : Grows (all_atoms X.numbers planned) old new
+  pub are : StepsAreMade X S places new.atoms planned made
+
+-- ---- some steps
+
+-- it is one of the numbers
+abbrev pub is_among : List ℕ → ℕ → Bool
+is_among those number = list_any (λ one. one == number) those
+
+-- those of the planned steps that have one of these numbers
+abbrev pub with_numbers : List ℕ → List PlannedStep → List PlannedStep
+with_numbers those planned = filter (λ (one : PlannedStep). is_among those one.number) planned
+
+-- the steps that may begin and have one of these numbers
+abbrev pub planned_among : NumberedTask → Statics → List ℕ → List PlannedStep
+planned_among X S those = with_numbers those (planned_steps X S)

@@ -1,12 +1,13 @@
 //! The choices of an action's arguments that may begin.
 
-ghost use Rattle.std.specs.Prelude.{◌≡◌, ◌<◌, ◌≤◌, ◌*◌, ◌+◌, ◌++◌, [], ◌∷◌, All, drop, flat_map, length, take, IfOk, IfSome, OnOk};
+ghost use Rattle.std.specs.Prelude.{◌≡◌, ◌<◌, ◌≤◌, ◌*◌, ◌+◌, ◌++◌, [], ◌∷◌, All, drop, flat_map, if◌then◌else◌, length, take, IfOk, IfSome, OnOk};
 ghost use Rattle.p3_tree.specs.Sides.{step_count_limit};
 ghost use Rattle.p3_numbers.specs.Choices.{choice_count as count_of};
 ghost use Rattle.p3_steps.specs.Candidates.{
   Marks,
   RulesUnmarked,
   all_taken,
+  candidates_among as among,
   candidates_of,
   is_unmarked as unmarked,
   taken_behind,
@@ -256,6 +257,47 @@ pub(crate) fn candidates(
         )?;
         count *= objects.len();
         place = last + 1;
+    }
+    Ok(kept)
+}
+
+/// Puts a choice behind those kept, where it may begin.
+fn keep_choice(kept: &mut Vec<u32>, choice: u32, may: bool) -> Result<(), NoMemory>
+    ensures { OnOk result
+        (kept.new.items ≡ (if may then kept.old.items ++ choice ∷ [] else kept.old.items)) }
+{
+    if may {
+        kept.push(choice)?;
+    }
+    Ok(())
+}
+
+/// The choices of these numbers, which follow on those of so many steps, at which a precondition's
+/// hard part may hold in some state that keeps what no step changes.
+pub(crate) fn candidates_among(
+    alloc: Global,
+    numbers: &Numbers,
+    statics: &Statics,
+    ranges: &[u32],
+    goal: &Goal,
+    first: u32,
+    those: &[u32],
+) -> Result<Vec<u32>, NoMemory>
+    requires from { All (λ number. first ≤ number) those.now }
+    requires within { All (λ number. number < first + count_of numbers.now ranges.now) those.now }
+    ensures { IfOk result (λ kept. kept.items
+        ≡ among numbers.now statics.now ranges.now goal.now first those.now) }
+{
+    let test = Test::of(alloc, numbers, statics, goal)?;
+    let count = choice_count(numbers, ranges)?;
+    let mut words = Vec::new(alloc);
+    let mut slots = Vec::new(alloc);
+    let mut kept = Vec::new(alloc);
+    for number in those {
+        let choice = *number - first;
+        place_choice(&mut slots, 0, numbers, ranges, count, choice as usize)?;
+        let may = test.may_begin(&mut words, slots.as_slice())?;
+        keep_choice(&mut kept, choice, may)?;
     }
     Ok(kept)
 }

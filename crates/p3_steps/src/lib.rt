@@ -11,7 +11,7 @@ mod links;
 mod made;
 mod possible;
 
-pub use actions::steps;
+pub use actions::{steps, steps_among};
 pub use candidate_laws::{candidates_have_possible_atoms, what_is_left_out_never_begins};
 pub use cost_laws::effects_cost_alike_by_number;
 pub use costs::{Costs, units_at};

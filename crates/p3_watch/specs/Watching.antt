@@ -1,11 +1,15 @@
 -- What is answered to a line of a plan that is followed.
 use Rattle.std.specs.Prelude.{◌≡◌, ℕ, ◌+◌, ◌≤◌, List, length}
+use Rattle.std.specs.List.{All, Contains}
 use Rattle.p3_tree.specs.Plans.{Plan}
 use Rattle.p3_tree.specs.Validity.{AtStep}
-use Rattle.p3_tree.specs.Watching.{Answer, Blank, Taken, Unfit, Refused, OneStep, answer_by, answer_to, taken_after}
+use Rattle.p3_tree.specs.StepNumbers.{HasNumber}
+use Rattle.p3_tree.specs.Watching.{Answer, Blank, Taken, Unfit, Refused, LineText, Offends, Empty, OneStep, Piece, answer_by, answer_to, line_text, taken_after}
 use Rattle.p3_tree.specs.declared.task.Step.{Step}
 use Rattle.p3_tree.specs.declared.task.Task.{Task}
+use Rattle.p3_formula.specs.declared.task.GroundTask.{GroundTask}
 use Rattle.p3_ground.specs.PlansByNumber.{AreNumbers}
+use Rattle.p3_ground.specs.StandsFor.{LeftOutAt}
 use Rattle.p3_run.specs.Runs.{Ran}
 use Rattle.p3_eval.specs.Judged.{fault_in}
 use Rattle.p3_eval.specs.Runs.{OfRun}
@@ -25,13 +29,32 @@ pub record Answers (T : Task) (plan : Plan) (answer : Answer) (new : Ran) (told 
   pub says : Says plan answer told
   pub done : AreNumbers T (taken_after plan answer) new.plan
 
+-- where the step of the line has a number, it is there or can begin in no reached state
+abbrev pub IsAskedBy : Task → GroundTask → LineText → Type 0
+IsAskedBy T G (Offends offence) = Unit {0}
+IsAskedBy T G Empty = Unit {0}
+IsAskedBy T G (OneStep at step) = (number : ℕ) → HasNumber T step number → LeftOutAt T G number
+
 -- the answer to a line, for the plan of the steps done
 abbrev pub IsAnswered : Task → List ℕ → Ran → Ran → Line → Type 0
-IsAnswered T text old new told = OfRun T old (λ plan. Answers T plan (answer_to T plan text) new told)
+IsAnswered T text old new told = IsAskedBy T old.task (line_text text) → OfRun T old (λ plan. Answers T plan (answer_to T plan text) new told)
 
 -- the answer to a step whose `(` stands there
 abbrev pub IsTried : Task → ℕ → Step → Ran → Ran → Line → Type 0
-IsTried T at step old new told = OfRun T old (λ plan. Answers T plan (answer_by T plan (OneStep at step)) new told)
+IsTried T at step old new told = IsAskedBy T old.task (OneStep at step) → OfRun T old (λ plan. Answers T plan (answer_by T plan (OneStep at step)) new told)
+
+-- so may the steps of all lines of the text be asked
+abbrev pub AreLinesAsked : Task → GroundTask → List Piece → Type 0
+AreLinesAsked T G pieces = All (λ (piece : Piece). IsAskedBy T G (line_text piece.bytes)) pieces
+
+-- the step of the line has one of the numbers, if it has a number
+abbrev pub IsNumberedBy : Task → List ℕ → LineText → Type 0
+IsNumberedBy T numbers (Offends offence) = Unit {0}
+IsNumberedBy T numbers Empty = Unit {0}
+IsNumberedBy T numbers (OneStep at step) = (number : ℕ) → HasNumber T step number → Contains numbers number
+
+abbrev pub AreLinesNumbered : Task → List ℕ → List Piece → Type 0
+AreLinesNumbered T numbers pieces = All (λ (piece : Piece). IsNumberedBy T numbers (line_text piece.bytes)) pieces
 
 -- but for a step that is done nothing has changed
 abbrev pub IsUnchanged : Ran → Ran → Line → Type 0

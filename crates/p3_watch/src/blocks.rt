@@ -5,7 +5,6 @@ ghost use Rattle.p3_base.specs.Outside.{IsPartlyPut, IsPut, Rose};
 ghost use Rattle.p3_tree.specs.Reports.Refusals.{refusal_line};
 ghost use Rattle.p3_tree.specs.Reports.Watching.{block, moved};
 ghost use Rattle.p3_tree.specs.Sides.{plan_byte_limit};
-ghost use Rattle.p3_eval.specs.Judging.{IsRunOf};
 ghost use Rattle.p3_watch.specs.Lines.{IsInLine, IsToldThere};
 ghost use Rattle.p3_watch.specs.Watching.{OfAnswer};
 
@@ -28,16 +27,15 @@ pub(crate) fn put_block<S: Sink>(
     line: Line,
     out: &mut S,
 ) -> Result<(), SinkFailed>
-    requires of { IsRunOf watch.now.whole.now.checked.task watch.now.run }
     requires short { length text.now ≤ plan_byte_limit }
     requires told { IsToldThere text.now start line }
-    ensures ok { OnOk result (OfAnswer watch.now.whole.now.checked.task watch.now.run line
+    ensures ok { OnOk result (OfAnswer watch.now.checked.now.task watch.now.run line
         (λ plan answer. IsPut
-        (block watch.now.whole.now.checked.task text.now start.offset plan answer)
+        (block watch.now.checked.now.task text.now start.offset plan answer)
         (S.seen out.old).written (S.seen out.new).written)) }
-    ensures partly { OnErr result (OfAnswer watch.now.whole.now.checked.task watch.now.run line
+    ensures partly { OnErr result (OfAnswer watch.now.checked.now.task watch.now.run line
         (λ plan answer. IsPartlyPut
-        (block watch.now.whole.now.checked.task text.now start.offset plan answer)
+        (block watch.now.checked.now.task text.now start.offset plan answer)
         (S.seen out.old).written (S.seen out.new).written)) }
     ensures failed { OnErr result (Rose (S.seen out.old).faults (S.seen out.new).faults) }
     ensures faults_grow { (S.seen out.old).faults ≤ (S.seen out.new).faults }
@@ -60,23 +58,22 @@ fn put_lines<S: Sink>(
     line: Line,
     out: &mut S,
 ) -> Result<(), SinkFailed>
-    requires of { IsRunOf watch.now.whole.now.checked.task watch.now.run }
     requires short { length text.now ≤ plan_byte_limit }
     requires told { IsToldThere text.now start line }
-    ensures ok { OnOk result (OfAnswer watch.now.whole.now.checked.task watch.now.run line
+    ensures ok { OnOk result (OfAnswer watch.now.checked.now.task watch.now.run line
         (λ plan answer. IsPut
-        (block watch.now.whole.now.checked.task text.now start.offset plan answer)
+        (block watch.now.checked.now.task text.now start.offset plan answer)
         (S.seen out.old).written (S.seen out.new).written)) }
-    ensures partly { OnErr result (OfAnswer watch.now.whole.now.checked.task watch.now.run line
+    ensures partly { OnErr result (OfAnswer watch.now.checked.now.task watch.now.run line
         (λ plan answer. IsPartlyPut
-        (block watch.now.whole.now.checked.task text.now start.offset plan answer)
+        (block watch.now.checked.now.task text.now start.offset plan answer)
         (S.seen out.old).written (S.seen out.new).written)) }
     ensures failed { OnErr result (Rose (S.seen out.old).faults (S.seen out.new).faults) }
     ensures faults_grow { (S.seen out.old).faults ≤ (S.seen out.new).faults }
 {
     match line {
         Line::Blank => Ok(()),
-        Line::Done => put_judged(watch.whole().checked(), watch.run(), out),
+        Line::Done => put_judged(watch.checked(), watch.run(), out),
         Line::Invalid(fault) => put_fault(named_fault(&fault), out),
         Line::Refused(refusal) => put_refused(text, start, &refusal, out),
     }

@@ -4,7 +4,8 @@ ghost use Rattle.std.specs.Prelude.{◌≡◌, ◌≤◌, [], length};
 ghost use Rattle.p3_base.specs.Outside.{IsPartlyPut, Rose, with_put};
 ghost use Rattle.p3_tree.specs.Reports.Watching.{watch_lines};
 ghost use Rattle.p3_tree.specs.Sides.{plan_byte_limit};
-ghost use Rattle.p3_eval.specs.Judging.{IsRunOf};
+ghost use Rattle.p3_tree.specs.Watching.{lines_of};
+ghost use Rattle.p3_watch.specs.Watching.{AreLinesAsked};
 
 use crate::blocks::put_block;
 use crate::lines::Start;
@@ -24,13 +25,14 @@ pub enum Followed {
 /// memory.
 pub fn follow<S: Sink>(watch: &mut Watch<'_>, text: &[u8], out: &mut S) -> Followed
     requires begins { watch.old.run.plan ≡ [] }
-    requires of { IsRunOf watch.old.whole.now.checked.task watch.old.run }
+    requires asked { AreLinesAsked watch.old.checked.now.task watch.old.run.task
+        (lines_of text.now) }
     requires short { length text.now ≤ plan_byte_limit }
     ensures done { result ≡ Followed.Done → (S.seen out.new).written
-        ≡ with_put (watch_lines watch.old.whole.now.checked.task text.now)
+        ≡ with_put (watch_lines watch.old.checked.now.task text.now)
         (S.seen out.old).written }
     ensures partly { result ≡ Followed.SinkFailed → IsPartlyPut
-        (watch_lines watch.old.whole.now.checked.task text.now)
+        (watch_lines watch.old.checked.now.task text.now)
         (S.seen out.old).written (S.seen out.new).written }
     ensures failed { result ≡ Followed.SinkFailed
         → Rose (S.seen out.old).faults (S.seen out.new).faults }

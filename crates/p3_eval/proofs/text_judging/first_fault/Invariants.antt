@@ -7,7 +7,7 @@ abbrev pub invariant-loop-slice : goal.invariant-loop-slice
 invariant-loop-slice l = record {
   source : l.reader.source ≡ l.text;
   of : IsRunOf l.checked.task l.run;
-  follows : Follows l.checked.task l.text l.run (left l.reader);
+  follows : Follows l.checked.task l.text l.run.plan (left l.reader);
 }
 
 abbrev pub decreases-loop-slice : goal.decreases-loop-slice

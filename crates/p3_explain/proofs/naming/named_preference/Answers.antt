@@ -6,4 +6,4 @@ use Rattle.p3_explain.proofs.naming.named_preference.Goals as goal
 
 pub step_at-requires : goal.step_at-requires
 step_at-requires c =
-    subst IsByNumber (sym (c.items.ensures ∙ ap (λ (task : GroundTask). task.steps) c.ground_task.ensures)) (steps_by_number c.args.whole.now)
+    subst IsByNumber (sym (c.items.ensures ∙ ap (λ (task : GroundTask). task.steps) c.ground_task.ensures)) (steps_by_number c.args.grounded.now)

@@ -7,8 +7,8 @@ use Rattle.p3_explain.proofs.naming.number_of_instance.Goals as goal
 
 pub returns : goal.returns
 returns c =
-    let whole = c.args.whole.now in
-    let T = whole.checked.task in
-    ∥∥₁_elim whole.grounding (names-set _ _) (λ grounding.
+    let grounded = c.args.grounded.now in
+    let T = grounded.checked.now.task in
+    ∥∥₁_elim grounded.standing (names-set _ _) (λ stands.
     ap (name_numbered T) (c.named_instance.ensures ∙ ap (λ task. instance_number task c.args.instance) c.ground_task.ensures)
-    ∙ instance_named T grounding.atoms whole.ground_task grounding.stands c.args.instance)
+    ∙ instance_named T stands.atoms grounded.ground_task.now stands.stands c.args.instance)

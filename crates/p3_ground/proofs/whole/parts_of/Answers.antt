@@ -2,7 +2,9 @@ use Rattle.std.proofs.Common.{[], subst}
 use Rattle.p3_expansion.specs.Forms.{Makes}
 use Rattle.p3_expansion.specs.Hard.{hard_meaning}
 use Rattle.p3_expansion.specs.TaskConstraints.{MakesHard, MakesSoft}
+use Rattle.std.specs.Option.{option_copied}
 use Rattle.p3_steps.specs.Steps.{MakesSteps}
+use Rattle.p3_ground.specs.Planned.{wanted_steps}
 use Rattle.p3_ground.proofs.WholeLaws.{parts-are}
 use Rattle.p3_ground.proofs.whole.parts_of.Goals as goal
 
@@ -11,9 +13,9 @@ returns c =
     let S = c.args.statics.now in
     let places = c.args.costs.now.places in
     let same = c.numbered-numbered.ensures.task in
-    parts-are c.args.task.now.task c.args.task.now.numbered S places c.requires.well c.numbered-numbered.ensures.numbered c.requires.statics
-    c.args.work.now c.steps.new.work c.hard_form.new.work c.hard_constraints.new.work c.soft_constraints.new.work _ c.requires.none c.len-atoms.ensures.distinct c.len-atoms.ensures.value
-    (subst (λ X. MakesSteps X S places c.args.work.now c.steps.new.work c.in_ok-steps.steps) same c.in_ok-steps.ensures)
-    (subst (λ X. Makes X.numbers S c.steps.new.work c.hard_form.new.work (hard_meaning X.numbers [] X.goal) c.in_ok-goal.goal) same c.in_ok-goal.ensures)
+    parts-are c.args.task.now.task c.args.task.now.numbered S places c.requires.well c.numbered-numbered.ensures.numbered c.requires.statics (option_copied c.args.wanted)
+    c.args.work.now c.steps_of.new.work c.hard_form.new.work c.hard_constraints.new.work c.soft_constraints.new.work _ c.requires.none c.len-atoms.ensures.distinct c.len-atoms.ensures.value
+    (subst (λ X. MakesSteps X S places (wanted_steps X S (option_copied c.args.wanted)) c.args.work.now c.steps_of.new.work c.in_ok-steps.steps) same c.in_ok-steps.ensures)
+    (subst (λ X. Makes X.numbers S c.steps_of.new.work c.hard_form.new.work (hard_meaning X.numbers [] X.goal) c.in_ok-goal.goal) same c.in_ok-goal.ensures)
     (subst (λ X. MakesHard X S c.hard_form.new.work c.hard_constraints.new.work c.in_ok-hard.hard) same c.in_ok-hard.ensures)
     (subst (λ X. MakesSoft X S c.hard_constraints.new.work c.soft_constraints.new.work c.in_ok-soft.soft) same c.in_ok-soft.ensures)

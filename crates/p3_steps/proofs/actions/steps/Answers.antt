@@ -1,7 +1,7 @@
-use Rattle.std.proofs.Common.{◌≡◌, ◌∙◌, ◌+◌, ◌<◌, ◌≤◌, arith, ap, subst, length}
+use Rattle.std.proofs.Common.{◌≡◌, ◌∙◌, ◌<◌, ◌≤◌, arith, ap, subst, length}
 use Rattle.std.specs.Prelude.{slice_index_or}
 use Rattle.p3_numbers.specs.Choices.{choice_count}
-use Rattle.p3_steps.proofs.StepLemmas.{count-more, count-within, action-more, actions-all}
+use Rattle.p3_steps.proofs.StepLemmas.{count-more, count-so-far, action-more, actions-all}
 use Rattle.p3_steps.proofs.actions.steps.Goals as goal
 
 pub push_action_steps-requires-clause-few : goal.push_action_steps-requires-clause-few
@@ -11,9 +11,8 @@ push_action_steps-requires-clause-few c =
     let action = c.action-item.result in
     let inside : i < length X.actions = subst (λ all. i < length all) c.items-action-items.ensures c.loop-action-test.true in
     let read : action ≡ slice_index_or X.actions i action = c.action-item.is ∙ ap (λ all. slice_index_or all i action) c.items-action-items.ensures in
-    let more = count-more X c.args.statics.now 0 X.actions i action inside read in
-    let whole = count-within X c.args.statics.now 0 X.actions (i + 1) in
-    omega (arith, c.loop-action.invariant.first, more, whole, c.requires.few)
+    let within = count-so-far X c.args.statics.now 0 X.actions i c.loop-action.first action inside read c.loop-action.invariant.first in
+    omega (arith, within, c.requires.few)
 
 pub overflow_cast-first : goal.overflow_cast-first
 overflow_cast-first c =
@@ -22,10 +21,9 @@ overflow_cast-first c =
     let action = c.action-item.result in
     let inside : i < length X.actions = subst (λ all. i < length all) c.items-action-items.ensures c.loop-action-test.true in
     let read : action ≡ slice_index_or X.actions i action = c.action-item.is ∙ ap (λ all. slice_index_or all i action) c.items-action-items.ensures in
-    let more = count-more X c.args.statics.now 0 X.actions i action inside read in
-    let whole = count-within X c.args.statics.now 0 X.actions (i + 1) in
+    let within = count-so-far X c.args.statics.now 0 X.actions i c.loop-action.first action inside read c.loop-action.invariant.first in
     let counted : c.in_ok-first.field-0 ≡ choice_count X.numbers action.ranges = c.in_ok-first.ensures ∙ ap (choice_count X.numbers) c.items.ensures in
-    omega (arith, more, whole, counted, c.requires.few)
+    omega (arith, within, counted, c.requires.few)
 
 pub overflow_add-first : goal.overflow_add-first
 overflow_add-first c =
@@ -34,10 +32,9 @@ overflow_add-first c =
     let action = c.action-item.result in
     let inside : i < length X.actions = subst (λ all. i < length all) c.items-action-items.ensures c.loop-action-test.true in
     let read : action ≡ slice_index_or X.actions i action = c.action-item.is ∙ ap (λ all. slice_index_or all i action) c.items-action-items.ensures in
-    let more = count-more X c.args.statics.now 0 X.actions i action inside read in
-    let whole = count-within X c.args.statics.now 0 X.actions (i + 1) in
+    let within = count-so-far X c.args.statics.now 0 X.actions i c.loop-action.first action inside read c.loop-action.invariant.first in
     let counted : c.in_ok-first.field-0 ≡ choice_count X.numbers action.ranges = c.in_ok-first.ensures ∙ ap (choice_count X.numbers) c.items.ensures in
-    omega (arith, c.loop-action.invariant.first, more, whole, counted, c.requires.few)
+    omega (arith, within, counted, c.requires.few)
 
 pub loop-action-preserved : goal.loop-action-preserved
 loop-action-preserved c =

@@ -1,7 +1,6 @@
-use Rattle.std.proofs.Common.{◌≡◌, ◌∙◌, ◌+◌, ◌*◌, ◌<◌, ◌≤◌, [], All, length, take, get_or, sym, ap, subst, arith}
+use Rattle.std.proofs.Common.{◌∙◌, ◌<◌, [], All, take, sym, ap, subst, arith}
 use Rattle.std.specs.Prelude.{flat_map}
 use Rattle.p3_numbers.specs.Choices.{choice_count as count_of}
-use Rattle.p3_numbers.specs.Slots.{range_at}
 use Rattle.p3_steps.specs.Candidates.{candidates_of, taken_behind}
 use Rattle.p3_steps.proofs.CandidateLemmas.{candidates-below, candidates-more, count-between, count-none, few-behind, whole-behind}
 use Rattle.p3_steps.proofs.choices.candidates.Goals as goal

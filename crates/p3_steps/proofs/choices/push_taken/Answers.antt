@@ -1,7 +1,6 @@
-use Rattle.std.proofs.Common.{◌≡◌, ◌∙◌, ◌+◌, ◌++◌, ◌∷◌, [], true, false, sym, ap}
+use Rattle.std.proofs.Common.{◌≡◌, ◌∙◌, true, false, sym, ap}
 use Rattle.std.proofs.lemmas.List.{append-nil}
 use Rattle.p3_steps.specs.Candidates.{may_take}
-use Rattle.p3_steps.specs.Possible.{may_begin}
 use Rattle.p3_steps.proofs.CandidateLemmas.{taken-by}
 use Rattle.p3_steps.proofs.choices.push_taken.Goals as goal
 use Rattle.p3_steps.proofs.choices.push_taken.Goals.{then-branch+in_ok-push, else-branch}

@@ -1,4 +1,4 @@
-use Rattle.std.proofs.Common.{◌≡◌, ◌∙◌, ◌++◌, ◌∷◌, [], true, sym, ap}
+use Rattle.std.proofs.Common.{◌∙◌, ◌++◌, ◌∷◌, [], true, sym, ap}
 use Rattle.std.proofs.lemmas.Option.{IfSome_then}
 use Rattle.p3_steps.specs.Possible.{atom_may, may_be}
 use Rattle.p3_steps.proofs.PossibleLemmas.{may-Atom}

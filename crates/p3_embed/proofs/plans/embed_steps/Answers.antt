@@ -1,0 +1,1 @@
+use Rattle.p3_embed.proofs.plans.embed_steps.Goals as goal

@@ -1,7 +1,0 @@
-use Rattle.std.proofs.Common.{take}
-use Rattle.p3_ground.specs.PlansByNumber.{AreNumbers}
-use Rattle.p3_embed.proofs.plans.numbers_of.Given as goal
-
--- the numbers of the steps passed are there
-abbrev pub invariant-loop-step : goal.invariant-loop-step
-invariant-loop-step l = AreNumbers l.task.task (take l.step-index l.plan) l.numbers.items

@@ -1,0 +1,51 @@
+-- How the steps of a plan are found one by one.
+use Rattle.std.proofs.Common.{◌≡◌, ◌∙◌, ℕ, suc, ◌+◌, ◌<◌, ◌≤◌, refl, sym, ap, subst, List, [], ◌∷◌, ◌++◌, length, get_or, take, drop, arith, Option, Some, None}
+use Rattle.std.proofs.Math.Seq.{drop-cons}
+use Rattle.std.proofs.lemmas.List.{append-nil, length-take, take-append-drop, take_all, take_more}
+use Rattle.std.proofs.lemmas.Slice.Zip.{AllZip-long}
+use Rattle.p3_tree.specs.Plans.{Plan}
+use Rattle.p3_tree.specs.StepNumbers.{HasNumber}
+use Rattle.p3_tree.specs.declared.task.Step.{Step}
+use Rattle.p3_tree.specs.declared.task.Task.{Task}
+use Rattle.p3_types.specs.Finds.{IsFound}
+use Rattle.p3_types.specs.declared.finding.Found.{Found}
+use Rattle.p3_types.specs.declared.finding.Found.TheVariants as found
+use Rattle.p3_ground.specs.PlansByNumber.{AreNumbers}
+use Rattle.p3_run.specs.Runs.{most_steps}
+use Rattle.p3_eval.specs.Steps.{AreFirst, LacksNumber}
+use Rattle.p3_eval.proofs.JudgeLemmas.{numbers_more}
+
+-- what is found, and is no number
+pub lacks_of : (T : Task) (step : Step) (answer : Found) → ((number : ℕ) → answer ≡ found.Number number → ⊥) → IsFound T step answer → LacksNumber T step answer
+lacks_of T step (found.Number number) none is = none number refl
+lacks_of T step found.UnknownAction none is = is
+lacks_of T step found.Arguments none is = is
+
+module _ (T : Task) (plan : Plan) (place : ℕ) (numbers : List ℕ) (are : AreNumbers T (take place plan) numbers) where
+  module _ (step : Step) (within : place < length plan) (at : step ≡ get_or plan place step) where
+    pub numbered_more : (number : ℕ) → HasNumber T step number → AreNumbers T (take (place + 1) plan) (numbers ++ number ∷ [])
+    numbered_more number has =
+        subst (λ list. AreNumbers T list (numbers ++ number ∷ [])) (ap (λ last. take place plan ++ last ∷ []) at ∙ sym (take_more plan place step within))
+        (numbers_more T (take place plan) numbers step number are has)
+
+    whole : plan ≡ take place plan ++ step ∷ drop (suc place) plan
+    whole = sym (ap (λ list. take place plan ++ list) (ap (λ first. first ∷ drop (suc place) plan) at ∙ sym (drop-cons plan place step within)) ∙ take-append-drop place plan)
+
+    pub stops_at : (answer : Found) → LacksNumber T step answer → AreFirst T plan numbers (Some answer)
+    stops_at answer lacks = record { front = take place plan; rest = step ∷ drop (suc place) plan; parts = whole; are = are; behind = (step, drop (suc place) plan, refl, lacks) }
+
+    pub few_before : length plan ≤ most_steps → length numbers + 1 ≤ most_steps
+    few_before few =
+        let long = AllZip-long (HasNumber T) (take place plan) numbers are in
+        let taken = length-take place plan in
+        omega (arith, within, few, long, taken)
+
+  module _ (past : length plan ≤ place) where
+    all : AreNumbers T plan numbers
+    all = subst (λ list. AreNumbers T list numbers) (take_all place plan past) are
+
+    pub ends_numbered : AreFirst T plan numbers None
+    ends_numbered = record { front = plan; rest = []; parts = sym (append-nil plan); are = all; behind = refl }
+
+    pub few_in_all : length plan ≤ most_steps → length numbers ≤ most_steps
+    few_in_all few = let long = AllZip-long (HasNumber T) plan numbers all in omega (arith, few, long)

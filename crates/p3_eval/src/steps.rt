@@ -1,0 +1,87 @@
+//! The steps of a plan by their numbers.
+
+ghost use Rattle.std.specs.Prelude.{◌≤◌};
+ghost use Rattle.p3_run.specs.Runs.{most_steps};
+ghost use Rattle.p3_eval.specs.Judged.{found_count};
+
+use p3_base::NoMemory;
+use p3_plans::{NextStep, PlanReader};
+use p3_tree::Step;
+use p3_types::{Checked, Found};
+use std::alloc::Global;
+
+/// The steps of a plan by their numbers, until one has none.
+#[derive(Drop)]
+pub struct Steps {
+    /// The numbers.
+    pub numbers: Vec<u32>,
+    /// As what the step behind them is found, where the plan goes on with one that has no number.
+    pub rest: Option<Found>,
+    pub ghost few: { found_count numbers.items rest ≤ most_steps },
+}
+
+impl Steps {
+    ghost use Rattle.std.specs.Prelude.{◌≡◌, IfOk, None, length};
+    ghost use Rattle.p3_tree.specs.Limits.{step_count};
+    ghost use Rattle.p3_tree.specs.PlanTexts.{plan_offence};
+    ghost use Rattle.p3_tree.specs.Sides.{plan_byte_limit, step_count_limit};
+    ghost use Rattle.p3_eval.specs.Steps.{AreOfPlan, AreStepsOf, OfPlanText};
+
+    /// Finds the steps of the plan of a text that has no offence.
+    pub fn of_text(alloc: Global, task: &Checked, text: &[u8]) -> Result<Steps, NoMemory>
+        requires few { step_count task.now.task ≤ step_count_limit }
+        requires short { length text.now ≤ plan_byte_limit }
+        requires free { plan_offence text.now ≡ None }
+        ensures are { IfOk result (λ steps.
+            OfPlanText text.now (λ plan. AreStepsOf task.now.task plan steps)) }
+        ensures some { IfOk result (AreOfPlan task.now.task) }
+    {
+        let mut numbers = Vec::new(alloc);
+        let mut reader = PlanReader::new(text);
+        loop {
+            match reader.next() {
+                NextStep::Step(slice) => match task.find_text(slice.text) {
+                    Found::Number(number) => numbers.push(number)?,
+                    found => {
+                        return Ok(Steps {
+                            numbers,
+                            rest: Some(found),
+                        });
+                    }
+                },
+                NextStep::End => {
+                    return Ok(Steps {
+                        numbers,
+                        rest: None,
+                    });
+                }
+                // The text has no offence.
+                NextStep::Bad(_) => unreachable!(),
+            }
+        }
+    }
+
+    /// Finds the steps of a plan.
+    pub fn of_plan(alloc: Global, task: &Checked, plan: &[Step]) -> Result<Steps, NoMemory>
+        requires few { step_count task.now.task ≤ step_count_limit }
+        requires room { length plan.now ≤ most_steps }
+        ensures { IfOk result (AreStepsOf task.now.task plan.now) }
+    {
+        let mut numbers = Vec::new(alloc);
+        for step in plan {
+            match task.find(step) {
+                Found::Number(number) => numbers.push(number)?,
+                found => {
+                    return Ok(Steps {
+                        numbers,
+                        rest: Some(found),
+                    });
+                }
+            }
+        }
+        Ok(Steps {
+            numbers,
+            rest: None,
+        })
+    }
+}

@@ -1,0 +1,1 @@
+use Rattle.p3_explain.proofs.explaining.explain.Goals as goal
