@@ -1,12 +1,13 @@
 //! What `embed` makes of the texts of a task and of a plan for it.
 
-ghost use Rattle.std.specs.Prelude.{◌≡◌, ◌≤◌, ◌∷◌, [], IfErr, IfOk, IsTrue, OnOk, length, map, pos};
+ghost use Rattle.std.specs.Prelude.{◌≡◌, ◌∷◌, [], IfErr, IfOk, IsTrue, OnOk, length, map, pos};
 ghost use Rattle.std.specs.List.{list_all};
-ghost use Rattle.p3_tree.specs.PlanTexts.{IsPlanText, step_limit};
+ghost use Rattle.p3_tree.specs.PlanTexts.{IsPlanText};
 ghost use Rattle.p3_tree.specs.Reports.Plans.{embedded_lines};
 ghost use Rattle.p3_tree.specs.Validity.{Valid};
 ghost use Rattle.p3_formula.specs.Targets.{Compiled, target_cost};
 ghost use Rattle.p3_ground.specs.PlansByNumber.{names_of};
+ghost use Rattle.p3_eval.specs.Steps.{AreOfPlan, OfSteps};
 ghost use Rattle.p3_plans.specs.Layout.{has_written_words};
 ghost use Rattle.p3_embed.specs.Plans.{IsEmbeddedPlan};
 ghost use Rattle.p3_reports.specs.Reports.{report_text};
@@ -17,19 +18,17 @@ ghost use Rattle.p3_cli.specs.Translation.{AreTextsOf, CanBeCompiled, HasLayout}
 ghost use Rattle.p3_cli.specs.WrittenText.{HasPlanLayout};
 
 use crate::Ending;
-use crate::acceptance::plan_of;
 use crate::evaluation::{invalid, judged_whole};
 use crate::found::embedded_report;
 use crate::product::Product;
 use crate::texts::Texts;
 use p3_base::NoMemory;
 use p3_compile::compile;
-use p3_embed::{EmbedFail, Embedded};
-use p3_eval::Whole;
+use p3_embed::{EmbedFail, Embedded, embed_steps};
+use p3_eval::{Steps, Whole};
 use p3_formula::Target;
 use p3_plans::write_plan;
 use p3_reports::Report;
-use p3_tree::Plan;
 use p3_writer::{write_domain, write_problem};
 use std::alloc::Global;
 use std::mem::forget;
@@ -73,36 +72,38 @@ pub(crate) fn embed(alloc: Global, texts: &Texts<'_>) -> Result<Embedding, Endin
     ensures err { IfErr result (IsRejectedPlan (all_texts texts.now)) }
 {
     let whole = judged_whole(alloc, texts)?;
-    let plan = plan_of(alloc, texts.plan)?;
+    let steps = Steps::of_text(alloc, whole.checked(), texts.plan)?;
     let target = compile(alloc, whole.ground_task(), whole.weights())?;
-    let embedded = match embedded(alloc, &whole, &target, &plan) {
+    let embedded = match embedded(alloc, &whole, &target, &steps) {
         Ok(embedded) => embedded,
         Err(ending) => return Err(ending),
     };
     let made = embedding_of(alloc, &whole, &target, &embedded)?;
     forget((whole, target));
-    forget((plan, embedded));
+    forget((steps, embedded));
     Ok(made)
 }
 
-/// Finds the source of a plan in the target, where the plan is valid.
+/// Finds the source of the plan of these steps in the target, where the plan is valid.
 pub(crate) fn embedded(
     alloc: Global,
     whole: &Whole,
     target: &Target,
-    plan: &Plan,
+    steps: &Steps,
 ) -> Result<Embedded, Ending>
     requires compiled { Compiled whole.now.ground_task whole.now.weights target.now }
-    requires few { length plan.now ≤ step_limit }
-    ensures valid { OnOk result (Valid whole.now.checked.task plan.now) }
-    ensures plan { IfOk result (λ embedded. IsEmbeddedPlan
-        whole.now.checked.task whole.now.ground_task target.now plan.now embedded.plan) }
+    requires some { AreOfPlan whole.now.checked.task steps.now }
+    ensures valid { OnOk result (OfSteps whole.now.checked.task steps.now
+        (Valid whole.now.checked.task)) }
+    ensures plan { IfOk result (λ embedded. OfSteps whole.now.checked.task steps.now
+        (λ plan. IsEmbeddedPlan whole.now.checked.task whole.now.ground_task target.now
+        plan embedded.plan)) }
     ensures cost { IfOk result (λ embedded. embedded.cost
         ≡ pos (target_cost target.now (names_of embedded.plan))) }
-    ensures err { IfErr result
-        (IsRejectedBy (λ how. IsFaultOf whole.now.checked.task how plan.now)) }
+    ensures err { IfErr result (IsRejectedBy (λ how. OfSteps whole.now.checked.task steps.now
+        (IsFaultOf whole.now.checked.task how))) }
 {
-    match p3_embed::embed(alloc, whole, target, plan) {
+    match embed_steps(alloc, whole, target, steps) {
         Ok(embedded) => Ok(embedded),
         Err(EmbedFail::Invalid(fault)) => Err(invalid(&fault)),
         Err(EmbedFail::NoMemory) => Err(Ending::OutOfMemory),

@@ -1,15 +1,17 @@
 //! What `explain` makes of the texts of a task and of a plan for it.
 
-ghost use Rattle.std.specs.Prelude.{◌≡◌, ◌≤◌, IfErr, IfOk, IsTrue, length, map, option_map};
+ghost use Rattle.std.specs.Prelude.{◌≡◌, IfErr, IfOk, IsTrue, map, option_map};
+ghost use Rattle.std.specs.List.{All};
 ghost use Rattle.p3_tree.specs.Explanations.{reasons as reasons_of};
-ghost use Rattle.p3_tree.specs.PlanTexts.{step_limit};
 ghost use Rattle.p3_tree.specs.Reports.Explanations.{explained_lines};
 ghost use Rattle.p3_tree.specs.Plans.{steps_fit};
 ghost use Rattle.p3_tree.specs.Validity.{first_fault};
 ghost use Rattle.p3_reports.specs.Explained.{explain_text, named_in};
 ghost use Rattle.p3_reports.specs.Faults.{fault_named};
 ghost use Rattle.p3_reports.specs.Reports.{report_text};
+ghost use Rattle.p3_ground.specs.StandsFor.{LeftOutAt};
 ghost use Rattle.p3_eval.specs.Judged.{fault_in};
+ghost use Rattle.p3_eval.specs.Steps.{OfSteps};
 ghost use Rattle.p3_cli.specs.Explaining.{
   IsExplained,
   IsExplanation,
@@ -19,15 +21,13 @@ ghost use Rattle.p3_cli.specs.Explaining.{
 ghost use Rattle.p3_cli.specs.Refusing.{IsRejectedBy, all_texts};
 
 use crate::Ending;
-use crate::acceptance::plan_of;
 use crate::evaluation::{invalid, judged_task};
 use crate::found::copied;
 use crate::texts::Texts;
 use p3_base::{List, NoMemory, Reason};
-use p3_eval::{PlanFault, Whole, named_fault};
-use p3_explain::{ExplainFail, Explanation, explained, name_of};
+use p3_eval::{Accepted, Grounded, PlanFault, Steps, named_fault};
+use p3_explain::{ExplainFail, Explanation, explain_steps, name_of};
 use p3_reports::{ExplainReport, Fault, NamedReason, Report};
-use p3_tree::Plan;
 use std::alloc::Global;
 use std::mem::forget;
 
@@ -38,23 +38,25 @@ pub(crate) fn explain(alloc: Global, texts: &Texts<'_>) -> Result<Report, Ending
         (report_text report)) }
     ensures err { IfErr result (IsUnexplained (all_texts texts.now)) }
 {
-    let whole = judged_task(alloc, texts)?;
-    let plan = plan_of(alloc, texts.plan)?;
-    let report = report_of(alloc, &whole, &plan);
-    forget((whole, plan));
+    let accepted = judged_task(alloc, texts)?;
+    let steps = Steps::of_text(alloc, accepted.checked(), texts.plan)?;
+    let report = report_of(alloc, &accepted, &steps);
+    forget((accepted, steps));
     report
 }
 
-/// Explains a plan of an accepted task, where each of its steps fits.
-fn report_of(alloc: Global, whole: &Whole, plan: &Plan) -> Result<Report, Ending>
-    requires few { length plan.now ≤ step_limit }
-    ensures report { IfOk result (λ report.
-        IsExplained whole.now.checked.task (report_text report) plan.now) }
-    ensures err { IfErr result
-        (IsRejectedBy (λ how. IsUnfit whole.now.checked.task how plan.now)) }
+/// Explains the plan of these steps of an accepted task, where each of them fits. The steps that it
+/// has are grounded, and no others.
+fn report_of(alloc: Global, accepted: &Accepted, steps: &Steps) -> Result<Report, Ending>
+    ensures report { IfOk result (λ report. OfSteps accepted.now.checked.task steps.now
+        (IsExplained accepted.now.checked.task (report_text report))) }
+    ensures err { IfErr result (IsRejectedBy (λ how. OfSteps accepted.now.checked.task steps.now
+        (IsUnfit accepted.now.checked.task how))) }
 {
-    match explained(alloc, whole, plan) {
-        Ok(found) => Ok(Report::Explain(explained_report(alloc, whole, plan, &found)?)),
+    let ground_task = accepted.ground_steps(alloc, steps.numbers.as_slice())?;
+    let grounded = accepted.grounded(&ground_task);
+    match explain_steps(alloc, &grounded, steps) {
+        Ok(found) => Ok(Report::Explain(explained_report(alloc, &grounded, steps, &found)?)),
         Err(ExplainFail::Fault(fault)) => Err(invalid(&fault)),
         Err(ExplainFail::NoMemory) => Err(Ending::OutOfMemory),
     }
@@ -64,18 +66,23 @@ fn report_of(alloc: Global, whole: &Whole, plan: &Plan) -> Result<Report, Ending
 /// their preferences.
 fn explained_report(
     alloc: Global,
-    whole: &Whole,
-    plan: &Plan,
+    grounded: &Grounded<'_>,
+    steps: &Steps,
     found: &Explanation,
 ) -> Result<ExplainReport, NoMemory>
-    requires fit { IsTrue (steps_fit whole.now.checked.task plan.now) }
-    requires fault { first_fault whole.now.checked.task plan.now
-        ≡ option_map fault_in found.now.fault }
-    requires reasons { found.now.reasons ≡ reasons_of whole.now.checked.task plan.now }
-    ensures { IfOk result (λ report.
-        explain_text report ≡ explained_lines whole.now.checked.task plan.now) }
+    requires asked { All (LeftOutAt grounded.now.checked.now.task grounded.now.ground_task.now)
+        steps.now.numbers.items }
+    requires fit { OfSteps grounded.now.checked.now.task steps.now
+        (λ plan. IsTrue (steps_fit grounded.now.checked.now.task plan)) }
+    requires fault { OfSteps grounded.now.checked.now.task steps.now
+        (λ plan. first_fault grounded.now.checked.now.task plan
+        ≡ option_map fault_in found.now.fault) }
+    requires reasons { OfSteps grounded.now.checked.now.task steps.now
+        (λ plan. found.now.reasons ≡ reasons_of grounded.now.checked.now.task plan) }
+    ensures { IfOk result (λ report. OfSteps grounded.now.checked.now.task steps.now
+        (λ plan. explain_text report ≡ explained_lines grounded.now.checked.now.task plan)) }
 {
-    let reasons = named_reasons(alloc, whole, plan, found.reasons.items())?;
+    let reasons = named_reasons(alloc, grounded, steps, found.reasons.items())?;
     Ok(ExplainReport {
         fault: first_named(&found.fault),
         reasons,
@@ -95,17 +102,20 @@ fn first_named(fault: &Option<PlanFault>) -> Option<Fault>
 /// Gives reasons of a plan whose steps fit with the names of their preferences.
 fn named_reasons(
     alloc: Global,
-    whole: &Whole,
-    plan: &Plan,
+    grounded: &Grounded<'_>,
+    steps: &Steps,
     reasons: &[Reason],
 ) -> Result<List<NamedReason>, NoMemory>
-    requires fit { IsTrue (steps_fit whole.now.checked.task plan.now) }
-    ensures { IfOk result (λ named.
-        named ≡ map (named_in whole.now.checked.task plan.now) reasons.now) }
+    requires asked { All (LeftOutAt grounded.now.checked.now.task grounded.now.ground_task.now)
+        steps.now.numbers.items }
+    requires fit { OfSteps grounded.now.checked.now.task steps.now
+        (λ plan. IsTrue (steps_fit grounded.now.checked.now.task plan)) }
+    ensures { IfOk result (λ named. OfSteps grounded.now.checked.now.task steps.now
+        (λ plan. named ≡ map (named_in grounded.now.checked.now.task plan) reasons.now)) }
 {
     let mut named = List::new(alloc);
     for reason in reasons {
-        named.push(named_reason(alloc, whole, plan, *reason)?)?;
+        named.push(named_reason(alloc, grounded, steps, *reason)?)?;
     }
     Ok(named)
 }
@@ -113,14 +123,18 @@ fn named_reasons(
 /// Gives a reason with the name of its preference.
 fn named_reason(
     alloc: Global,
-    whole: &Whole,
-    plan: &Plan,
+    grounded: &Grounded<'_>,
+    steps: &Steps,
     reason: Reason,
 ) -> Result<NamedReason, NoMemory>
-    requires fit { IsTrue (steps_fit whole.now.checked.task plan.now) }
-    ensures { IfOk result (λ named. named ≡ named_in whole.now.checked.task plan.now reason) }
+    requires asked { All (LeftOutAt grounded.now.checked.now.task grounded.now.ground_task.now)
+        steps.now.numbers.items }
+    requires fit { OfSteps grounded.now.checked.now.task steps.now
+        (λ plan. IsTrue (steps_fit grounded.now.checked.now.task plan)) }
+    ensures { IfOk result (λ named. OfSteps grounded.now.checked.now.task steps.now
+        (λ plan. named ≡ named_in grounded.now.checked.now.task plan reason)) }
 {
-    let name = match name_of(whole, plan, reason.subject) {
+    let name = match name_of(grounded, steps, reason.subject) {
         Some(name) => Some(copied(alloc, name)?),
         None => None,
     };

@@ -19,20 +19,21 @@ ghost use Rattle.p3_reports.specs.Reports.{
   generate_text,
   lift_text,
 };
+ghost use Rattle.p3_tree.specs.Plans.{Plan};
+ghost use Rattle.p3_ground.specs.PlansByNumber.{AreNumbers};
 ghost use Rattle.p3_eval.specs.Runs.{BelongTogether, OfRun};
 ghost use Rattle.p3_cli.specs.Lifting.{differ_rejection};
 ghost use Rattle.p3_cli.specs.Translation.{CanBeCompiled};
 
 use p3_base::{List, Name, NoMemory};
 use p3_embed::Embedded;
-use p3_eval::{Run, Whole, cost_of, metric_of, named_fault};
+use p3_eval::{Run, Steps, Whole, cost_of, metric_of, named_fault};
 use p3_lift::{Differ, Lifted};
 use p3_metric::metric_places;
 use p3_reports::{
     CompileReport, EmbedReport, EvaluateReport, GenerateReport, LiftReport, NameCount, Quantity,
     Rejection,
 };
-use p3_tree::Plan;
 use p3_types::Checked;
 use std::alloc::Global;
 
@@ -108,20 +109,21 @@ pub(crate) fn lifted_report(checked: &Checked, lifted: &Lifted) -> LiftReport
 /// the task has, the length of the plan, the length and the cost of its source, and the value.
 pub(crate) fn sampled_report(
     whole: &Whole,
-    plan: &Plan,
+    steps: &Steps,
     embedded: &Embedded,
     metric: i128,
 ) -> GenerateReport
     requires can { CanBeCompiled whole.now.checked.task whole.now.ground_task whole.now.weights }
-    requires metric { metric ≡ value whole.now.checked.task plan.now }
-    ensures { generate_text result ≡ generated_lines
-        whole.now.checked.task plan.now (length embedded.now.plan) embedded.now.cost }
+    ensures { (plan : Plan) → AreNumbers whole.now.checked.task plan steps.now.numbers.items
+        → metric ≡ value whole.now.checked.task plan
+        → generate_text result ≡ generated_lines
+        whole.now.checked.task plan (length embedded.now.plan) embedded.now.cost }
 {
     let task = whole.ground_task();
     GenerateReport {
         steps: task.step_count as u64,
         preferences: task.soft.len() as u64,
-        plan: plan.len() as u64,
+        plan: steps.numbers.len() as u64,
         embedded: embedded.plan.len() as u64,
         cost: embedded.cost,
         metric: metric_of(whole.checked(), metric),

@@ -27,8 +27,8 @@ use crate::found::{differing, lifted_report};
 use crate::product::Product;
 use crate::texts::Texts;
 use p3_base::{NoMemory, Side};
-use p3_eval::Whole;
-use p3_lift::{LiftFail, Lifted};
+use p3_eval::Accepted;
+use p3_lift::{LiftFail, Lifted, lift_by_steps};
 use p3_plans::write_plan;
 use p3_reports::{Rejection, Report};
 use p3_tree::Task;
@@ -69,7 +69,7 @@ pub(crate) fn lift(alloc: Global, texts: &Texts<'_>) -> Result<Lifting, Ending>
 {
     let (source, written) = both_tasks(alloc, texts)?;
     let plan = plan_of(alloc, texts.plan)?;
-    let lifted = match p3_lift::lift(alloc, &source, &written, &plan) {
+    let lifted = match lift_by_steps(alloc, &source, &written, &plan) {
         Ok(lifted) => lifted,
         Err(fail) => return Err(unlifted(&fail)),
     };
@@ -80,7 +80,7 @@ pub(crate) fn lift(alloc: Global, texts: &Texts<'_>) -> Result<Lifting, Ending>
 }
 
 /// Accepts the two tasks that the texts spell, where nothing is refused of them and of the plan.
-fn both_tasks(alloc: Global, texts: &Texts<'_>) -> Result<(Whole, Whole), Ending>
+fn both_tasks(alloc: Global, texts: &Texts<'_>) -> Result<(Accepted, Accepted), Ending>
     ensures source { IfOk result (λ both.
         AreAcceptedFor Source (all_texts texts.now) both.0.checked.task) }
     ensures written { IfOk result (λ both.
@@ -129,7 +129,7 @@ fn unlifted(fail: &LiftFail) -> Ending
 }
 
 /// Writes a lifted plan of an accepted task, and makes the report.
-fn lifting_of(alloc: Global, source: &Whole, lifted: &Lifted) -> Result<Lifting, NoMemory>
+fn lifting_of(alloc: Global, source: &Accepted, lifted: &Lifted) -> Result<Lifting, NoMemory>
     requires words { IsTrue (list_all has_written_words lifted.now.plan) }
     requires metric { lifted.now.metric ≡ value source.now.checked.task lifted.now.plan }
     ensures plan { IfOk result (λ made. IsPlanText made.plan.items lifted.now.plan) }

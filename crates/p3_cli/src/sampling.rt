@@ -4,17 +4,16 @@ ghost use Rattle.std.specs.Prelude.{◌≡◌, ◌≤◌, ◌∷◌, [], IfErr, 
 ghost use Rattle.p3_base.specs.declared.refusal.Side.TheVariants.{Source};
 ghost use Rattle.p3_tree.specs.Commands.{sample_limit};
 ghost use Rattle.p3_tree.specs.Metrics.{value};
-ghost use Rattle.p3_tree.specs.PlanTexts.{step_limit};
 ghost use Rattle.p3_tree.specs.Samples.{sample_domain, sample_plan, sample_problem};
 ghost use Rattle.p3_tree.specs.Sides.{byte_limit, plan_byte_limit};
 ghost use Rattle.p3_tree.specs.Validity.{Valid};
+ghost use Rattle.p3_eval.specs.Steps.{AreOfPlan, OfSteps};
 ghost use Rattle.p3_cli.specs.Evaluation.{IsRejectedPlan, RejectsPlan};
 ghost use Rattle.p3_cli.specs.Refusing.{IsRejectedBy, all_texts, with_plan};
 ghost use Rattle.p3_reports.specs.Reports.{report_text};
 ghost use Rattle.p3_cli.specs.Sampling.{IsSampleReport, IsSampling};
 
 use crate::Ending;
-use crate::acceptance::plan_of;
 use crate::embedding::embedded;
 use crate::evaluation::judged_whole;
 use crate::found::sampled_report;
@@ -22,10 +21,9 @@ use crate::product::Product;
 use crate::texts::Texts;
 use p3_base::NoMemory;
 use p3_compile::compile;
-use p3_eval::Whole;
+use p3_eval::{Steps, Whole};
 use p3_gen::{Sample, generate};
 use p3_reports::Report;
-use p3_tree::Plan;
 use std::alloc::Global;
 
 /// The texts of a sample, and the report.
@@ -97,25 +95,26 @@ fn report_of(alloc: Global, texts: &Texts<'_>) -> Result<Report, Ending>
     ensures err { IfErr result (IsRejectedPlan (all_texts texts.now)) }
 {
     let whole = judged_whole(alloc, texts)?;
-    let plan = plan_of(alloc, texts.plan)?;
+    let steps = Steps::of_text(alloc, whole.checked(), texts.plan)?;
     let target = compile(alloc, whole.ground_task(), whole.weights())?;
-    let embedded = match embedded(alloc, &whole, &target, &plan) {
+    let embedded = match embedded(alloc, &whole, &target, &steps) {
         Ok(embedded) => embedded,
         Err(ending) => return Err(ending),
     };
-    let metric = value_of(alloc, &whole, &plan)?;
-    let report = sampled_report(&whole, &plan, &embedded, metric);
+    let metric = value_of(alloc, &whole, &steps)?;
+    let report = sampled_report(&whole, &steps, &embedded, metric);
     Ok(Report::Generate(report))
 }
 
-/// Finds the value of a valid plan.
-fn value_of(alloc: Global, whole: &Whole, plan: &Plan) -> Result<i128, NoMemory>
-    requires few { length plan.now ≤ step_limit }
-    requires valid { Valid whole.now.checked.task plan.now }
-    ensures { IfOk result (λ metric. metric ≡ value whole.now.checked.task plan.now) }
+/// Finds the value of the valid plan of these steps.
+fn value_of(alloc: Global, whole: &Whole, steps: &Steps) -> Result<i128, NoMemory>
+    requires some { AreOfPlan whole.now.checked.task steps.now }
+    requires valid { OfSteps whole.now.checked.task steps.now (Valid whole.now.checked.task) }
+    ensures { IfOk result (λ metric. OfSteps whole.now.checked.task steps.now
+        (λ plan. metric ≡ value whole.now.checked.task plan)) }
 {
     let mut run = whole.begin(alloc)?;
-    match run.judge_plan(whole.checked(), plan.items()) {
+    match run.judge_steps(steps) {
         None => Ok(run.metric()),
         // The plan is valid.
         Some(_) => unreachable!(),
