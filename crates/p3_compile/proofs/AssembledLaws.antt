@@ -39,7 +39,7 @@ all_at test (x ∷ xs) (suc k) d all within = all_at test xs k d (and_parts (tes
 
 module _ (G : GroundTask) (weights : Weights) (frame : Frame) (ready : IsReady G weights) (is : IsFrameOf G frame) where
   pub frame_is : IsFrame frame
-  frame_is = record { questions = let q = is.questions in omega (arith, q); before = frame_before G frame is ready.atoms; hard = subst (λ n. n ≤ length frame.monitors) (sym is.hard) (hard_inside G frame is); read = is.read; rising = is.rising }
+  frame_is = record { questions = let q = is.questions in omega (arith, q); before = frame_before G frame is ready.atoms; hard = subst (λ n. n ≤ length frame.monitors) (sym is.hard) (hard_inside G frame is); read = is.read; rising = is.rising; by_atom = is.by_atom }
 
   pub steps_ready : All (IsStepReady frame weights) G.steps
   steps_ready = λ k d within.

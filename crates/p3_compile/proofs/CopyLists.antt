@@ -1,5 +1,5 @@
 -- The actions of copies: one more, and that they are tidy.
-use Rattle.std.proofs.Common.{◌≡◌, ◌∙◌, ◌<◌, ◌+◌, ℕ, true, List, [], ◌∷◌, ◌++◌, length, take, get_or, refl, sym, ap, subst}
+use Rattle.std.proofs.Common.{◌≡◌, ◌∙◌, ◌<◌, ◌+◌, ℕ, true, List, [], ◌∷◌, ◌++◌, length, take, get_or, refl, sym, ap, subst, arith}
 use Rattle.std.specs.List.{All, list_all}
 use Rattle.std.proofs.lemmas.List.Elements.{All-append, All-cons, All-head, All-nil, All-tail}
 use Rattle.std.proofs.lemmas.Bool.{and_from}
@@ -36,3 +36,8 @@ module _ (go number : ℕ) (effects : List Change) where
   -- the actions so far, and one more
   pub simpler_more : (actions : List TargetAction) (action : TargetAction) → All (HasSimpler effects) actions → HasSimpler effects action → All (HasSimpler effects) (actions ++ action ∷ [])
   simpler_more actions action all one = All-append (HasSimpler effects) actions (action ∷ []) all (All-cons (HasSimpler effects) action [] one (All-nil (HasSimpler effects)))
+
+-- what is said of all items is said of one amid them
+pub all_amid : {A : Type 0} (P : A → Type 0) (front : List A) (x : A) (back : List A) → All P (front ++ x ∷ back) → P x
+all_amid P [] x back all = all 0 x (omega arith)
+all_amid P (y ∷ front) x back all = all_amid P front x back (All-tail P y (front ++ x ∷ back) all)

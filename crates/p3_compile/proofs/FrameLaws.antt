@@ -24,7 +24,8 @@ use Rattle.p3_simulation.specs.Watching.{AreMonitors, all_modals}
 use Rattle.p3_simulation.proofs.Bounds.{all_weaker}
 use Rattle.p3_simulation.proofs.Watched.{are_before, monitors_rise}
 use Rattle.p3_compile.specs.Compiling.{IsReadyTask, IsFrameOf, IsFramed}
-use Rattle.p3_compile.specs.Readers.{readers_from, IsRising}
+use Rattle.p3_regress.specs.Readers.{AreRising}
+use Rattle.p3_compile.specs.Readers.{AreByAtom, readers_of}
 use Rattle.p3_compile.specs.Watched.{IsWatched, monitor_atoms, named_more, soft_modals}
 use Rattle.p3_compile.specs.declared.stepping.Frame.{Frame}
 use Rattle.p3_compile.proofs.NumberedNames.{length-named, named-join}
@@ -67,8 +68,8 @@ module _ (G : GroundTask) (frame : Frame) (n1 n2 n3 n4 : List Name) (ready : IsR
       ap length chain_names ∙ length-append (n2 ++ codes "go" ∷ []) (all_numbered (codes "e") 0 (length G.soft + 1))
       ∙ (let a = length-append n2 (codes "go" ∷ []) in let b = length-map-range_with_len (numbered (codes "e")) 0 (length G.soft + 1) in omega (arith, a, b))
 
-  pub framed_is : IsPermutation (readers_from 0 frame.monitors) frame.readers.items → IsRising frame.readers.items → frame.first < 2 ^ 64 → IsFramed G n4 frame
-  framed_is read rising room = record {
+  pub framed_is : IsPermutation (readers_of frame.monitors) frame.readers.items → AreRising frame.readers.items → AreByAtom frame.monitors frame.by_atom.items → frame.first < 2 ^ 64 → IsFramed G n4 frame
+  framed_is read rising by_atom room = record {
     is = record {
       monitors = subst (AreMonitors G.initial G.atoms frame.go (all_modals G)) (sym (watched.soft.are ∙ ap (λ list. list ++ watched.soft.monitors) watched.hard.are))
           (monitors-append G.initial G.atoms (length watched.between) frame.go G.hard (soft_modals G.soft) watched.hard.monitors watched.soft.monitors
@@ -78,6 +79,7 @@ module _ (G : GroundTask) (frame : Frame) (n1 n2 n3 n4 : List Name) (ready : IsR
       hard = hard;
       read = read;
       rising = rising;
+      by_atom = by_atom;
       questions = end ∙ chain_count ∙ ap (λ n. n + (length G.soft + 2)) (sym running);
       room = room;
     };

@@ -7,12 +7,14 @@ use Rattle.std.proofs.lemmas.List.{append-nil, take-append-drop, take-take, take
 use Rattle.std.proofs.lemmas.List.Folds.{list_all-append}
 use Rattle.p3_formula.specs.Forms.{State, is_below, truth}
 use Rattle.p3_formula.specs.Lasting.{stays_broken}
+use Rattle.p3_formula.specs.Simplified.{spread}
 use Rattle.p3_formula.specs.Targets.{is_sized_change}
 use Rattle.p3_formula.specs.declared.form.Change.{Change}
 use Rattle.p3_formula.specs.declared.form.Form.{Form}
 use Rattle.p3_formula.specs.declared.form.Form.TheVariants.{True}
 use Rattle.p3_formula.specs.declared.task.GroundStep.{GroundStep}
 use Rattle.p3_formula.proofs.FormLemmas.{truth-And, has_atoms-And}
+use Rattle.p3_formula.proofs.GuardLaws.{spread_atoms, spread_truth}
 use Rattle.p3_monitors.specs.Guards.{HasGuard, IsGuard}
 use Rattle.p3_monitors.specs.declared.watching.Monitor.{Monitor}
 use Rattle.p3_simulation.specs.Parts.{AreBefore}
@@ -89,11 +91,15 @@ module _ (step : List Change) where
 
 guarded_truth : (state : State) (pre : Form) (guards : List Form) → truth state (guarded_by pre guards) ≡ (truth state pre && list_all (truth state) guards)
 guarded_truth state pre [] = sym (and-true (truth state pre))
-guarded_truth state pre (guard ∷ guards) = truth-And state (pre ∷ guard ∷ guards)
+guarded_truth state pre (guard ∷ guards) =
+    truth-And state (spread pre ++ guard ∷ guards)
+    ∙ list_all-append (truth state) (spread pre) (guard ∷ guards) ∙ ap (λ b. b && list_all (truth state) (guard ∷ guards)) (spread_truth state pre)
 
 guarded_below : (bound : ℕ) (pre : Form) (guards : List Form) → is_below bound pre ≡ true → list_all (is_below bound) guards ≡ true → is_below bound (guarded_by pre guards) ≡ true
 guarded_below bound pre [] below all = below
-guarded_below bound pre (guard ∷ guards) below all = has_atoms-And (λ atom. nat_lt atom bound) (pre ∷ guard ∷ guards) ∙ and_from (is_below bound pre) _ below all
+guarded_below bound pre (guard ∷ guards) below all =
+    has_atoms-And (λ atom. nat_lt atom bound) (spread pre ++ guard ∷ guards)
+    ∙ list_all-append (is_below bound) (spread pre) (guard ∷ guards) ∙ and_from (list_all (is_below bound) (spread pre)) _ (spread_atoms (λ atom. nat_lt atom bound) pre ∙ below) all
 
 pub is_guarded : (go : ℕ) (monitors : List Monitor) (step : GroundStep) → AreBefore go go monitors → is_below go step.pre ≡ true → list_all (is_sized_change go) step.effects ≡ true → (pre : Form) → IsGuardedBy step.effects monitors step.pre pre
     → IsGuardedPre go monitors step pre

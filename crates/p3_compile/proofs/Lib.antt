@@ -1,7 +1,7 @@
 pub mod CopyLists
 pub mod CopyNames
 pub mod NumberedNames
-pub mod ReaderLemmas
+pub mod ByAtomLists
 pub mod WatchedLists
 pub mod SimplerChanges
 pub mod Touched

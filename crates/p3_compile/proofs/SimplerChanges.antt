@@ -1,5 +1,5 @@
 -- Changes that are simplified may happen, and no more of them have a condition.
-use Rattle.std.proofs.Common.{◌≡◌, ◌∙◌, ℕ, ◌≤◌, Bool, true, false, not, cond, List, [], ◌∷◌, ◌++◌, Option, refl, sym, ap, subst, arith, true≢false}
+use Rattle.std.proofs.Common.{◌≡◌, ◌∙◌, ℕ, ◌≤◌, Bool, true, false, not, cond, List, [], ◌∷◌, ◌++◌, Option, refl, sym, ap, subst, arith}
 use Rattle.std.specs.Prelude.{count_by, if◌then◌else◌}
 use Rattle.std.specs.List.{All, list_all}
 use Rattle.std.proofs.lemmas.Bool.{and_parts, and_from}
@@ -11,18 +11,10 @@ use Rattle.p3_formula.specs.Tidy.{is_tidy}
 use Rattle.p3_formula.specs.Trimmed.{granted_to, is_cleared_by, settled_change, trimmed, trimmed_by, unless_never}
 use Rattle.p3_formula.specs.declared.form.Change.{Change}
 use Rattle.p3_formula.specs.declared.form.Form.{Form}
-use Rattle.p3_formula.specs.declared.form.Form.TheVariants.{True, False, Atom, Not', And', Or'}
+use Rattle.p3_formula.proofs.SameLemmas.{true_is}
 use Rattle.p3_formula.proofs.SettledLaws.{settled-True}
 use Rattle.p3_compile.specs.Lean.{is_conditional}
 use Rattle.p3_compile.specs.Updated.{AreSimpler, MayHappen}
-
-is_true : (form : Form) → is_value true form ≡ true → form ≡ True
-is_true True h = refl
-is_true False h = absurd (true≢false (sym h))
-is_true (Atom atom) h = absurd (true≢false (sym h))
-is_true (Not' shape part) h = absurd (true≢false (sym h))
-is_true (And' shape parts) h = absurd (true≢false (sym h))
-is_true (Or' shape parts) h = absurd (true≢false (sym h))
 
 -- ---- changes that happen always
 
@@ -30,13 +22,13 @@ pub certain_tidy : (changes : List Change) → list_all (λ (change : Change). i
 certain_tidy [] all = refl
 certain_tidy (change ∷ changes) all =
     let parts = and_parts (is_value true change.cond) _ all in
-    and_from (is_tidy change.cond) _ (ap is_tidy (is_true change.cond parts.0)) (certain_tidy changes parts.1)
+    and_from (is_tidy change.cond) _ (ap is_tidy (sym (true_is change.cond parts.0))) (certain_tidy changes parts.1)
 
 pub certain_possible : (changes : List Change) → list_all (λ (change : Change). is_value true change.cond) changes ≡ true → All MayHappen changes
 certain_possible [] all = All-nil MayHappen
 certain_possible (change ∷ changes) all =
     let parts = and_parts (is_value true change.cond) _ all in
-    All-cons MayHappen change changes (ap (is_value false) (is_true change.cond parts.0)) (certain_possible changes parts.1)
+    All-cons MayHappen change changes (ap (is_value false) (sym (true_is change.cond parts.0))) (certain_possible changes parts.1)
 
 -- changes as they are
 pub certain_simpler : (pre : Form) (changes : List Change) → AreSimpler pre changes changes
@@ -64,7 +56,7 @@ stays_certain : (known : ℕ → Option Bool) (form : Form) → one (not (is_val
 stays_certain known form = by (is_value true form) refl
   where
     by : (b : Bool) → is_value true form ≡ b → one (not (is_value true (settled known form))) ≤ one (not b)
-    by true is = subst (λ simple. one (not (is_value true simple)) ≤ 0) (sym (ap (settled known) (is_true form is) ∙ settled-True known)) (omega arith)
+    by true is = subst (λ simple. one (not (is_value true simple)) ≤ 0) (sym (ap (settled known) (sym (true_is form is)) ∙ settled-True known)) (omega arith)
     by false is = at_most_one (not (is_value true (settled known form)))
 
 -- one change more, where it may happen

@@ -19,7 +19,8 @@ use Rattle.p3_simulation.specs.Assembled.{HasAssembly}
 use Rattle.p3_simulation.specs.Naming.{all_numbered, question_names, wide_steps}
 use Rattle.p3_simulation.specs.Watching.{AreMonitors, AreSoftEnds, all_accept, all_modals, initial_bits}
 use Rattle.p3_compile.specs.Lean.{IsLean}
-use Rattle.p3_compile.specs.Readers.{readers_from, IsRising}
+use Rattle.p3_regress.specs.Readers.{AreRising}
+use Rattle.p3_compile.specs.Readers.{AreByAtom, readers_of}
 use Rattle.p3_compile.specs.Stepping.{current_names}
 use Rattle.p3_compile.specs.declared.begun.BegunTarget.{BegunTarget}
 use Rattle.p3_compile.specs.declared.stepping.Frame.{Frame}
@@ -40,8 +41,9 @@ first_names G go = all_numbered (codes "f") 0 G.atoms ++ (all_numbered (codes "m
 pub record IsFrameOf (G : GroundTask) (frame : Frame) : Type 0 where
   pub monitors : AreMonitors G.initial G.atoms frame.go (all_modals G) frame.monitors
   pub hard : frame.hard ≡ length G.hard
-  pub read : IsPermutation (readers_from 0 frame.monitors) frame.readers.items
-  pub rising : IsRising frame.readers.items
+  pub read : IsPermutation (readers_of frame.monitors) frame.readers.items
+  pub rising : AreRising frame.readers.items
+  pub by_atom : AreByAtom frame.monitors frame.by_atom.items
   pub questions : frame.first ≡ frame.go + (length G.soft + 2)
   pub room : frame.first < 2 ^ 64
 

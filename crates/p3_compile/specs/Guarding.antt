@@ -2,6 +2,7 @@
 use Rattle.std.specs.Prelude.{◌≡◌, ℕ, ◌≤◌, true, List, [], ◌∷◌, ◌++◌}
 use Rattle.std.specs.List.{list_all}
 use Rattle.p3_formula.specs.Forms.{is_below}
+use Rattle.p3_formula.specs.Simplified.{spread}
 use Rattle.p3_formula.specs.Targets.{is_sized_change}
 use Rattle.p3_formula.specs.declared.form.Change.{Change}
 use Rattle.p3_formula.specs.declared.form.Form.{Form}
@@ -21,10 +22,10 @@ pub record HasOneGuard (step : List Change) (monitor : Monitor) (old new : List 
   pub has : HasGuards step (monitor ∷ []) own
   pub are : new ≡ old ++ own
 
--- the precondition holds, and so do the guards
+-- the precondition holds, and so do the guards, which stand behind its parts
 abbrev pub guarded_by : Form → List Form → Form
 guarded_by pre [] = pre
-guarded_by pre (guard ∷ guards) = And (pre ∷ guard ∷ guards)
+guarded_by pre (guard ∷ guards) = And (spread pre ++ guard ∷ guards)
 
 -- that is the form, for the guards of some of the monitors
 pub record IsGuardedBy (step : List Change) (monitors : List Monitor) (pre form : Form) : Type 0 where

@@ -1,13 +1,13 @@
--- Which monitors read an atom.
-use Rattle.std.specs.Prelude.{ℕ, ◌+◌, ◌==◌, Bool, List, [], ◌∷◌, ◌++◌, map}
-use Rattle.std.specs.List.{filter, flat_map}
-use Rattle.std.specs.List.Sorted.{IsNonDecreasingBy}
+-- Which monitors read an atom, and where in their constraints.
+use Rattle.std.specs.Prelude.{ℕ, ◌≤◌, ◌<◌, List, [], ◌++◌, length, map, slice_index_or}
 use Rattle.p3_formula.specs.AtomLists.{atoms_of}
-use Rattle.p3_formula.specs.declared.form.Change.{Change}
 use Rattle.p3_formula.specs.declared.modal.GroundModal.{GroundModal}
 use Rattle.p3_formula.specs.declared.modal.GroundModal.TheVariants.{AtEnd, Always, Sometime, AtMostOnce, SometimeAfter, SometimeBefore}
+use Rattle.p3_regress.specs.Readers.{readers_from}
+use Rattle.p3_regress.specs.declared.readers.Reader.{Reader}
+use Rattle.p3_monitors.specs.FormIndex.{IndexesForms}
+use Rattle.p3_monitors.specs.declared.forms.FormsByAtom.{FormsByAtom}
 use Rattle.p3_monitors.specs.declared.watching.Monitor.{Monitor}
-use Rattle.p3_compile.specs.declared.reading.Reader.{Reader}
 
 -- the atoms whose changes a monitor follows: none where only the last state counts
 abbrev pub read_atoms : GroundModal → List ℕ
@@ -18,23 +18,14 @@ read_atoms (AtMostOnce f) = atoms_of f
 read_atoms (SometimeAfter f g) = atoms_of f ++ atoms_of g
 read_atoms (SometimeBefore f g) = atoms_of f ++ atoms_of g
 
-abbrev pub reader : ℕ → ℕ → Reader
-reader place atom = record { atom = atom; place = place }
+abbrev pub followed : Monitor → List ℕ
+followed monitor = read_atoms monitor.modal
 
--- those of the monitors, which are counted from a place on
-abbrev pub readers_from : ℕ → List Monitor → List Reader
-readers_from place [] = []
-readers_from place (monitor ∷ monitors) = map (reader place) (read_atoms monitor.modal) ++ readers_from (place + 1) monitors
+-- the monitors as readers of these, by their places
+abbrev pub readers_of : List Monitor → List Reader
+readers_of monitors = readers_from 0 (map followed monitors)
 
-abbrev pub reads_atom : ℕ → Reader → Bool
-reads_atom atom one = one.atom == atom
-
-abbrev pub IsRising : List Reader → Type 0
-IsRising readers = IsNonDecreasingBy (λ (one : Reader). one.atom) readers
-
--- the places of the monitors that read one of the atoms which the changes name
-abbrev pub places_of : List Reader → List ℕ
-places_of readers = map (λ (one : Reader). one.place) readers
-
-abbrev pub places_read : List Reader → List Change → List ℕ
-places_read readers step = flat_map (λ (change : Change). places_of (filter (reads_atom change.atom) readers)) step
+-- there is for each monitor what its constraint's forms have by atom
+pub record AreByAtom (monitors : List Monitor) (by_atom : List FormsByAtom) : Type 0 where
+  pub count : length monitors ≤ length by_atom
+  pub each : (place : ℕ) (monitor : Monitor) (one : FormsByAtom) → place < length monitors → IndexesForms (slice_index_or monitors place monitor).modal (slice_index_or by_atom place one)

@@ -13,7 +13,8 @@ use Rattle.p3_monitors.specs.declared.watching.Monitor.{Monitor}
 use Rattle.p3_simulation.specs.Assembled.{AreOfStep, AreOfSteps}
 use Rattle.p3_simulation.specs.Naming.{current_name, is_wide, wide_steps}
 use Rattle.p3_simulation.specs.Parts.{AreBefore}
-use Rattle.p3_compile.specs.Readers.{readers_from, IsRising}
+use Rattle.p3_regress.specs.Readers.{AreRising}
+use Rattle.p3_compile.specs.Readers.{AreByAtom, readers_of}
 use Rattle.p3_compile.specs.Lean.{IsOfSteps, IsStepAction}
 use Rattle.p3_compile.specs.Updated.{AreApart, busy_count}
 use Rattle.p3_compile.specs.declared.begun.BegunTarget.{BegunTarget}
@@ -23,13 +24,14 @@ use Rattle.p3_compile.specs.declared.stepping.Frame.{Frame}
 abbrev pub hard_monitors : Frame → List Monitor
 hard_monitors frame = take frame.hard frame.monitors
 
--- the monitors' atoms stand before the running atom, and the readers are those of the monitors
+-- the monitors' atoms stand before the running atom, and the readers are those of the monitors, whose forms are there by atom
 pub record IsFrame (frame : Frame) : Type 0 where
   pub questions : frame.go < frame.first
   pub before : AreBefore frame.go frame.go frame.monitors
   pub hard : frame.hard ≤ length frame.monitors
-  pub read : IsPermutation (readers_from 0 frame.monitors) frame.readers.items
-  pub rising : IsRising frame.readers.items
+  pub read : IsPermutation (readers_of frame.monitors) frame.readers.items
+  pub rising : AreRising frame.readers.items
+  pub by_atom : AreByAtom frame.monitors frame.by_atom.items
 
 -- what is asked of a step: its atoms are other ones than the running atom and those of the monitors
 pub record IsStepReady (frame : Frame) (weights : Weights) (step : GroundStep) : Type 0 where

@@ -13,6 +13,7 @@ use Rattle.p3_formula.specs.declared.form.Form.{Form}
 use Rattle.p3_formula.specs.declared.target.TargetAction.{TargetAction}
 use Rattle.p3_monitors.specs.KeepsOn.{HasNone, HasConditions, AreOwn, KeepsOn}
 use Rattle.p3_monitors.specs.declared.watching.Monitor.{Monitor}
+use Rattle.p3_precprefs.specs.declared.copies.StepCopy.{StepCopy}
 use Rattle.p3_simulation.specs.Parts.{AreBefore}
 use Rattle.p3_simulation.specs.Watching.{AreUpdates}
 use Rattle.p3_compile.specs.Lean.{is_busy, is_conditional}
@@ -81,6 +82,11 @@ pub record HasSimpler (effects : List Change) (action : TargetAction) : Type 0 w
   pub possible : All MayHappen action.effects
   pub fewer : length action.effects ≤ length effects
   pub conditional : count_by is_conditional action.effects ≤ count_by is_conditional effects
+
+-- the precondition of the copy is tidy, and not the constant that never holds
+pub record IsSimpleCopy (copy : StepCopy) : Type 0 where
+  pub tidy : IsTrue (is_tidy copy.pre)
+  pub possible : is_value false copy.pre ≡ false
 
 -- what the changes of the step and of the monitors that it touches become where it fits
 pub record HasChanges (pre : Form) (step : List Change) (monitors : List Monitor) (changes : List Change) : Type 0 where

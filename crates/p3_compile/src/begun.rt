@@ -12,7 +12,7 @@ ghost use Rattle.p3_compile.specs.Stepping.{current_names, IsNextStep, HasNextAc
 use crate::bits::initial_bits;
 use crate::ending::{finish_form, soft_ends};
 use crate::names::{numbered, push_numbered};
-use crate::reading::readers;
+use crate::reading::{all_by_atom, readers};
 use crate::stepping::{Frame, has_wide, push_all, step_actions};
 use crate::watching::monitors;
 use crate::weighing::is_wide;
@@ -49,6 +49,7 @@ fn framed(alloc: Global, names: &mut List<Name>, task: &GroundTask) -> Result<Fr
     push_numbered(alloc, names, "f", 0, task.atoms)?;
     let monitors = monitors(alloc, names, task)?;
     let readers = readers(alloc, monitors.items())?;
+    let by_atom = all_by_atom(alloc, monitors.items())?;
     let go = names.len();
     names.push(running_name(alloc)?)?;
     let chain = names.len();
@@ -59,6 +60,7 @@ fn framed(alloc: Global, names: &mut List<Name>, task: &GroundTask) -> Result<Fr
         monitors,
         hard,
         readers,
+        by_atom,
         go,
         first,
     })

@@ -1,25 +1,23 @@
 //! The changes of a step in a target: its own, and those of the monitors that it touches.
 
-ghost use Rattle.std.specs.Prelude.{◌≡◌, ◌≤◌, ◌++◌, [], length, take, IfOk, OnOk, IsTrue, true};
+ghost use Rattle.std.specs.Prelude.{◌≡◌, ◌++◌, [], IfOk, OnOk, IsTrue, true};
 ghost use Rattle.std.specs.List.{All, list_all};
-ghost use Rattle.std.specs.List.Sorted.{IsPermutation};
 ghost use Rattle.p3_formula.specs.Kept.{is_own};
 ghost use Rattle.p3_formula.specs.Simplified.{is_value};
 ghost use Rattle.p3_formula.specs.declared.form.Change.{Change as Made};
 ghost use Rattle.p3_monitors.specs.KeepsOn.{HasNone};
 ghost use Rattle.p3_regress.specs.Memory.{Extends};
+ghost use Rattle.p3_monitors.specs.FormIndex.{IndexesForms};
 ghost use Rattle.p3_compile.specs.Guarding.{IsGuardedBy};
-ghost use Rattle.p3_compile.specs.Readers.{readers_from, IsRising};
+ghost use Rattle.p3_compile.specs.Readers.{AreByAtom};
+ghost use Rattle.p3_compile.specs.Stepping.{IsFrame, hard_monitors};
 ghost use Rattle.p3_compile.specs.Updated.{AreApart, AreSimpler, AreTouched, HasUpdates, HasUpdate, HasChanges, HasMade, HasTidyConditions, MayHappen};
 
 use crate::guarding::guarded_pre;
-use crate::reading::Reader;
-use crate::touching::touched;
+use crate::stepping::Frame;
 use p3_base::{List, NoMemory};
-use p3_formula::{
-    Change, Effects, Form, GroundStep, Known, Table, change_copied, effects_trimmed, fitted,
-};
-use p3_monitors::Monitor;
+use p3_formula::{Change, Effects, Form, GroundStep, Known, Table, change_copied, effects_trimmed};
+use p3_monitors::{FormsByAtom, Monitor};
 use p3_regress::Regressed;
 use std::alloc::Global;
 
@@ -38,14 +36,16 @@ fn push_update(
     alloc: Global,
     all: &mut Vec<Change>,
     monitor: &Monitor,
+    by_atom: &FormsByAtom,
     regressed: &mut Regressed,
 ) -> Result<(), NoMemory>
-    requires { HasNone (is_own monitor.now.base monitor.now.modal) regressed.old.effects }
+    requires indexed { IndexesForms monitor.now.modal by_atom.now }
+    requires apart { HasNone (is_own monitor.now.base monitor.now.modal) regressed.old.effects }
     ensures pushed { OnOk result
         (HasUpdate regressed.old.effects monitor.now all.old.items all.new.items) }
     ensures extends { Extends regressed.old regressed.new }
 {
-    let mut changes = monitor.effects_in(alloc, regressed)?.into_items();
+    let mut changes = monitor.effects_by(alloc, regressed, by_atom)?.into_items();
     all.append(&mut changes)?;
     Ok(())
 }
@@ -56,9 +56,11 @@ fn push_updates(
     alloc: Global,
     all: &mut Vec<Change>,
     monitors: &[Monitor],
+    by_atom: &[FormsByAtom],
     places: &[usize],
     regressed: &mut Regressed,
 ) -> Result<(), NoMemory>
+    requires indexed { AreByAtom monitors.now by_atom.now }
     requires apart { AreApart monitors.now regressed.old.effects }
     requires touched { AreTouched regressed.old.effects monitors.now places.now }
     ensures pushed { OnOk result
@@ -68,39 +70,50 @@ fn push_updates(
     let mut next = 0;
     for place in places {
         if *place >= next {
-            push_update(alloc, all, &monitors[*place], regressed)?;
+            push_update(alloc, all, &monitors[*place], &by_atom[*place], regressed)?;
             next = *place + 1;
         }
     }
     Ok(())
 }
 
-/// No change, in a list with room for those of the step, and for two for each monitor that it
-/// touches, as far as the number of their places, which may repeat, tells.
+/// No change, in a list with room for those of the step, and for one for each monitor that it touches,
+/// as far as the number of their places, which may repeat, tells.
 fn room_for(alloc: Global, step: &Effects, touched: usize) -> Result<Vec<Change>, NoMemory>
     ensures { IfOk result (λ all. all.items ≡ []) }
 {
-    let room = step.len().saturating_add(touched.saturating_mul(2));
-    Ok(Vec::with_capacity(alloc, room)?)
+    Ok(Vec::with_capacity(alloc, step.len().saturating_add(touched))?)
 }
 
-/// The changes of a step and of the monitors that it touches.
+/// The places of the monitors that read an atom which the step may change. They rise, and one may
+/// stand several times.
+fn touched(alloc: Global, frame: &Frame, regressed: &Regressed) -> Result<Vec<usize>, NoMemory>
+    requires { IsFrame frame.now }
+    ensures { IfOk result (λ places.
+        AreTouched regressed.now.effects frame.now.monitors places.items) }
+{
+    regressed.places_read(alloc, &frame.readers)
+}
+
+/// The changes of a step and of the monitors at the places, which it touches.
 fn made_changes(
     alloc: Global,
-    monitors: &[Monitor],
+    frame: &Frame,
     places: &[usize],
     step: &Effects,
     regressed: &mut Regressed,
 ) -> Result<Effects, NoMemory>
-    requires apart { AreApart monitors.now step.now }
-    requires touched { AreTouched step.now monitors.now places.now }
+    requires frame { IsFrame frame.now }
+    requires apart { AreApart frame.now.monitors step.now }
+    requires touched { AreTouched step.now frame.now.monitors places.now }
     requires regressed { regressed.old.effects ≡ step.now }
-    ensures made { IfOk result (HasMade step.now monitors.now) }
+    ensures made { IfOk result (HasMade step.now frame.now.monitors) }
     ensures effects { OnOk result (regressed.new.effects ≡ step.now) }
 {
+    let monitors = frame.monitors.items();
     let mut all = room_for(alloc, step, places.len().min(monitors.len()))?;
     push_own(alloc, &mut all, step.items())?;
-    push_updates(alloc, &mut all, monitors, places, regressed)?;
+    push_updates(alloc, &mut all, monitors, &frame.by_atom, places, regressed)?;
     Ok(List::from(all))
 }
 
@@ -109,6 +122,14 @@ pub(crate) fn is_true(form: &Form) -> bool
     ensures { result ≡ is_value true form.now }
 {
     matches!(form, Form::True)
+}
+
+/// How many parts the form has as a part of a conjunction.
+pub(crate) fn part_count(form: &Form) -> usize {
+    match form {
+        Form::And(parts) => parts.len(),
+        _ => 1,
+    }
 }
 
 /// Whether each of the changes happens always.
@@ -142,20 +163,19 @@ pub(crate) fn simpler(alloc: Global, pre: &Form, changes: Effects) -> Result<Eff
 /// of the monitors that it touches.
 pub(crate) fn step_changes(
     alloc: Global,
-    monitors: &[Monitor],
-    readers: &[Reader],
+    frame: &Frame,
     step: &GroundStep,
 ) -> Result<Effects, NoMemory>
-    requires apart { AreApart monitors.now step.now.effects }
-    requires readers { IsPermutation (readers_from 0 monitors.now) readers.now }
-    requires rising { IsRising readers.now }
-    ensures changes { IfOk result (HasChanges step.now.pre step.now.effects monitors.now) }
+    requires frame { IsFrame frame.now }
+    requires apart { AreApart frame.now.monitors step.now.effects }
+    ensures changes { IfOk result
+        (HasChanges step.now.pre step.now.effects frame.now.monitors) }
     ensures tidy { IfOk result HasTidyConditions }
     ensures possible { IfOk result (All MayHappen) }
 {
-    let places = touched(alloc, readers, &step.effects)?;
     let mut regressed = Regressed::open(alloc, Table::new(alloc), &step.effects)?;
-    let made = made_changes(alloc, monitors, &places, &step.effects, &mut regressed)?;
+    let places = touched(alloc, frame, &regressed)?;
+    let made = made_changes(alloc, frame, &places, &step.effects, &mut regressed)?;
     simpler(alloc, &step.pre, made)
 }
 
@@ -168,28 +188,22 @@ pub(crate) struct GuardedStep {
     pub(crate) effects: Effects,
 }
 
-/// The precondition and the changes of a step whose copies are made, where the first monitors, so
-/// many, are those of the hard constraints.
+/// The precondition and the changes of a step whose copies are made.
 pub(crate) fn guarded_step(
     alloc: Global,
-    monitors: &[Monitor],
-    hard: usize,
-    readers: &[Reader],
+    frame: &Frame,
     step: &GroundStep,
 ) -> Result<GuardedStep, NoMemory>
-    requires apart { AreApart monitors.now step.now.effects }
-    requires hard { hard ≤ length monitors.now }
-    requires readers { IsPermutation (readers_from 0 monitors.now) readers.now }
-    requires rising { IsRising readers.now }
+    requires frame { IsFrame frame.now }
+    requires apart { AreApart frame.now.monitors step.now.effects }
     ensures pre { IfOk result (λ (made : GuardedStep).
-        IsGuardedBy step.now.effects (take hard monitors.now) step.now.pre made.pre) }
+        IsGuardedBy step.now.effects (hard_monitors frame.now) step.now.pre made.pre) }
     ensures changes { IfOk result (λ (made : GuardedStep).
-        HasMade step.now.effects monitors.now made.effects) }
+        HasMade step.now.effects frame.now.monitors made.effects) }
 {
-    let places = touched(alloc, readers, &step.effects)?;
     let mut regressed = Regressed::open(alloc, Table::new(alloc), &step.effects)?;
-    let effects = made_changes(alloc, monitors, &places, &step.effects, &mut regressed)?;
-    let (hard, _) = monitors.split_at(hard);
-    let pre = guarded_pre(alloc, &step.pre, hard, &places, &mut regressed)?;
+    let places = touched(alloc, frame, &regressed)?;
+    let effects = made_changes(alloc, frame, &places, &step.effects, &mut regressed)?;
+    let pre = guarded_pre(alloc, frame, &places, &step.pre, &mut regressed)?;
     Ok(GuardedStep { pre, effects })
 }

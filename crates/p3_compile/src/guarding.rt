@@ -3,12 +3,16 @@
 
 ghost use Rattle.std.specs.Prelude.{◌≡◌, ◌++◌, IfOk, OnOk};
 ghost use Rattle.p3_regress.specs.Memory.{Extends};
+ghost use Rattle.p3_monitors.specs.FormIndex.{IndexesForms};
+ghost use Rattle.p3_compile.specs.Readers.{AreByAtom};
 ghost use Rattle.p3_compile.specs.Guarding.{HasGuards, HasOneGuard, IsGuardedBy, guarded_by};
+ghost use Rattle.p3_compile.specs.Stepping.{IsFrame, hard_monitors};
 
-use crate::changes::is_true;
+use crate::changes::{is_true, part_count};
+use crate::stepping::Frame;
 use p3_base::{List, NoMemory};
-use p3_formula::{Form, copied};
-use p3_monitors::Monitor;
+use p3_formula::{Form, copied, push_spread};
+use p3_monitors::{FormsByAtom, Monitor};
 use p3_regress::Regressed;
 use std::alloc::Global;
 
@@ -17,13 +21,15 @@ fn push_guard(
     alloc: Global,
     guards: &mut Vec<Form>,
     monitor: &Monitor,
+    by_atom: &FormsByAtom,
     regressed: &mut Regressed,
 ) -> Result<(), NoMemory>
+    requires indexed { IndexesForms monitor.now.modal by_atom.now }
     ensures pushed { OnOk result
         (HasOneGuard regressed.old.effects monitor.now guards.old.items guards.new.items) }
     ensures extends { Extends regressed.old regressed.new }
 {
-    let guard = monitor.guard(alloc, regressed)?;
+    let guard = monitor.guard_by(alloc, regressed, by_atom)?;
     if is_true(&guard) {
         drop(guard);
         return Ok(());
@@ -37,9 +43,11 @@ fn push_guard(
 fn guards(
     alloc: Global,
     monitors: &[Monitor],
+    by_atom: &[FormsByAtom],
     places: &[usize],
     regressed: &mut Regressed,
 ) -> Result<Vec<Form>, NoMemory>
+    requires indexed { AreByAtom monitors.now by_atom.now }
     ensures { IfOk result (λ guards.
         HasGuards regressed.old.effects monitors.now guards.items) }
 {
@@ -47,14 +55,20 @@ fn guards(
     let mut next = 0;
     for place in places {
         if *place >= next && *place < monitors.len() {
-            push_guard(alloc, &mut guards, &monitors[*place], regressed)?;
+            push_guard(
+                alloc,
+                &mut guards,
+                &monitors[*place],
+                &by_atom[*place],
+                regressed,
+            )?;
             next = *place + 1;
         }
     }
     Ok(guards)
 }
 
-/// The precondition, and that the guards hold.
+/// The precondition, and that the guards hold, behind its parts.
 fn joined_guards(alloc: Global, pre: &Form, guards: Vec<Form>) -> Result<Form, NoMemory>
     ensures { IfOk result (λ form. form ≡ guarded_by pre.now guards.items) }
 {
@@ -62,24 +76,28 @@ fn joined_guards(alloc: Global, pre: &Form, guards: Vec<Form>) -> Result<Form, N
     if guards.is_empty() {
         return Ok(own);
     }
-    let mut parts = Vec::with_capacity(alloc, guards.len().saturating_add(1))?;
+    let room = part_count(&own).saturating_add(guards.len());
+    let mut parts = Vec::with_capacity(alloc, room)?;
     let mut guards = guards;
-    parts.push(own)?;
+    push_spread(&mut parts, own)?;
     parts.append(&mut guards)?;
     Ok(Form::And(List::from(parts)))
 }
 
-/// The precondition of a step, and that it breaks none of the constraints of these monitors which
-/// would stay broken, as far as they stand at these places.
+/// The precondition of a step, and that it breaks none of the hard constraints whose monitors stand at
+/// these places and which would stay broken.
 pub(crate) fn guarded_pre(
     alloc: Global,
-    pre: &Form,
-    monitors: &[Monitor],
+    frame: &Frame,
     places: &[usize],
+    pre: &Form,
     regressed: &mut Regressed,
 ) -> Result<Form, NoMemory>
-    ensures { IfOk result (IsGuardedBy regressed.old.effects monitors.now pre.now) }
+    requires { IsFrame frame.now }
+    ensures { IfOk result
+        (IsGuardedBy regressed.old.effects (hard_monitors frame.now) pre.now) }
 {
-    let guards = guards(alloc, monitors, places, regressed)?;
+    let (hard, _) = frame.monitors.items().split_at(frame.hard);
+    let guards = guards(alloc, hard, &frame.by_atom, places, regressed)?;
     joined_guards(alloc, pre, guards)
 }

@@ -12,7 +12,6 @@ mod names;
 mod narrow;
 mod reading;
 mod stepping;
-mod touching;
 mod watching;
 mod weighing;
 

@@ -1,18 +1,21 @@
 //! The actions of a step with few weighted preferences: one for each of its copies.
 
-ghost use Rattle.std.specs.Prelude.{◌≡◌, ◌<◌, ◌≤◌, ◌+◌, ◌++◌, [], ◌∷◌, length, sum_by, IfOk, IsSome, IsTrue, OnOk};
+ghost use Rattle.std.specs.Prelude.{◌≡◌, ◌<◌, ◌≤◌, ◌+◌, ◌++◌, [], ◌∷◌, length, sum_by, IfOk, IsSome, IsTrue, OnOk, true, false};
 ghost use Rattle.std.specs.List.{All, list_all};
 ghost use Rattle.p3_base.specs.Copies.{copy_name};
 ghost use Rattle.p3_formula.specs.Conditions.{weight_bound, is_tidy_action};
+ghost use Rattle.p3_formula.specs.Guards.{IsGuardedForm};
+ghost use Rattle.p3_formula.specs.Simplified.{is_value, joined};
+ghost use Rattle.p3_formula.specs.Tidy.{is_tidy};
 ghost use Rattle.p3_formula.specs.Weighted as weigh;
-ghost use Rattle.p3_compile.specs.Updated.{HasSimpler};
+ghost use Rattle.p3_compile.specs.Updated.{HasSimpler, IsSimpleCopy};
 ghost use Rattle.p3_simulation.specs.Assembled.{IsCopyAction, AreCopyActions, IsSplit};
 ghost use Rattle.p3_simulation.specs.Naming.{pattern};
 
-use crate::changes::simpler;
+use crate::changes::{part_count, simpler};
 use itoa::Buffer;
 use p3_base::{List, Name, NoMemory};
-use p3_formula::{Effects, Form, GroundStep, TargetAction, Weights, effects_copied, guarding};
+use p3_formula::{Effects, Form, GroundStep, TargetAction, Weights, effects_copied, push_spread};
 use p3_precprefs::{StepCopy, split_under};
 use std::alloc::Global;
 
@@ -47,6 +50,31 @@ fn name_of_copy(alloc: Global, number: u32, violated: &List<bool>) -> Result<Nam
     Name::of(alloc, &text)
 }
 
+/// The conjunction of the parts, where there are two or more.
+fn all_of(mut parts: Vec<Form>) -> Form
+    ensures { result ≡ joined true parts.items }
+{
+    if parts.len() > 1 {
+        return Form::And(List::from(parts));
+    }
+    match parts.pop() {
+        Some(part) => part,
+        None => Form::True,
+    }
+}
+
+/// The form that holds where the atom is set and the condition holds, which is as simple as it can be.
+fn behind_atom(alloc: Global, atom: usize, condition: Form) -> Result<Form, NoMemory>
+    requires tidy { IsTrue (is_tidy condition) }
+    requires possible { is_value false condition ≡ false }
+    ensures { IfOk result (IsGuardedForm (atom ∷ []) condition) }
+{
+    let mut parts = Vec::with_capacity(alloc, part_count(&condition).saturating_add(1))?;
+    parts.push(Form::Atom(atom))?;
+    push_spread(&mut parts, condition)?;
+    Ok(all_of(parts))
+}
+
 /// The action of a copy, which takes the changes and simplifies them by what its precondition fixes.
 fn copy_action(
     alloc: Global,
@@ -55,6 +83,7 @@ fn copy_action(
     copy: StepCopy,
     go: usize,
 ) -> Result<TargetAction, NoMemory>
+    requires { IsSimpleCopy copy }
     ensures is { IfOk result (IsCopyAction go number effects copy) }
     ensures simpler { IfOk result (HasSimpler effects) }
 {
@@ -65,7 +94,7 @@ fn copy_action(
     } = copy;
     let name = name_of_copy(alloc, number, &violated)?;
     let effects = simpler(alloc, &pre, effects)?;
-    let pre = guarding(alloc, [go].as_slice(), pre)?;
+    let pre = behind_atom(alloc, go, pre)?;
     Ok(TargetAction {
         name,
         pre,
@@ -82,6 +111,7 @@ fn other_action(
     copy: StepCopy,
     go: usize,
 ) -> Result<TargetAction, NoMemory>
+    requires { IsSimpleCopy copy }
     ensures is { IfOk result (IsCopyAction go number effects.now copy) }
     ensures simpler { IfOk result (HasSimpler effects.now) }
 {
@@ -97,6 +127,7 @@ fn copy_actions(
     copies: Vec<StepCopy>,
     go: usize,
 ) -> Result<Vec<TargetAction>, NoMemory>
+    requires { All IsSimpleCopy copies.items }
     ensures are { IfOk result (λ actions.
         AreCopyActions go number effects.now copies.items actions.items) }
     ensures simpler { IfOk result (λ actions. All (HasSimpler effects.now) actions.items) }
@@ -116,6 +147,7 @@ fn actions_of_copies(
     copies: List<StepCopy>,
     go: usize,
 ) -> Result<List<TargetAction>, NoMemory>
+    requires { All IsSimpleCopy copies }
     ensures are { IfOk result (AreCopyActions go number effects copies) }
     ensures simpler { IfOk result (All (HasSimpler effects)) }
 {

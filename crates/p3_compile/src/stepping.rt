@@ -13,12 +13,12 @@ ghost use Rattle.p3_compile.specs.Updated.{HasTidyConditions};
 
 use crate::changes::{GuardedStep, guarded_step, step_changes};
 use crate::narrow::narrow_actions;
-use crate::reading::Reader;
 use crate::weighing::{has_many_weights, is_wide};
 use p3_base::{List, NoMemory};
 use p3_formula::{Effects, GroundStep, TargetAction, Weights};
-use p3_monitors::Monitor;
+use p3_monitors::{FormsByAtom, Monitor};
 use p3_precprefs::ask;
+use p3_regress::Reader;
 use std::alloc::Global;
 
 /// What the actions of all steps share.
@@ -30,6 +30,8 @@ pub(crate) struct Frame {
     pub(crate) hard: usize,
     /// Which of them read an atom, by rising atom.
     pub(crate) readers: Vec<Reader>,
+    /// The parts of the forms of each by the atoms that they read.
+    pub(crate) by_atom: Vec<FormsByAtom>,
     /// The running atom.
     pub(crate) go: usize,
     /// The first question atom.
@@ -92,12 +94,11 @@ fn costed_actions(
     requires room { HasRoom frame.now weights.now step.now current.old }
     ensures { IfOk result (HasActions frame.now weights.now step.now current.old current.new) }
 {
-    let monitors = frame.monitors.items();
     if has_many_weights(&weights.by_name, step) {
-        let effects = step_changes(alloc, monitors, &frame.readers, step)?;
+        let effects = step_changes(alloc, frame, step)?;
         return chain_actions(alloc, current, frame, weights, step, &effects);
     }
-    let made = guarded_step(alloc, monitors, frame.hard, &frame.readers, step)?;
+    let made = guarded_step(alloc, frame, step)?;
     let GuardedStep { pre, effects } = made;
     narrow_actions(alloc, step, pre, effects, weights, frame.go)
 }

@@ -3,7 +3,7 @@ use Rattle.std.specs.Prelude.{codes}
 use Rattle.std.specs.List.Sorted.{IsPermutation}
 use Rattle.std.proofs.lemmas.List.FromFn.{length-map-range_with_len}
 use Rattle.p3_simulation.specs.Naming.{numbered}
-use Rattle.p3_compile.specs.Readers.{readers_from}
+use Rattle.p3_compile.specs.Readers.{AreByAtom, readers_of}
 use Rattle.p3_compile.specs.Watched.{named_more}
 use Rattle.p3_compile.proofs.FrameLaws.{framed_is}
 use Rattle.p3_compile.proofs.begun.framed.Goals as goal
@@ -24,6 +24,7 @@ returns c = framed_is c.args.task.now _ c.push_numbered.new.names c.monitors.new
     (c.in_ok-push_numbered-2.ensures ∙ (λ i. named_more (codes "e") (c.len-chain.ensures i) c.push.new.self (c.len.ensures i + 1)))
     c.len-first.ensures
     c.len-hard.ensures
-    (subst (λ monitors. IsPermutation (readers_from 0 monitors) c.in_ok-readers.readers.items) c.items.ensures c.in_ok-readers.ensures.same)
+    (subst (λ monitors. IsPermutation (readers_of monitors) c.in_ok-readers.readers.items) c.items.ensures c.in_ok-readers.ensures.same)
     c.in_ok-readers.ensures.rising
+    (subst (λ monitors. AreByAtom monitors c.in_ok-by_atom.by_atom.items) c.items-2.ensures c.in_ok-by_atom.ensures)
     c.len-first.type_inv

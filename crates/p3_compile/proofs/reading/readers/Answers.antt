@@ -1,9 +1,8 @@
-use Rattle.std.proofs.Common.{◌∙◌, ◌++◌, ap, sym, rules, map}
-use Rattle.std.proofs.lemmas.List.Sorted.{IsNonDecreasingBy-from_sort_by_key}
-use Rattle.p3_compile.specs.declared.reading.Reader.{Reader}
-use Rattle.p3_compile.specs.Readers.{read_atoms, reader}
+use Rattle.std.proofs.Common.{◌∙◌, ◌++◌, ap, sym, map}
+use Rattle.p3_regress.specs.Readers.{reader}
+use Rattle.p3_regress.proofs.ReaderLemmas.{readers_next}
+use Rattle.p3_compile.specs.Readers.{followed, read_atoms}
 use Rattle.p3_monitors.specs.declared.watching.Monitor.{Monitor}
-use Rattle.p3_compile.proofs.ReaderLemmas.{readers_next}
 use Rattle.p3_compile.proofs.reading.readers.Goals as goal
 
 pub loop-place-preserved : goal.loop-place-preserved
@@ -11,7 +10,4 @@ loop-place-preserved c =
     c.in_ok-push_modal.ensures
     ∙ ap (λ (one : Monitor). c.loop-place.readers.items ++ map (reader c.loop-place.place) (read_atoms one.modal)) (sym c.index-monitors-place.is)
     ∙ ap (λ list. list ++ map (reader c.loop-place.place) (read_atoms c.index-monitors-place.result.modal)) c.loop-place.invariant
-    ∙ readers_next c.args.monitors.now c.loop-place.place c.index-monitors-place.result c.loop-place-test.true c.index-monitors-place.is
-
-pub returns-clause-rising : goal.returns-clause-rising
-returns-clause-rising c = IsNonDecreasingBy-from_sort_by_key (λ (one : Reader). one.atom) c.sort_by_key.new.self.items c.in_ok-sort_by_key.ensures.sorted (λ a r f' k. search rules)
+    ∙ readers_next followed c.args.monitors.now c.loop-place.place c.index-monitors-place.result c.loop-place-test.true c.index-monitors-place.is

@@ -1,6 +1,4 @@
-use Rattle.std.proofs.Common.{◌∙◌, take, sym, subst}
-use Rattle.p3_compile.specs.Guarding.{IsGuardedBy}
-use Rattle.p3_compile.specs.Updated.{HasChanges, HasMade}
+use Rattle.std.proofs.Common.{◌∙◌, sym}
 use Rattle.p3_compile.specs.Stepping.{hard_monitors}
 use Rattle.p3_compile.proofs.EndLaws.{cut_before}
 use Rattle.p3_compile.proofs.GuardLists.{is_guarded}
@@ -9,12 +7,12 @@ use Rattle.p3_compile.proofs.stepping.costed_actions.Goals as goal
 
 pub chain_actions-requires-clause-effects : goal.chain_actions-requires-clause-effects
 chain_actions-requires-clause-effects c =
-    let has = subst (λ monitors. HasChanges c.args.step.now.pre c.args.step.now.effects monitors c.in_ok-effects.effects) c.items-monitors.ensures c.in_ok-effects.ensures.changes in
+    let has = c.in_ok-effects.ensures.changes in
     (is_effects c.args.frame.now.go c.args.frame.now.monitors c.args.step.now c.requires.frame.before (changed_below c.args.frame.now.go c.args.step.now c.requires.ready.below) c.in_ok-effects.effects has).below
 
 pub returns-then-has_many_weights : goal.returns-then-has_many_weights
 returns-then-has_many_weights c =
-    let has = subst (λ monitors. HasChanges c.args.step.now.pre c.args.step.now.effects monitors c.in_ok-effects.effects) c.items-monitors.ensures c.in_ok-effects.ensures.changes in
+    let has = c.in_ok-effects.ensures.changes in
     let is = is_effects c.args.frame.now.go c.args.frame.now.monitors c.args.step.now c.requires.frame.before (changed_below c.args.frame.now.go c.args.step.now c.requires.ready.below) c.in_ok-effects.effects has in
     both_known c.chain_actions.result c.chain_actions.ensures.chain (c.chain_actions.ensures.tidy c.in_ok-effects.ensures.tidy) c.chain_actions.ensures.next
     (λ actions chain tidy next. wide c.args.frame.now c.args.weights.now c.args.step.now c.args.current.now c.chain_actions.new.current c.in_ok-effects.effects actions c.requires.cost (sym c.has_many_weights.ensures ∙ c.if-has_many_weights.true) is has next chain tidy)
@@ -25,9 +23,8 @@ returns c =
     let step = c.args.step.now in
     let made = c.in_ok-made.made in
     let sized = changed_below frame.go step c.requires.ready.below in
-    let has = made_same step.pre step.effects frame.monitors made.effects (subst (λ monitors. HasMade step.effects monitors made.effects) c.items-monitors.ensures c.in_ok-made.ensures.changes) in
+    let has = made_same step.pre step.effects frame.monitors made.effects c.in_ok-made.ensures.changes in
     let is = is_effects frame.go frame.monitors step c.requires.frame.before sized made.effects has in
-    let guarded = is_guarded frame.go (hard_monitors frame) step (cut_before frame.go frame.hard frame.monitors c.requires.frame.before).0 (pre_below frame.go step c.requires.ready.below) sized made.pre
-    (subst (λ monitors. IsGuardedBy step.effects (take frame.hard monitors) step.pre made.pre) c.items-monitors.ensures c.in_ok-made.ensures.pre) in
+    let guarded = is_guarded frame.go (hard_monitors frame) step (cut_before frame.go frame.hard frame.monitors c.requires.frame.before).0 (pre_below frame.go step c.requires.ready.below) sized made.pre c.in_ok-made.ensures.pre in
     three_of c.narrow_actions.result c.narrow_actions.ensures.split c.narrow_actions.ensures.tidy c.narrow_actions.ensures.simpler
     (λ actions split tidy simpler. narrow frame c.args.weights.now step c.args.current.now made.pre made.effects actions c.requires.cost (sym c.has_many_weights.ensures ∙ c.if-has_many_weights.false) is has guarded split tidy simpler)

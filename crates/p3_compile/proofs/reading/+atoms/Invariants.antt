@@ -1,9 +1,0 @@
-use Rattle.std.proofs.Common.{◌≡◌, ◌++◌, map, take}
-use Rattle.std.specs.List.{flat_map}
-use Rattle.p3_formula.specs.AtomLists.{atoms_of}
-use Rattle.p3_compile.specs.Readers.{reader}
-use Rattle.p3_compile.proofs.reading.+atoms.Given as goal
-
--- the atoms of the forms passed are read
-abbrev pub invariant-push_forms-loop-form : goal.invariant-push_forms-loop-form
-invariant-push_forms-loop-form l = l.readers.items ≡ l.fn.readers.items ++ map (reader l.place) (flat_map atoms_of (take l.form-index l.forms))
