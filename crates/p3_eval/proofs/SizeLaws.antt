@@ -1,5 +1,5 @@
 -- The expanded sizes of an action bound its preferences and its increases; and short numbers bound what it costs.
-use Rattle.std.proofs.Common.{◌≡◌, ◌∙◌, ℕ, zero, suc, ◌+◌, ◌-◌, ◌*◌, ◌^◌, ◌<◌, ◌≤◌, max, sym, ap, Bool, true, false, cond, List, [], ◌∷◌, ◌++◌, map, filter_map, fold, sum, sum_by, length, slice_get, Some, None, arith, length-append}
+use Rattle.std.proofs.Common.{◌≡◌, ◌∙◌, ℕ, zero, suc, ◌-◌, ◌*◌, ◌^◌, ◌<◌, ◌≤◌, max, sym, ap, Bool, true, false, cond, List, [], ◌∷◌, ◌++◌, map, filter_map, fold, sum, sum_by, length, slice_get, Some, None, arith, length-append}
 use Rattle.std.specs.Prelude.{flat_map, nat_lt, unwrap_or}
 use Rattle.std.specs.List.{cons_option, list_all}
 use Rattle.std.proofs.Math.Nat.{suc-mul, pow-le-pow_right, mul-le-mul_right}

@@ -1,4 +1,4 @@
-use Rattle.std.proofs.Common.{◌∙◌, ◌+◌, List, ℕ, ap, arith, subst, sym}
+use Rattle.std.proofs.Common.{◌∙◌, List, ℕ, ap, arith, subst, sym}
 use Rattle.p3_plans.specs.Steps.{Left, left}
 use Rattle.p3_eval.specs.Judging.{Follows}
 use Rattle.p3_eval.proofs.JudgeLemmas.{ends, ends_at, few_in_all, follows_first, follows_number, has_room, not_refused, the_plan}
