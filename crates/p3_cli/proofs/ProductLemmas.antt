@@ -14,9 +14,12 @@ use Rattle.p3_tree.specs.declared.task.Task.{Task}
 use Rattle.p3_tree.proofs.RefusalLaws.{nothing_is_refused}
 use Rattle.p3_plans.specs.Laws.{HasPlan}
 use Rattle.p3_plans.proofs.PlanLaws.{a_plan_where_no_offence}
+use Rattle.p3_eval.specs.Steps as of
+use Rattle.p3_eval.specs.Steps.{AreStepsOf, OfPlanText, OfSteps}
+use Rattle.p3_eval.specs.declared.steps.Steps.{Steps}
 use Rattle.p3_cli.specs.Embedding.{IsEmbedding}
 use Rattle.p3_cli.specs.Ending.{Ending}
-use Rattle.p3_cli.specs.Evaluation.{AreOfPlan, IsEvaluation, IsFaultOf, IsRejectedPlan, IsReportOf, OfText, RejectsPlan, given_plan}
+use Rattle.p3_cli.specs.Evaluation.{AreOfPlan, IsEvaluation, IsFaultOf, IsRejectedPlan, IsReportOf, RejectsPlan, given_plan}
 use Rattle.p3_cli.specs.Explaining.{IsExplained, IsExplanation, IsUnexplained, IsUnfit, RejectsExplaining}
 use Rattle.p3_cli.specs.Flattening.{IsFlatTranslation, IsStoppedFlat, IsTooWide, StopsFlat}
 use Rattle.p3_cli.specs.Following.{IsFollowed}
@@ -186,67 +189,43 @@ module _ (n : ℕ) (d p q report : List ℕ) (means : IsSampling n d p q report)
       (subst (λ text. (how : Ending) → RejectsPlan (with_plan text p q) how → ⊥) means.domain
       (plan_accepted d p q means.reported.task means.reported.plan means.reported.of means.reported.valid)))
 
--- ---- of the plan of a text
+-- ---- of the plan of a text, by its steps
 
-module _ (texts : AllTexts) (task : Task) (accepted : AreAcceptedFor Source texts task) (free : plan_offence texts.plan ≡ None) where
+module _ (texts : AllTexts) (task : Task) (accepted : AreAcceptedFor Source texts task) (free : plan_offence texts.plan ≡ None) (steps : Steps) (are : OfPlanText texts.plan (λ plan. AreStepsOf task plan steps)) where
   the_plan : HasPlan texts.plan
   the_plan = (a_plan_where_no_offence texts.plan).1 free
 
-  its_texts : AreOfPlan texts.domain texts.problem texts.plan task the_plan.plan
+  the_steps : AreStepsOf task the_plan.plan steps
+  the_steps = are the_plan.plan the_plan.spelled
+
+  -- the steps are those of a plan
+  pub of_some_plan : of.AreOfPlan task steps
+  of_some_plan = record { plan = the_plan.plan; are = the_steps }
+
+  pub its_texts : AreOfPlan texts.domain texts.problem texts.plan task the_plan.plan
   its_texts = record { accepted = accepted; spelled = the_plan.spelled; few = the_plan.few }
 
-  pub is_evaluation : (report : List ℕ) → OfText texts.plan (IsReportOf task report) → IsEvaluation texts.domain texts.problem texts.plan report
-  is_evaluation report of = record {
-    task = task;
-    plan = the_plan.plan;
-    texts = its_texts;
-    valid = (of the_plan.plan the_plan.spelled).valid;
-    told = (of the_plan.plan the_plan.spelled).told;
-  }
+  pub is_evaluation : (report : List ℕ) → OfSteps task steps (IsReportOf task report) → IsEvaluation texts.domain texts.problem texts.plan report
+  is_evaluation report told = let its = told the_plan.plan the_steps in record { task = task; plan = the_plan.plan; texts = its_texts; valid = its.valid; told = its.told }
 
-  invalid_plan : (how : Ending) → OfText texts.plan (IsFaultOf task how) → RejectsPlan texts how
-  invalid_plan how of = inr (record {
-    task = task;
-    plan = the_plan.plan;
-    texts = its_texts;
-    fault = (of the_plan.plan the_plan.spelled).fault;
-    first = (of the_plan.plan the_plan.spelled).first;
-    says = (of the_plan.plan the_plan.spelled).says;
-  })
+  pub rejected_plan : (how : code.Ending) → IsRejectedBy (λ end. OfSteps task steps (IsFaultOf task end)) how → IsRejectedPlan texts how
+  rejected_plan =
+      says_more (λ end. OfSteps task steps (IsFaultOf task end)) (RejectsPlan texts) (λ how told.
+        let its = told the_plan.plan the_steps in inr (record { task = task; plan = the_plan.plan; texts = its_texts; fault = its.fault; first = its.first; says = its.says }))
 
-  pub rejected_plan : (how : code.Ending) → IsRejectedBy (λ end. OfText texts.plan (IsFaultOf task end)) how → IsRejectedPlan texts how
-  rejected_plan = says_more (λ end. OfText texts.plan (IsFaultOf task end)) (RejectsPlan texts) invalid_plan
+  pub is_explanation : (report : List ℕ) → OfSteps task steps (IsExplained task report) → IsExplanation texts.domain texts.problem texts.plan report
+  is_explanation report told = record { task = task; plan = the_plan.plan; texts = its_texts; explained = told the_plan.plan the_steps }
 
-  pub is_explanation : (report : List ℕ) → OfText texts.plan (IsExplained task report) → IsExplanation texts.domain texts.problem texts.plan report
-  is_explanation report of = record { task = task; plan = the_plan.plan; texts = its_texts; explained = of the_plan.plan the_plan.spelled }
-
--- a step of a plan that is read does not fit
-pub unfit_plan : (texts : AllTexts) (task : Task) → AreAcceptedFor Source texts task → (plan : Plan) → IsPlanText texts.plan plan → length plan ≤ step_limit → (how : code.Ending) → IsRejectedBy (λ end. IsUnfit task end plan) how → IsUnexplained texts how
-unfit_plan texts task accepted plan spelled few =
-    says_more (λ end. IsUnfit task end plan) (RejectsExplaining texts) (λ how wrong. inr (record {
-      task = task;
-      plan = plan;
-      texts = record { accepted = accepted; spelled = spelled; few = few };
-      unfit = wrong;
-    }))
+  pub unexplained_plan : (how : code.Ending) → IsRejectedBy (λ end. OfSteps task steps (IsUnfit task end)) how → IsUnexplained texts how
+  unexplained_plan =
+      says_more (λ end. OfSteps task steps (IsUnfit task end)) (RejectsExplaining texts) (λ how told.
+        inr (record { task = task; plan = the_plan.plan; texts = its_texts; unfit = told the_plan.plan the_steps }))
 
 pub refused_flat : (texts : AllTexts) (how : code.Ending) → IsRefusedTask texts how → IsStoppedFlat texts how
 refused_flat texts = says_more (IsRefusal (given_task Source texts.domain texts.problem) texts) (StopsFlat texts) (λ how said. inl said)
 
 pub refused_explaining : (texts : AllTexts) (how : code.Ending) → IsRejectedBy (IsRefusal (given_plan texts) texts) how → IsUnexplained texts how
 refused_explaining texts = says_more (IsRefusal (given_plan texts) texts) (RejectsExplaining texts) (λ how said. inl said)
-
--- a plan that is read and is not valid
-pub faulty_plan : (texts : AllTexts) (task : Task) → AreAcceptedFor Source texts task → (plan : Plan) → IsPlanText texts.plan plan → length plan ≤ step_limit → (how : code.Ending) → IsRejectedBy (λ end. IsFaultOf task end plan) how → IsRejectedPlan texts how
-faulty_plan texts task accepted plan spelled few =
-    says_more (λ end. IsFaultOf task end plan) (RejectsPlan texts) (λ how wrong. inr (record {
-      task = task;
-      plan = plan;
-      texts = record { accepted = accepted; spelled = spelled; few = few };
-      fault = wrong.fault;
-      first = wrong.first;
-      says = wrong.says;
-    }))
 
 -- a plan that is read and is not lifted
 pub unlifted_plan : (texts : AllTexts) (T U : Task) (plan : Plan) → AreAcceptedFor Source texts T → AreAcceptedFor Written texts U → IsPlanText texts.plan plan → length plan ≤ step_limit

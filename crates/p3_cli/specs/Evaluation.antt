@@ -48,9 +48,9 @@ RejectsPlan texts how = IsRefusal (given_plan texts) texts how ⊎ IsInvalidPlan
 abbrev pub IsRejectedPlan : AllTexts → code.Ending → Type 0
 IsRejectedPlan texts how = IsRejectedBy (RejectsPlan texts) how
 
--- ---- of an accepted task and the text of a plan for it
+-- ---- of an accepted task and a plan for it
 
--- the plan of the text is valid, and the report tells of it
+-- the plan is valid, and the report tells of it
 pub record IsReportOf (T : Task) (report : List ℕ) (plan : Plan) : Type 0 where
   pub valid : Valid T plan
   pub told : report ≡ evaluated_lines T plan
@@ -60,7 +60,3 @@ pub record IsFaultOf (T : Task) (how : Ending) (plan : Plan) : Type 0 where
   pub fault : Fault
   pub first : first_fault T plan ≡ Some fault
   pub says : how ≡ Invalid (fault_named fault)
-
--- it is so of the plan that the text spells
-abbrev pub OfText : List ℕ → (Plan → Type 0) → Type 0
-OfText text Says = (plan : Plan) → IsPlanText text plan → Says plan

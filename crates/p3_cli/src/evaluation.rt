@@ -1,19 +1,18 @@
 //! What `evaluate` makes of the texts of a task and of a plan for it.
 
-ghost use Rattle.std.specs.Prelude.{◌≡◌, ◌≤◌, IfErr, IfOk, None, OnOk, length};
+ghost use Rattle.std.specs.Prelude.{◌≡◌, IfErr, IfOk, None, OnOk};
 ghost use Rattle.p3_base.specs.declared.refusal.Side.TheVariants.{Source};
 ghost use Rattle.p3_tree.specs.PlanTexts.{plan_offence};
-ghost use Rattle.p3_tree.specs.Sides.{plan_byte_limit};
 ghost use Rattle.p3_reports.specs.Faults.{fault_named};
 ghost use Rattle.p3_reports.specs.Reports.{report_text};
 ghost use Rattle.p3_eval.specs.Judged.{fault_in};
+ghost use Rattle.p3_eval.specs.Steps.{AreOfPlan, OfSteps};
 ghost use Rattle.p3_cli.specs.Ending.{Invalid};
 ghost use Rattle.p3_cli.specs.Evaluation.{
   IsEvaluation,
   IsFaultOf,
   IsRejectedPlan,
   IsReportOf,
-  OfText,
   given_plan,
 };
 ghost use Rattle.p3_cli.specs.Refusing.{
@@ -46,8 +45,9 @@ pub(crate) fn evaluate(alloc: Global, texts: &Texts<'_>) -> Result<Report, Endin
     ensures err { IfErr result (IsRejectedPlan (all_texts texts.now)) }
 {
     let accepted = judged_task(alloc, texts)?;
-    let report = judged(alloc, &accepted, texts.plan);
-    forget(accepted);
+    let steps = Steps::of_text(alloc, accepted.checked(), texts.plan)?;
+    let report = judged(alloc, &accepted, &steps);
+    forget((accepted, steps));
     report
 }
 
@@ -94,22 +94,23 @@ fn readable_task(alloc: Global, texts: &Texts<'_>) -> Result<Task, Ending>
     }
 }
 
-/// Judges the plan of a text for an accepted task: the report, where it is valid. Of the task's steps
-/// those that the plan names are grounded, and no others.
-fn judged(alloc: Global, accepted: &Accepted, plan: &[u8]) -> Result<Report, Ending>
-    requires short { length plan.now ≤ plan_byte_limit }
-    requires free { plan_offence plan.now ≡ None }
-    ensures report { IfOk result (λ report.
-        OfText plan.now (IsReportOf accepted.now.checked.task (report_text report))) }
-    ensures err { IfErr result
-        (IsRejectedBy (λ how. OfText plan.now (IsFaultOf accepted.now.checked.task how))) }
+/// Judges the plan of these steps for an accepted task: the report, where it is valid. The steps that
+/// it has are grounded, and no others.
+fn judged(alloc: Global, accepted: &Accepted, steps: &Steps) -> Result<Report, Ending>
+    requires { AreOfPlan accepted.now.checked.task steps.now }
+    ensures report { IfOk result (λ report. OfSteps accepted.now.checked.task steps.now
+        (IsReportOf accepted.now.checked.task (report_text report))) }
+    ensures err { IfErr result (IsRejectedBy (λ how. OfSteps accepted.now.checked.task steps.now
+        (IsFaultOf accepted.now.checked.task how))) }
 {
-    let checked = accepted.checked();
-    let steps = Steps::of_text(alloc, checked, plan)?;
     let ground_task = accepted.ground_steps(alloc, steps.numbers.as_slice())?;
     let mut run = accepted.grounded(&ground_task).begin(alloc)?;
-    match run.judge_steps(&steps) {
-        None => Ok(Report::Evaluate(evaluated_report(alloc, checked, &run)?)),
+    match run.judge_steps(steps) {
+        None => Ok(Report::Evaluate(evaluated_report(
+            alloc,
+            accepted.checked(),
+            &run,
+        )?)),
         Some(fault) => Err(invalid(&fault)),
     }
 }
