@@ -1,8 +1,8 @@
 -- What a run keeps tells what its steps come to, and one step more keeps it so.
-use Rattle.std.proofs.Common.{◌≡◌, ◌∙◌, ℕ, ◌+◌, ◌*◌, ◌^◌, ◌<◌, ◌≤◌, nat_lt, Bool, true, false, not, cond, if◌then◌else◌, List, [], ◌∷◌, ◌++◌, length, map, get_or, take, Option, Some, None, sum_by, refl, sym, ap, subst, arith, pos, ◌+ℤ◌, length-set}
-use Rattle.std.specs.Prelude.{position, replicate, slice_set, zip}
+use Rattle.std.proofs.Common.{◌≡◌, ◌∙◌, ℕ, ◌+◌, ◌*◌, ◌^◌, ◌<◌, ◌≤◌, nat_lt, Bool, true, false, not, cond, if◌then◌else◌, List, [], ◌∷◌, ◌++◌, length, map, get_or, Option, Some, None, sum_by, refl, sym, ap, subst, arith, pos, ◌+ℤ◌}
+use Rattle.std.specs.Prelude.{position, replicate, zip}
 use Rattle.std.specs.List.{All, prefix_len, list_all}
-use Rattle.std.proofs.lemmas.List.{length-take-le, take_more_set, length-replicate, get_or-replicate, length-map}
+use Rattle.std.proofs.lemmas.List.{length-replicate, get_or-replicate, length-map}
 use Rattle.p3_base.specs.Limits.{instance_limit}
 use Rattle.p3_formula.specs.Forms.{State, truth, IsBelow}
 use Rattle.p3_formula.specs.GroundPlans.{GroundPlan, step_of, ground_visited, ground_moves, ground_cost, ground_violated, ground_loss, ground_fits, false_prefs}
@@ -42,16 +42,10 @@ mapped_position p f xs =
 
 -- ---- what is kept tells
 
-module _ (G : GroundTask) (weights : Weights) (readers : List (List Reader)) (found : List Found) (done : List ℕ) (count : ℕ) (state : State) (watches : List Watch) (soft prefs : Counted) (cost : ℕ)
-    (is : IsRunOf G weights readers found done count state watches soft prefs cost) where
-  abbrev plan : GroundPlan
-  plan = take count done
-
+module _ (G : GroundTask) (weights : Weights) (readers : List (List Reader)) (found : List Found) (plan : GroundPlan) (state : State) (watches : List Watch) (soft prefs : Counted) (cost : ℕ)
+    (is : IsRunOf G weights readers found plan state watches soft prefs cost) where
   can : CanBeRun G weights
   can = is.can.can
-
-  pub count_is : length plan ≡ count
-  count_is = length-take-le count done (let s = is.some in let r = is.room in omega (arith, s, r))
 
   pub bits : length state ≡ G.atoms
   bits = ap length is.run.state ∙ length-state G weights can plan
@@ -138,7 +132,7 @@ module _ (G : GroundTask) (weights : Weights) (readers : List (List Reader)) (fo
   pub can_renew : (later : State) → length later ≡ G.atoms → CanRenew G weights.by_name later watches soft
   can_renew later long = can_follow G weights can (ground_visited G plan) later watches soft long is.run.watches is.run.soft
 
-  module _ (number : ℕ) (step : GroundStep) (at : step_of G number ≡ Some step) (holds : truth state step.pre ≡ true) (price : ℕ) (has : step.cost ≡ Some price) (short : count < most_steps)
+  module _ (number : ℕ) (step : GroundStep) (at : step_of G number ≡ Some step) (holds : truth state step.pre ≡ true) (price : ℕ) (has : step.cost ≡ Some price) (short : length plan < most_steps)
       (found' : List Found) (state' : State) (watches' : List Watch) (soft' prefs' : Counted)
       (room : length found' ≡ length found) (moved : state' ≡ after state step.effects)
       (followed : watches' ≡ renewed_all G state' watches (touched readers state state' step.effects)) (renews : CanRenew G weights.by_name state' watches' soft')
@@ -151,9 +145,6 @@ module _ (G : GroundTask) (weights : Weights) (readers : List (List Reader)) (fo
 
     moved_now : state' ≡ after now step.effects
     moved_now = moved ∙ ap (λ s. after s step.effects) is.run.state
-
-    plan_more : take (count + 1) (slice_set done count number) ≡ plan ++ number ∷ []
-    plan_more = take_more_set done count number (let r = is.room in omega (arith, short, r))
 
     can_now : CanRun G weights readers (length found)
     can_now = is.can
@@ -168,20 +159,17 @@ module _ (G : GroundTask) (weights : Weights) (readers : List (List Reader)) (fo
     run_now = subst (λ s. HasRun G weights plan s watches soft prefs cost) is.run.state is.run
 
     later_run : HasRun G weights (plan ++ number ∷ []) (after now step.effects) (watches_of (ground_visited G (plan ++ number ∷ [])) G) soft' (counted_step now weights prefs step) (cost + price)
-    later_run = run_more G weights readers (length found) can_now plan number step at holds_now price has watches soft prefs cost soft' (let l = count_is in omega (arith, l, short)) run_now
+    later_run = run_more G weights readers (length found) can_now plan number step at holds_now price has watches soft prefs cost soft' short run_now
         (subst (λ list. IsCounted weights.by_name list soft') watches_now renews.counted)
 
-    pub one_more : IsRunOf G weights readers found' (slice_set done count number) (count + 1) state' watches' soft' prefs' (cost + price)
+    pub one_more : IsRunOf G weights readers found' (plan ++ number ∷ []) state' watches' soft' prefs' (cost + price)
     one_more = record {
       can = subst (λ n. CanRun G weights readers n) (sym room) is.can;
-      room = length-set done count number ∙ is.room;
-      some = omega (arith, short);
       run =
-          subst (λ p. HasRun G weights p state' watches' soft' prefs' (cost + price)) (sym plan_more)
-          (subst (λ s. HasRun G weights (plan ++ number ∷ []) s watches' soft' prefs' (cost + price)) (sym moved_now)
+          subst (λ s. HasRun G weights (plan ++ number ∷ []) s watches' soft' prefs' (cost + price)) (sym moved_now)
           (subst (λ w. HasRun G weights (plan ++ number ∷ []) (after now step.effects) w soft' prefs' (cost + price)) (sym watches_now)
           (subst (λ c. HasRun G weights (plan ++ number ∷ []) (after now step.effects) (watches_of (ground_visited G (plan ++ number ∷ [])) G) soft' c (cost + price))
-          (sym (preferred ∙ ap (λ s. counted_step s weights prefs step) is.run.state)) later_run)));
+          (sym (preferred ∙ ap (λ s. counted_step s weights prefs step) is.run.state)) later_run));
     }
 
 -- ---- no step
@@ -193,15 +181,13 @@ module _ (G : GroundTask) (weights : Weights) (can : CanBeRun G weights) where
   pub first_few : length (watches_of (G.initial ∷ []) G) ≤ instance_limit + 1
   first_few = let f = few_groups G can.ready.few in let t = (shape_of G (G.initial ∷ [])).groups in omega (arith, f, t)
 
-  pub first_run : (small : All (λ w. w < 2 ^ 64) weights.by_name) (readers : List (List Reader)) (found : List Found) (done : List ℕ) (state : State) (watches : List Watch) (soft prefs : Counted)
-      → AreReaders G readers → All (HasChangesUpTo (length found)) G.steps → length done ≡ most_steps → state ≡ G.initial → watches ≡ watches_of (G.initial ∷ []) G
+  pub first_run : (small : All (λ w. w < 2 ^ 64) weights.by_name) (readers : List (List Reader)) (found : List Found) (state : State) (watches : List Watch) (soft prefs : Counted)
+      → AreReaders G readers → All (HasChangesUpTo (length found)) G.steps → state ≡ G.initial → watches ≡ watches_of (G.initial ∷ []) G
       → IsCounted weights.by_name watches soft → prefs ≡ record { counts = replicate (length weights.by_name) 0; worth = 0 }
-      → IsRunOf G weights readers found done 0 state watches soft prefs 0
+      → IsRunOf G weights readers found [] state watches soft prefs 0
   unfolding ground_fit ground_cost
-  first_run small readers found done state watches soft prefs filed room long at are counted none = record {
+  first_run small readers found state watches soft prefs filed room at are counted none = record {
     can = record { can = can; small = small; readers = filed; room = room };
-    room = long;
-    some = omega arith;
     run = record {
       fit = no_moves_fit;
       short = omega arith;

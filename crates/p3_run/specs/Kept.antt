@@ -1,5 +1,5 @@
 -- What a run keeps of the steps done.
-use Rattle.std.specs.Prelude.{◌≡◌, ℕ, ◌^◌, ◌<◌, ◌≤◌, true, List, length, take}
+use Rattle.std.specs.Prelude.{◌≡◌, ℕ, ◌^◌, ◌<◌, ◌≤◌, true, List, length}
 use Rattle.std.specs.List.{All}
 use Rattle.p3_formula.specs.Forms.{State}
 use Rattle.p3_formula.specs.GroundPlans.{GroundPlan, ground_visited, ground_cost}
@@ -35,9 +35,7 @@ pub record HasRun (G : GroundTask) (weights : Weights) (plan : GroundPlan) (curr
   pub prefs : IsTally weights.by_name (λ name. prefs_violated G plan name) (steps_weight G weights plan) unpreferred
   pub cost : spent ≡ ground_cost G plan
 
--- all that a run keeps, with room for all steps
-pub record IsRunOf (G : GroundTask) (weights : Weights) (readers : List (List Reader)) (found : List Found) (done : List ℕ) (count : ℕ) (state : State) (watches : List Watch) (soft prefs : Counted) (cost : ℕ) : Type 0 where
+-- all that a run keeps
+pub record IsRunOf (G : GroundTask) (weights : Weights) (readers : List (List Reader)) (found : List Found) (plan : GroundPlan) (state : State) (watches : List Watch) (soft prefs : Counted) (cost : ℕ) : Type 0 where
   pub can : CanRun G weights readers (length found)
-  pub room : length done ≡ most_steps
-  pub some : count ≤ most_steps
-  pub run : HasRun G weights (take count done) state watches soft prefs cost
+  pub run : HasRun G weights plan state watches soft prefs cost

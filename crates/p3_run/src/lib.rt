@@ -3,6 +3,7 @@
 
 mod answers;
 mod changing;
+mod done;
 mod finding;
 mod groups;
 mod modals;

@@ -10,6 +10,7 @@ ghost use Rattle.p3_run.specs.Runs.{CanBeRun, most_steps};
 
 use crate::answers::{Stepped, Verdict};
 use crate::changing::{Found, change_state, follow};
+use crate::done::DoneSteps;
 use crate::finding::step_at;
 use crate::groups::{Group, groups_of, tally_of};
 use crate::pending::Pending;
@@ -33,9 +34,8 @@ pub struct GroundRun<'a> {
     pending: Pending,
     // Room for what the changes of a step find.
     found: Vec<Found>,
-    // The numbers of the steps done, of which there are so many, and room for all others.
-    done: Vec<u32>,
-    count: usize,
+    // The numbers of the steps done.
+    done: DoneSteps,
     // The state that they lead to.
     state: Bits,
     // The operators of the hard constraints, and behind them those of each instance.
@@ -49,7 +49,6 @@ pub struct GroundRun<'a> {
 }
 
 impl<'a> Model for GroundRun<'a> {
-    ghost use Rattle.std.specs.Prelude.{take};
     ghost use Rattle.p3_run.specs.Runs.{Ran};
 
     ghost Value = { Ran };
@@ -64,11 +63,11 @@ impl<'a> Model for GroundRun<'a> {
     ghost view = { λ run. record {
       task = run.task.now;
       weights = run.weights.now;
-      plan = take run.count run.done.items;
+      plan = run.done;
     } };
 
     ghost invariant = { λ run. IsRunOf run.task.now run.weights.now run.readers.items
-        run.found.items run.done.items run.count run.state run.groups.items
+        run.found.items run.done run.state run.groups.items
         run.soft run.prefs run.cost };
 }
 
@@ -86,7 +85,7 @@ impl<'a> GroundRun<'a> {
         let readers = readers_of(alloc, task)?;
         let pending = Pending::of(alloc, task.atoms)?;
         let found = room_for(alloc, task.steps.items())?;
-        let done = no_steps(alloc)?;
+        let done = DoneSteps::new(alloc)?;
         let state = task.initial.copied(alloc)?;
         let groups = groups_of(alloc, task)?;
         let soft = tally_of(alloc, by_name, groups.as_slice())?;
@@ -98,7 +97,6 @@ impl<'a> GroundRun<'a> {
             pending,
             found,
             done,
-            count: 0,
             state,
             groups,
             soft,
@@ -137,8 +135,7 @@ impl<'a> GroundRun<'a> {
             self.found.as_slice(),
             effects,
         );
-        self.done[self.count] = number;
-        self.count += 1;
+        self.done.push(number);
         self.cost += cost;
         Stepped::Done
     }
@@ -170,7 +167,7 @@ impl<'a> GroundRun<'a> {
         ensures steps { result ≡ length self.now.plan }
         ensures fit { runs.ground_fit self.now.task self.now.plan ≡ true }
     {
-        self.count as u32
+        self.done.len() as u32
     }
 
     /// The total cost at their end.
@@ -204,13 +201,6 @@ fn bounded(by_name: &[u64]) -> &[u64]
     ensures small { All (λ weight. weight < 2 ^ 64) by_name.now }
 {
     by_name
-}
-
-/// Room for the numbers of all steps.
-fn no_steps(alloc: Global) -> Result<Vec<u32>, NoMemory>
-    ensures { IfOk result (λ done. length done.items ≡ most_steps) }
-{
-    Ok(vec![in alloc; 0; 1_000_000]?)
 }
 
 /// The total cost at the start.

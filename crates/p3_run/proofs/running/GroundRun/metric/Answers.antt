@@ -13,7 +13,7 @@ fits (pos n) small = omega (arith, ints, small)
 fits (negsuc n) small = omega (arith, ints, small)
 
 pub overflow_add-more : goal.overflow_add-more
-overflow_add-more c = let h = light _ _ _ _ _ _ _ _ _ _ _ c.self.invariant in omega (arith, h, c.worth.ensures, c.worth-2.ensures)
+overflow_add-more c = let h = light _ _ _ _ _ _ _ _ _ _ c.self.invariant in omega (arith, h, c.worth.ensures, c.worth-2.ensures)
 
 pub value_of-requires-clause-base : goal.value_of-requires-clause-base
 value_of-requires-clause-base c =
@@ -22,7 +22,7 @@ value_of-requires-clause-base c =
     subst (λ (z : ℤ). unsigned_abs z < 2 ^ 126) (sym (to_z-of_z w128 base (fits base small))) small
 
 pub value_of-requires-clause-more : goal.value_of-requires-clause-more
-value_of-requires-clause-more c = let h = light _ _ _ _ _ _ _ _ _ _ _ c.self.invariant in omega (arith, h, c.worth.ensures, c.worth-2.ensures)
+value_of-requires-clause-more c = let h = light _ _ _ _ _ _ _ _ _ _ c.self.invariant in omega (arith, h, c.worth.ensures, c.worth-2.ensures)
 
 pub returns : goal.returns
 returns c =
@@ -34,4 +34,4 @@ returns c =
     ∙ c.value_of.ensures
     ∙ (λ i. signed_by inside.weights.now.direction (to_z-of_z w128 base (fits base small) i +ℤ pos (c.worth.ensures i + c.worth-2.ensures i)))
     ∙ subst (λ (ran : Ran). signed_by inside.weights.now.direction (base +ℤ pos (inside.soft.worth + inside.prefs.worth)) ≡ ground_metric ran.task ran.weights ran.plan) c.self.view_is
-    (metric_is _ _ _ _ _ _ _ _ _ _ _ c.self.invariant)
+    (metric_is _ _ _ _ _ _ _ _ _ _ c.self.invariant)
