@@ -24,11 +24,7 @@ use p3_run::step_at;
 
 /// Gives the name of the preference that a reason is of, where it has one; the reason is one of steps
 /// that fit. It takes no memory.
-pub fn name_of<'a>(
-    grounded: &Grounded<'a>,
-    steps: &Steps,
-    subject: Subject,
-) -> Option<&'a Name>
+pub fn name_of<'a>(grounded: &Grounded<'a>, steps: &Steps, subject: Subject) -> Option<&'a Name>
     requires asked { All (LeftOutAt grounded.now.checked.now.task grounded.now.ground_task.now)
         steps.now.numbers.items }
     requires fit { OfSteps grounded.now.checked.now.task steps.now
@@ -36,14 +32,26 @@ pub fn name_of<'a>(
     ensures { OfSteps grounded.now.checked.now.task steps.now (λ plan. option_copied result
         ≡ subject_name grounded.now.checked.now.task plan subject) }
 {
-    let number = match subject {
+    match number_of(grounded, steps, subject) {
+        Some(number) => grounded.checked().name(number),
+        None => None,
+    }
+}
+
+/// Gives the number of that name.
+fn number_of(grounded: &Grounded<'_>, steps: &Steps, subject: Subject) -> Option<u32>
+    requires asked { All (LeftOutAt grounded.now.checked.now.task grounded.now.ground_task.now)
+        steps.now.numbers.items }
+    requires fit { OfSteps grounded.now.checked.now.task steps.now
+        (λ plan. IsTrue (steps_fit grounded.now.checked.now.task plan)) }
+    ensures { OfSteps grounded.now.checked.now.task steps.now
+        (λ plan. name_numbered grounded.now.checked.now.task result
+        ≡ subject_name grounded.now.checked.now.task plan subject) }
+{
+    match subject {
         Subject::Hard(_) => None,
         Subject::Soft { instance, .. } => number_of_instance(grounded, instance),
         Subject::Pre { step, pref } => number_in_step(grounded, steps, step, pref),
-    };
-    match number {
-        Some(number) => grounded.checked().name(number),
-        None => None,
     }
 }
 

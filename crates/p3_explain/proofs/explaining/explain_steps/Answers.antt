@@ -1,4 +1,4 @@
-use Rattle.std.proofs.Common.{◌≡◌, ◌∙◌, length, sym, ap, subst}
+use Rattle.std.proofs.Common.{◌≡◌, ◌∙◌, ◌≤◌, length, sym, ap, subst}
 use Rattle.std.specs.List.{All}
 use Rattle.p3_base.specs.Limits.{instance_limit}
 use Rattle.p3_formula.specs.Conditions.{HasAtomsBelow}
@@ -80,8 +80,8 @@ returns-in-Ok-clause-fit c plan first =
     let left : All (LeftOutAt T run.task) c.args.steps.now.numbers.items = subst (λ (ran : Ran). All (LeftOutAt T ran.task) c.args.steps.now.numbers.items) begins c.requires.asked in
     walked_fit T plan run now all (c.in-Ok.ensures.done T all left plan first) c.in_ok-reasons-in-Ok.ensures.fit
 
-pub returns-in-Err-clause-fail : goal.returns-in-Err-clause-fail
-returns-in-Err-clause-fail c plan first =
+pub returns-clause-fail : goal.returns-clause-fail
+returns-clause-fail c plan first =
     let grounded = c.args.grounded.now in
     let T = grounded.checked.now.task in
     let run = c.in_ok-run.run' in
