@@ -2,18 +2,12 @@ pub mod Asked
 pub mod Counts
 pub mod ExpandedLaws
 pub mod Extras
-pub mod FoundLaws
 pub mod GroundingLaws
-pub mod GrownLaws
 pub mod InitialLemmas
 pub mod KnownNames
-pub mod LeadLaws
 pub mod Lifts
 pub mod MayFitLaws
-pub mod MayGrows
-pub mod MayLemmas
 pub mod Mentioned
-pub mod ModelLaws
 pub mod NameNumbers
 pub mod NamesBelow
 pub mod OwnAtoms
@@ -22,8 +16,6 @@ pub mod PlannedSteps
 pub mod PrunedSparse
 pub mod Pruning
 pub mod PutTogether
-pub mod ReachLaws
-pub mod RuleLaws
 pub mod StepChoices
 pub mod StepConjuncts
 pub mod StepParts

@@ -8,12 +8,12 @@ use Rattle.p3_formula.specs.Forms.{State, is_set}
 use Rattle.p3_formula.specs.declared.form.Change.{Change}
 use Rattle.p3_formula.specs.declared.task.GroundStep.{GroundStep}
 use Rattle.p3_formula.specs.declared.task.GroundTask.{GroundTask}
-use Rattle.p3_ground.specs.May.{may_hold}
-use Rattle.p3_ground.specs.Closed.{IsWithin, IsClosed, IsInEachClosed, change_keeps, step_keeps}
-use Rattle.p3_ground.proofs.FoundLaws.{is_set-within}
+use Rattle.p3_reach.specs.May.{may_hold}
+use Rattle.p3_reach.specs.Closed.{IsWithin, IsClosed, IsInEachClosed, change_keeps, step_keeps}
+use Rattle.p3_reach.proofs.FoundLaws.{is_set-within}
 use Rattle.p3_ground.specs.Pruned.{steps_over, pruned}
 use Rattle.p3_ground.specs.Sparse.{MayFit}
-use Rattle.p3_ground.proofs.MayGrows.{hold-grows}
+use Rattle.p3_reach.proofs.MayGrows.{hold-grows}
 
 -- not asked, or else it is so
 asked-from : (asked is : Bool) → (asked ≡ true → is ≡ true) → (not asked || is) ≡ true

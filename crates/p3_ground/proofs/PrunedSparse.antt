@@ -6,8 +6,8 @@ use Rattle.p3_tree.specs.declared.task.Task.{Task}
 use Rattle.p3_formula.specs.Forms.{State}
 use Rattle.p3_formula.specs.declared.task.GroundStep.{GroundStep}
 use Rattle.p3_formula.specs.declared.task.GroundTask.{GroundTask}
-use Rattle.p3_ground.specs.Closed.{IsClosed, IsInEachClosed}
-use Rattle.p3_ground.specs.May.{may_hold}
+use Rattle.p3_reach.specs.Closed.{IsClosed, IsInEachClosed}
+use Rattle.p3_reach.specs.May.{may_hold}
 use Rattle.p3_ground.specs.Pruned.{pruned}
 use Rattle.p3_ground.specs.Sparse.{AtItsStep, ConstraintsHaveOwnAtoms, HasFewChanges, HasPossibleConjuncts, Sparse, StepsHaveFewChanges, StepsHavePossibleConjuncts}
 use Rattle.p3_ground.proofs.MayFitLaws.{may_fit}

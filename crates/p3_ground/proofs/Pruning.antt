@@ -19,10 +19,10 @@ use Rattle.p3_formula.specs.Conditions.{is_step_below, rises}
 use Rattle.p3_formula.specs.GroundPlans.{step_of, state_by}
 use Rattle.p3_formula.specs.declared.task.GroundStep.{GroundStep}
 use Rattle.p3_formula.specs.declared.task.GroundTask.{GroundTask}
-use Rattle.p3_ground.specs.May.{may_hold}
-use Rattle.p3_ground.specs.Closed.{IsClosed, IsReachable, Initial, Further}
-use Rattle.p3_ground.proofs.ReachLaws.{truth-may}
-use Rattle.p3_ground.proofs.ReachLaws as reach
+use Rattle.p3_reach.specs.May.{may_hold}
+use Rattle.p3_reach.specs.Closed.{IsClosed, IsReachable, Initial, Further}
+use Rattle.p3_reach.proofs.ReachLaws.{truth-may}
+use Rattle.p3_reach.proofs.ReachLaws as reach
 use Rattle.p3_ground.specs.StandsFor.{Matched, StandsBy, StepStands, LeavesOutOnlyUnfit, can_begin}
 use Rattle.p3_ground.specs.Pruned.{pruned}
 use Rattle.p3_ground.proofs.PlanNumbers.{fitting_own}

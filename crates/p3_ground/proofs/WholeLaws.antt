@@ -39,8 +39,8 @@ use Rattle.p3_types.specs.Texts.{has_short_numbers}
 use Rattle.p3_types.proofs.CostLemmas.{few_places}
 use Rattle.p3_steps.specs.Steps.{StepIsMade, StepsAreMade, MakesSteps, count_of_steps}
 use Rattle.p3_steps.proofs.StepLemmas.{made-keeps}
-use Rattle.p3_ground.specs.Closed.{IsClosed, IsInEachClosed, steps_that_may}
-use Rattle.p3_ground.specs.May.{may_hold}
+use Rattle.p3_reach.specs.Closed.{IsClosed, IsInEachClosed, steps_that_may}
+use Rattle.p3_reach.specs.May.{may_hold}
 use Rattle.p3_expansion.specs.Atoms.{GroundAtom, AreDistinct, Keeps, is_named}
 use Rattle.p3_expansion.specs.Expansions.{Stands}
 use Rattle.p3_expansion.specs.Forms.{Makes}

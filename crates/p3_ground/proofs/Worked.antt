@@ -20,7 +20,7 @@ use Rattle.p3_formula.specs.Constructors.{sets}
 use Rattle.p3_formula.specs.Tidy.{look}
 use Rattle.p3_formula.proofs.NextLaws.{length-after, is_set-after}
 use Rattle.p3_formula.proofs.Worked.{computes}
-use Rattle.p3_ground.specs.May.{may}
+use Rattle.p3_reach.specs.May.{may}
 use Rattle.p3_ground.specs.StandsFor.{Matched, AreDifferent, IsMadeOf, StepStands, StandsBy, LeavesOutOnlyUnfit}
 use Rattle.p3_tree.specs.Mentions.{formula_atoms}
 use Rattle.p3_ground.specs.Sparse.{HasFewChanges, IsGroundingOf, MayFit, Sparse, StepsHaveFewChanges, StepsHavePossibleConjuncts}

@@ -14,7 +14,7 @@ use Rattle.p3_numbers.specs.Places.{ranges_of}
 use Rattle.p3_numbers.specs.Slots.{Slots}
 use Rattle.p3_numbers.specs.Tasks.{numbered_action}
 use Rattle.p3_numbers.specs.declared.task.NumberedTask.{NumberedTask}
-use Rattle.p3_ground.specs.Closed.{IsClosed, IsInEachClosed}
+use Rattle.p3_reach.specs.Closed.{IsClosed, IsInEachClosed}
 use Rattle.p3_expansion.specs.Atoms.{GroundAtom}
 use Rattle.p3_expansion.specs.declared.statics.Statics.{Statics}
 use Rattle.p3_steps.specs.Possible.{may_begin}

@@ -1,15 +1,9 @@
-pub mod Closed
 pub mod Expanded
-pub mod Found
 pub mod Grounding
-pub mod Grown
-pub mod May
-pub mod Models
 pub mod Planned
 pub mod PlansByNumber
 pub mod Pruned
 pub mod Rests
-pub mod Rules
 pub mod Sparse
 pub mod StandsFor
 pub mod StepParts

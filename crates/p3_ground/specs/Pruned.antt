@@ -4,7 +4,7 @@ use Rattle.std.specs.List.{filter}
 use Rattle.p3_formula.specs.Forms.{State}
 use Rattle.p3_formula.specs.declared.task.GroundStep.{GroundStep}
 use Rattle.p3_formula.specs.declared.task.GroundTask.{GroundTask}
-use Rattle.p3_ground.specs.May.{may_hold}
+use Rattle.p3_reach.specs.May.{may_hold}
 
 -- the steps whose precondition may hold over the set
 abbrev pub steps_over : State → List GroundStep → List GroundStep

@@ -18,8 +18,8 @@ use Rattle.p3_formula.specs.declared.modal.GroundModal.{GroundModal}
 use Rattle.p3_formula.specs.declared.modal.GroundSoft.{GroundSoft}
 use Rattle.p3_formula.specs.declared.task.GroundStep.{GroundStep}
 use Rattle.p3_formula.specs.declared.task.GroundTask.{GroundTask}
-use Rattle.p3_ground.specs.May.{may_hold}
-use Rattle.p3_ground.specs.Closed.{IsClosed}
+use Rattle.p3_reach.specs.May.{may_hold}
+use Rattle.p3_reach.specs.Closed.{IsClosed}
 use Rattle.p3_ground.specs.StandsFor.{LeavesOutOnlyUnfit, StandsBy, StandsForSteps}
 use Rattle.p3_tree.specs.Mentions.{operator_atoms, step_literals, is_under_when, step_conjuncts}
 

@@ -27,7 +27,7 @@ ghost use Rattle.p3_formula.specs.Targets.{ground_lift};
 ghost use Rattle.p3_formula.specs.Weighted.{ground_extra};
 ghost use Rattle.p3_formula.specs.declared.target.Weights.{Weights};
 ghost use Rattle.p3_formula.specs.declared.task.GroundTask.{GroundTask};
-ghost use Rattle.p3_ground.specs.Closed.{IsClosed, IsInEachClosed};
+ghost use Rattle.p3_reach.specs.Closed.{IsClosed, IsInEachClosed};
 ghost use Rattle.p3_ground.specs.PlansByNumber.{
   AreAsked,
   AreNumbers,

@@ -7,15 +7,9 @@ mod expanded;
 mod grounding;
 mod initial;
 mod laws;
-mod leading;
-mod may;
-mod model;
 mod parts;
-mod passes;
 mod planned;
-mod reach;
 mod rest;
-mod rules;
 mod step_parts;
 mod task;
 mod whole;
@@ -35,7 +29,6 @@ pub use laws::{
     wide_steps_take_as_many_actions, written_plans_lift_alike,
 };
 pub use planned::planned_steps_are_all;
-pub use reach::{Marks, reachable};
 pub use step_parts::{
     steps_are_at_choices, steps_cost_alike_by_number, steps_want_what_is_possible,
     what_may_not_begin_never_begins,

@@ -6,7 +6,7 @@ ghost use Rattle.std.specs.List.{list_all};
 ghost use Rattle.std.specs.List.Sorted.{IsStrictlyIncreasing};
 ghost use Rattle.p3_tree.specs.Limits.{step_count};
 ghost use Rattle.p3_tree.specs.Sides.{step_count_limit};
-ghost use Rattle.p3_ground.specs.Closed.{steps_that_may};
+ghost use Rattle.p3_reach.specs.Closed.{steps_that_may};
 ghost use Rattle.p3_formula.specs.Forms.{State};
 ghost use Rattle.p3_ground.specs.Pruned.{pruned, steps_over};
 ghost use Rattle.p3_ground.specs.Rests.{joined_of};
@@ -14,11 +14,11 @@ ghost use Rattle.p3_ground.specs.Sparse.{IsGroundingAmong, IsGroundingOf};
 ghost use Rattle.p3_ground.specs.Whole.{IsFailOf, IsWhole, IsWithinLimits};
 
 use crate::error::GroundFail;
-use crate::reach::reachable;
 use crate::rest::{Rest, Taken};
 use crate::whole::whole;
 use p3_base::{List, NoMemory};
 use p3_formula::{GroundStep, GroundTask};
+use p3_reach::reachable;
 use p3_types::{Checked, size_refusal};
 use std::alloc::Global;
 

@@ -7,7 +7,7 @@ ghost use Rattle.p3_formula.specs.Forms.{AreBelow};
 
 use p3_base::{List, NoMemory};
 use p3_formula::{Bits, Change, Effects, Form, GroundStep, GroundTask};
-use p3_ground::{Marks, reachable};
+use p3_reach::{Marks, reachable};
 use std::alloc::Global;
 use std::test::Fail;
 

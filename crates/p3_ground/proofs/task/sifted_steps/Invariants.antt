@@ -1,7 +1,7 @@
 use Rattle.std.proofs.Common.{◌≡◌, ◌++◌, length}
 use Rattle.std.specs.Vec.Iter.{into_iter_items, into_iter_len}
 use Rattle.p3_formula.specs.Forms.{State}
-use Rattle.p3_ground.specs.Closed.{steps_that_may}
+use Rattle.p3_reach.specs.Closed.{steps_that_may}
 use Rattle.p3_ground.specs.Pruned.{steps_over}
 use Rattle.p3_ground.proofs.task.sifted_steps.Given as goal
 

@@ -1,7 +1,0 @@
-use Rattle.std.proofs.Common.{take}
-use Rattle.p3_ground.specs.Found.{Follows}
-use Rattle.p3_ground.proofs.model.follow.Given as goal
-
--- the rules passed were followed
-abbrev pub invariant-loop-rule : goal.invariant-loop-rule
-invariant-loop-rule l = Follows (take l.rule-index l.rules) l.fn.found l.found

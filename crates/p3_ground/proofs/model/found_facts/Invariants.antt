@@ -1,6 +1,0 @@
-use Rattle.p3_ground.specs.Found.{IsFactsUpTo}
-use Rattle.p3_ground.proofs.model.found_facts.Given as goal
-
--- the facts passed are found
-abbrev pub invariant-loop-proposition : goal.invariant-loop-proposition
-invariant-loop-proposition l = IsFactsUpTo l.proposition l.facts l.found

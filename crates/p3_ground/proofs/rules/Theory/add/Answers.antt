@@ -1,6 +1,0 @@
-use Rattle.p3_ground.proofs.ModelLaws.{says_rule}
-use Rattle.std.proofs.Common.{refl}
-use Rattle.p3_ground.proofs.rules.Theory.add.Goals as goal
-
-pub returns : goal.returns
-returns c = says_rule c.args.self.now _ c.args.rule refl refl c.in_ok-push.ensures.ok

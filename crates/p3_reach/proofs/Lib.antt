@@ -1,0 +1,8 @@
+pub mod FoundLaws
+pub mod GrownLaws
+pub mod LeadLaws
+pub mod MayGrows
+pub mod MayLemmas
+pub mod ModelLaws
+pub mod ReachLaws
+pub mod RuleLaws

@@ -1,0 +1,11 @@
+//! Which atoms may ever be set and which steps may ever fit, by the changes of ground steps alone.
+#![tactic(auto)]
+
+mod leading;
+mod may;
+mod model;
+mod passes;
+mod reach;
+mod rules;
+
+pub use reach::{Marks, reachable};
