@@ -1,12 +1,16 @@
 -- How the steps of a plan are found one by one.
 use Rattle.std.proofs.Common.{◌≡◌, ◌∙◌, ℕ, suc, ◌+◌, ◌<◌, ◌≤◌, refl, sym, ap, subst, List, [], ◌∷◌, ◌++◌, length, get_or, take, drop, arith, Some, None}
 use Rattle.std.proofs.Math.Seq.{drop-cons}
+use Rattle.std.proofs.lemmas.Bool.{true≢false}
 use Rattle.std.proofs.lemmas.List.{append-nil, length-take, take-append-drop, take_all, take_more}
 use Rattle.std.proofs.lemmas.Slice.Zip.{AllZip-long}
 use Rattle.p3_tree.specs.Plans.{Plan}
-use Rattle.p3_tree.specs.StepNumbers.{HasNumber}
+use Rattle.p3_tree.specs.Bindings.{are_arguments}
+use Rattle.p3_tree.specs.StepNumbers.{HasNumber, HasStepNumbers}
+use Rattle.p3_tree.specs.declared.task.Action.{Action}
 use Rattle.p3_tree.specs.declared.task.Step.{Step}
 use Rattle.p3_tree.specs.declared.task.Task.{Task}
+use Rattle.p3_tree.proofs.OnceLemmas.{Some-injective}
 use Rattle.p3_types.specs.Finds.{IsFound}
 use Rattle.p3_types.specs.declared.finding.Found.{Found}
 use Rattle.p3_types.specs.declared.finding.Found.TheVariants as found
@@ -20,6 +24,15 @@ pub lacks_of : (T : Task) (step : Step) (answer : Found) → ((number : ℕ) →
 lacks_of T step (found.Number number) none is = none number refl
 lacks_of T step found.UnknownAction none is = is
 lacks_of T step found.Arguments none is = is
+
+-- a step that has a number is found by it
+pub found_again : (T : Task) → HasStepNumbers T → (step : Step) (number : ℕ) (answer : Found) → HasNumber T step number → IsFound T step answer → answer ≡ found.Number number
+found_again T K step number (found.Number own) has is = ap found.Number (K.one own number step is has)
+found_again T K step number found.UnknownAction has is = absurd (let named = sym (K.own number step has).named ∙ is in cc)
+found_again T K step number found.Arguments has is =
+    let own = K.own number step has in
+    let same = Some-injective own.action is.action (sym own.named ∙ is.named) in
+    absurd (true≢false (sym own.args ∙ ap (λ (action : Action). are_arguments T action.params step.args) same ∙ is.args))
 
 module _ (T : Task) (plan : Plan) (place : ℕ) (numbers : List ℕ) (are : AreNumbers T (take place plan) numbers) where
   module _ (step : Step) (within : place < length plan) (at : step ≡ get_or plan place step) where

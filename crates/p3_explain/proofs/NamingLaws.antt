@@ -17,8 +17,6 @@ use Rattle.p3_tree.specs.StepNumbers.{HasNumber, HasStepNumbers}
 use Rattle.p3_tree.specs.States as named
 use Rattle.p3_tree.specs.States.{start}
 use Rattle.p3_tree.specs.declared.state.Fact.{Fact}
-use Rattle.p3_tree.specs.Bindings.{are_arguments}
-use Rattle.p3_tree.specs.declared.task.Action.{Action}
 use Rattle.p3_tree.specs.declared.task.Step.{Step}
 use Rattle.p3_tree.specs.declared.task.Task.{Task}
 use Rattle.p3_tree.proofs.OnceLemmas.{Has, Some-injective}
@@ -39,6 +37,7 @@ use Rattle.p3_ground.proofs.NameNumbers.{at_place, no_place}
 use Rattle.p3_ground.proofs.PlanNumbers.{has_numbers}
 use Rattle.p3_ground.proofs.Walk.{Met, begun, kept_where_fits, next_met}
 use Rattle.p3_eval.specs.Steps.{AreFirst, GoesOnAs, LacksNumber}
+use Rattle.p3_eval.proofs.StepsLemmas.{found_again}
 use Rattle.p3_explain.specs.Naming.{instance_number, name_numbered, own_number, pref_number}
 
 -- the name of the number of a name that is one of the ordered ones
@@ -75,11 +74,8 @@ module _ (T : Task) (K : HasStepNumbers T) where
 
   has_one : (step : Step) (number : ℕ) (found : Found) → HasNumber T step number → LacksNumber T step found → ⊥
   has_one step number (Number n) has lacks = lacks
-  has_one step number UnknownAction has lacks = let named = sym (K.own number step has).named ∙ lacks in cc
-  has_one step number Arguments has lacks =
-      let own = K.own number step has in
-      let same = Some-injective own.action lacks.action (sym own.named ∙ lacks.named) in
-      true≢false (sym own.args ∙ ap (λ (action : Action). are_arguments T action.params step.args) same ∙ lacks.args)
+  has_one step number UnknownAction has lacks = let same = found_again T K step number UnknownAction has lacks in cc
+  has_one step number Arguments has lacks = let same = found_again T K step number Arguments has lacks in cc
 
   all_numbered : (plan : Plan) (numbers : List ℕ) (next : Option Found) → AreFirst T plan numbers next → steps_fit T plan ≡ true → AreNumbers T plan numbers
   all_numbered plan numbers next first fit = by next first.behind

@@ -1,7 +1,9 @@
 -- What is answered to a line, by what the line has and what following its step tells.
-use Rattle.std.proofs.Common.{◌≡◌, ◌∙◌, ℕ, ◌+◌, ◌<◌, ◌≤◌, Bool, true, false, List, [], ◌∷◌, ◌++◌, length, drop, refl, sym, ap, subst, arith, le-ltb, lt-ltb, length-drop, Option, Some, None}
+use Rattle.std.proofs.Common.{◌≡◌, ◌∙◌, ℕ, ◌+◌, ◌<◌, ◌≤◌, Bool, true, false, List, [], ◌∷◌, ◌++◌, length, get_or, drop, refl, sym, ap, subst, arith, le-ltb, lt-ltb, length-drop, Option, Some, None}
 use Rattle.std.specs.Prelude.{if◌then◌else◌, nat_lt, option_map}
+use Rattle.std.specs.List.{All}
 use Rattle.std.proofs.lemmas.List.{length-take}
+use Rattle.std.proofs.lemmas.List.Elements.{All-contains, All-weaker}
 use Rattle.std.proofs.lemmas.Slice.Zip.{AllZip-long}
 use Rattle.p3_base.specs.declared.refusal.Code.TheVariants.{TooManySteps}
 use Rattle.p3_base.specs.declared.refusal.Refusal.{Refusal}
@@ -9,23 +11,27 @@ use Rattle.p3_tree.specs.Plans.{Plan, last_state, visited}
 use Rattle.p3_tree.specs.PlanTexts.{IsPlanText, refusal, step_limit}
 use Rattle.p3_tree.specs.StepNumbers.{HasNumber}
 use Rattle.p3_tree.specs.Validity.{AtStep, Misfit, misfit}
-use Rattle.p3_tree.specs.Watching.{LineText, Empty, OneStep, Offends, Refused, answer_by, answer_to, line_text, tried}
+use Rattle.p3_tree.specs.Watching.{LineText, Empty, OneStep, Offends, Piece, Refused, answer_by, answer_to, line_text, tried}
 use Rattle.p3_tree.specs.declared.task.Step.{Step}
 use Rattle.p3_tree.specs.declared.task.Task.{Task}
 use Rattle.p3_plans.specs.Lines.{IsLineStep}
 use Rattle.p3_plans.specs.declared.line.LineStep.TheVariants as step
 use Rattle.p3_plans.specs.declared.reader.PlanStep.{PlanStep}
+use Rattle.p3_plans.proofs.PlanLaws.{one_plan_at_most}
 use Rattle.p3_types.specs.Finds.{IsFound}
 use Rattle.p3_types.specs.declared.finding.Found.{Found}
 use Rattle.p3_types.specs.declared.finding.Found.TheVariants as found
+use Rattle.p3_formula.specs.declared.task.GroundTask.{GroundTask}
 use Rattle.p3_ground.specs.PlansByNumber.{AreNumbers}
+use Rattle.p3_ground.specs.StandsFor.{LeavesOutOnlyUnfit, LeftOutAt}
 use Rattle.p3_run.specs.Runs.{Ran, most_steps}
 use Rattle.p3_eval.specs.Judged.{NamesMisfitOfFound, TellsOfFound, fault_in, ran_with}
-use Rattle.p3_eval.specs.Judging.{IsRunOf}
+use Rattle.p3_eval.specs.Judging.{IsAskedText}
 use Rattle.p3_eval.specs.Runs.{BelongTogether, OfRun}
 use Rattle.p3_eval.specs.declared.fault.PlanFault.{PlanFault}
+use Rattle.p3_eval.proofs.JudgeLaws.{asked_found}
 use Rattle.p3_eval.proofs.JudgeLemmas.{goes_on}
-use Rattle.p3_watch.specs.Watching.{Answers, IsAnswered, IsTried, IsWithin}
+use Rattle.p3_watch.specs.Watching.{Answers, AreLinesAsked, AreLinesNumbered, IsAnswered, IsAskedBy, IsNumberedBy, IsTried, IsWithin}
 use Rattle.p3_watch.specs.declared.watch.Line.{Line}
 use Rattle.p3_watch.specs.declared.watch.Line.TheVariants as line
 use Rattle.p3_watch.proofs.OffsetLemmas.{IsTextWithin, text_within}
@@ -40,7 +46,7 @@ module _ (T : Task) (bytes : List ℕ) (old : Ran) where
 
   pub blank_is : IsLineStep bytes (line_text bytes) step.Blank → IsAnswered T bytes old old line.Blank
   unfolding answer_to
-  blank_is is = blank_by (line_text bytes) is
+  blank_is is asked = blank_by (line_text bytes) is
 
   bad_by : (own : Refusal) (text : LineText) → IsLineStep bytes text (step.Bad own) → OfRun T old (λ plan. Answers T plan (answer_by T plan text) old (line.Refused own))
   bad_by own Empty is plan are = absurd is
@@ -49,17 +55,17 @@ module _ (T : Task) (bytes : List ℕ) (old : Ran) where
 
   pub bad_is : (own : Refusal) → IsLineStep bytes (line_text bytes) (step.Bad own) → IsAnswered T bytes old old (line.Refused own)
   unfolding answer_to
-  bad_is own is = bad_by own (line_text bytes) is
+  bad_is own is asked = bad_by own (line_text bytes) is
 
   module _ (slice : PlanStep) (new : Ran) (told : Line) (tries : (own : Step) → IsPlanText slice.text.now (own ∷ []) → IsTried T slice.offset own old new told) where
-    step_by : (text : LineText) → IsLineStep bytes text (step.Step slice) → OfRun T old (λ plan. Answers T plan (answer_by T plan text) new told)
-    step_by Empty is plan are = absurd is
-    step_by (Offends offence) is plan are = absurd is
-    step_by (OneStep at own) is plan are = subst (λ n. Answers T plan (answer_by T plan (OneStep n own)) new told) is.place (tries own is.spelled plan are)
+    step_by : (text : LineText) → IsLineStep bytes text (step.Step slice) → IsAskedBy T old.task text → OfRun T old (λ plan. Answers T plan (answer_by T plan text) new told)
+    step_by Empty is asked plan are = absurd is
+    step_by (Offends offence) is asked plan are = absurd is
+    step_by (OneStep at own) is asked plan are = subst (λ n. Answers T plan (answer_by T plan (OneStep n own)) new told) is.place (tries own is.spelled asked plan are)
 
     pub step_is : IsLineStep bytes (line_text bytes) (step.Step slice) → IsAnswered T bytes old new told
     unfolding answer_to
-    step_is is = step_by (line_text bytes) is
+    step_is is asked = step_by (line_text bytes) is asked
 
 -- ---- where it stands
 
@@ -114,7 +120,7 @@ module _ (T : Task) (at : ℕ) (own : Step) (old : Ran) where
 
   -- as many are done as a run has at most
   pub full_is : most_steps ≤ length old.plan → IsTried T at own old old (line.Refused (refusal TooManySteps at 1))
-  full_is full plan are =
+  full_is full asked plan are =
       let same = long plan are in
       let no : nat_lt (length plan) step_limit ≡ false = le-ltb (length plan) step_limit (omega (arith, full, same)) in
       subst (λ (room : Bool). Answers T plan (if room then tried own (misfit T (last_state (visited T plan)) own) else Refused (refusal TooManySteps at 1)) old (line.Refused (refusal TooManySteps at 1)))
@@ -146,20 +152,38 @@ fault_keeps old (found.Number number) fault = refl
 fault_keeps old found.UnknownAction fault = refl
 fault_keeps old found.Arguments fault = refl
 
--- the run stays one of the task
-pub still_of : (T : Task) (old : Ran) (finds : Found) (fault : Option PlanFault) → IsRunOf T old → IsRunOf T (ran_with old finds fault)
-still_of T old (found.Number number) None of = record { together = of.together; few = of.few }
-still_of T old (found.Number number) (Some fault) of = of
-still_of T old found.UnknownAction fault of = of
-still_of T old found.Arguments fault of = of
+-- the run keeps its parts
+pub still_task : (old new : Ran) (finds : Found) (fault : Option PlanFault) → new ≡ ran_with old finds fault → new.task ≡ old.task
+still_task old new finds fault same = ap (λ (ran : Ran). ran.task) same ∙ by finds fault
+  where
+    by : (finds : Found) (fault : Option PlanFault) → (ran_with old finds fault).task ≡ old.task
+    by (found.Number number) None = refl
+    by (found.Number number) (Some why) = refl
+    by found.UnknownAction fault = refl
+    by found.Arguments fault = refl
+
+pub still_weights : (old new : Ran) (finds : Found) (fault : Option PlanFault) → new ≡ ran_with old finds fault → new.weights ≡ old.weights
+still_weights old new finds fault same = ap (λ (ran : Ran). ran.weights) same ∙ by finds fault
+  where
+    by : (finds : Found) (fault : Option PlanFault) → (ran_with old finds fault).weights ≡ old.weights
+    by (found.Number number) None = refl
+    by (found.Number number) (Some why) = refl
+    by found.UnknownAction fault = refl
+    by found.Arguments fault = refl
 
 module _ (T : Task) (at : ℕ) (text : List ℕ) (old new : Ran) (finds : Found) (together : BelongTogether T old.task old.weights) (room : length old.plan < most_steps)
     (known : (own : Step) → IsPlanText text (own ∷ []) → IsFound T own finds) where
+  -- what may be asked of the step may be asked of each that has the text
+  asked_text : (own : Step) → IsPlanText text (own ∷ []) → IsAskedBy T old.task (OneStep at own) → IsAskedText T old.task text
+  asked_text own spelled asked step said number has =
+      let same : step ≡ own = ap (λ (plan : Plan). get_or plan 0 step) (one_plan_at_most text (step ∷ []) (own ∷ []) said spelled) in
+      asked number (subst (λ (one : Step). HasNumber T one number) same has)
+
   pub done_is : TellsOfFound old finds None → NamesMisfitOfFound old finds None → new ≡ ran_with old finds None
       → (own : Step) → IsPlanText text (own ∷ []) → IsTried T at own old new line.Done
-  done_is tells names same own spelled plan are =
-      let (number, has, is) = goes_on T old new text finds None together known tells same own spelled plan are in
-      let fits = none_told (length plan + 1) _ (names T together plan are own (known own spelled)) in
+  done_is tells names same own spelled asked plan are =
+      let (number, has, is) = goes_on T old new text finds None together (asked_text own spelled asked) known tells same own spelled plan are in
+      let fits = none_told (length plan + 1) _ (names T together plan are (asked_found T old.task own finds asked (known own spelled)) own (known own spelled)) in
       room_is T at own old room new line.Done plan are
       (subst (λ (why : Option Misfit). Answers T plan (tried own why) new line.Done) (sym fits)
       (record {
@@ -169,11 +193,31 @@ module _ (T : Task) (at : ℕ) (text : List ℕ) (old new : Ran) (finds : Found)
 
   pub fault_is : (fault : PlanFault) → NamesMisfitOfFound old finds (Some fault) → new ≡ ran_with old finds (Some fault)
       → (own : Step) → IsPlanText text (own ∷ []) → IsTried T at own old new (line.Invalid fault)
-  fault_is fault names same own spelled plan are =
-      let tells = some_told (length plan + 1) fault _ (names T together plan are own (known own spelled)) in
+  fault_is fault names same own spelled asked plan are =
+      let tells = some_told (length plan + 1) fault _ (names T together plan are (asked_found T old.task own finds asked (known own spelled)) own (known own spelled)) in
       room_is T at own old room new (line.Invalid fault) plan are
       (subst (λ (why : Option Misfit). Answers T plan (tried own why) new (line.Invalid fault)) (sym tells.is)
       (record {
         says = tells.says;
         done = subst (AreNumbers T plan) (sym (ap (λ (ran : Ran). ran.plan) (same ∙ fault_keeps old finds fault))) are;
       }))
+
+-- ---- lines whose steps have certain numbers
+
+asked_by_numbers : (T : Task) (G : GroundTask) (numbers : List ℕ) → All (LeftOutAt T G) numbers → (text : LineText) → IsNumberedBy T numbers text → IsAskedBy T G text
+asked_by_numbers T G numbers left Empty own = tt
+asked_by_numbers T G numbers left (Offends offence) own = tt
+asked_by_numbers T G numbers left (OneStep at step) own = λ number has. All-contains (LeftOutAt T G) numbers number left (own number has)
+
+pub numbered_are_asked : (T : Task) (G : GroundTask) (numbers : List ℕ) → All (LeftOutAt T G) numbers → (pieces : List Piece) → AreLinesNumbered T numbers pieces → AreLinesAsked T G pieces
+numbered_are_asked T G numbers left pieces own =
+    All-weaker (λ (piece : Piece). IsNumberedBy T numbers (line_text piece.bytes)) (λ (piece : Piece). IsAskedBy T G (line_text piece.bytes)) (λ piece here. asked_by_numbers T G numbers left (line_text piece.bytes) here) pieces own
+
+-- so may all be where a ground task leaves out only what never begins
+asked_of_all : (T : Task) (G : GroundTask) → LeavesOutOnlyUnfit T G → (text : LineText) → IsAskedBy T G text
+asked_of_all T G left Empty = tt
+asked_of_all T G left (Offends offence) = tt
+asked_of_all T G left (OneStep at step) = λ number has. left number
+
+pub all_lines_asked : (T : Task) (G : GroundTask) → LeavesOutOnlyUnfit T G → (pieces : List Piece) → AreLinesAsked T G pieces
+all_lines_asked T G left pieces k d within = asked_of_all T G left (line_text (get_or pieces k d).bytes)

@@ -1,5 +1,5 @@
 -- What is answered to a line of a plan that is followed.
-use Rattle.std.specs.Prelude.{◌≡◌, ℕ, ◌+◌, ◌≤◌, List, length}
+use Rattle.std.specs.Prelude.{◌≡◌, ℕ, ◌+◌, ◌≤◌, List, length, Option, None, Some}
 use Rattle.std.specs.List.{All, Contains}
 use Rattle.p3_tree.specs.Plans.{Plan}
 use Rattle.p3_tree.specs.Validity.{AtStep}
@@ -7,6 +7,8 @@ use Rattle.p3_tree.specs.StepNumbers.{HasNumber}
 use Rattle.p3_tree.specs.Watching.{Answer, Blank, Taken, Unfit, Refused, LineText, Offends, Empty, OneStep, Piece, answer_by, answer_to, line_text, taken_after}
 use Rattle.p3_tree.specs.declared.task.Step.{Step}
 use Rattle.p3_tree.specs.declared.task.Task.{Task}
+use Rattle.p3_types.specs.declared.finding.Found.{Found}
+use Rattle.p3_types.specs.declared.finding.Found.TheVariants.{Number, UnknownAction, Arguments}
 use Rattle.p3_formula.specs.declared.task.GroundTask.{GroundTask}
 use Rattle.p3_ground.specs.PlansByNumber.{AreNumbers}
 use Rattle.p3_ground.specs.StandsFor.{LeftOutAt}
@@ -53,6 +55,7 @@ IsNumberedBy T numbers (Offends offence) = Unit {0}
 IsNumberedBy T numbers Empty = Unit {0}
 IsNumberedBy T numbers (OneStep at step) = (number : ℕ) → HasNumber T step number → Contains numbers number
 
+-- so it is of each line
 abbrev pub AreLinesNumbered : Task → List ℕ → List Piece → Type 0
 AreLinesNumbered T numbers pieces = All (λ (piece : Piece). IsNumberedBy T numbers (line_text piece.bytes)) pieces
 
@@ -69,3 +72,17 @@ IsWithin size _ = Unit {0}
 -- it is so of each plan and answer that were answered so
 abbrev pub OfAnswer : Task → Ran → Line → (Plan → Answer → Type 0) → Type 0
 OfAnswer T new told Holds = (plan : Plan) (answer : Answer) → Answers T plan answer new told → Holds plan answer
+
+-- ---- the numbers of lines
+
+-- the number that is found
+abbrev pub number_in : Found → Option ℕ
+number_in (Number number) = Some number
+number_in UnknownAction = None
+number_in Arguments = None
+
+-- the step of the line has that number, if it has one
+abbrev pub IsNumberOfLine : Task → LineText → Option ℕ → Type 0
+IsNumberOfLine T (Offends offence) found = Unit {0}
+IsNumberOfLine T Empty found = Unit {0}
+IsNumberOfLine T (OneStep at step) found = (number : ℕ) → HasNumber T step number → found ≡ Some number

@@ -8,5 +8,5 @@ mod following;
 mod lines;
 mod watch;
 
-pub use following::{Followed, follow};
+pub use following::{Followed, follow, line_numbers};
 pub use watch::{Line, Watch};

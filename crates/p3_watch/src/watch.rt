@@ -116,7 +116,8 @@ impl<'a> Watch<'a> {
         if self.run.steps() >= MOST_STEPS {
             return Line::Refused(too_many(offset));
         }
-        match self.run.follow(self.checked().find_text(text)) {
+        let found = self.checked().find_text(text);
+        match self.run.follow(found) {
             None => Line::Done,
             Some(fault) => Line::Invalid(fault),
         }
