@@ -1,4 +1,4 @@
-use Rattle.std.proofs.Common.{ap, sym, subst}
+use Rattle.std.proofs.Common.{sym, subst}
 use Rattle.std.specs.List.{All}
 use Rattle.p3_tree.proofs.StepNumberLaws.{steps_have_numbers}
 use Rattle.p3_ground.specs.StandsFor.{LeftOutAt}
