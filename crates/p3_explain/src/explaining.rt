@@ -1,6 +1,6 @@
 //! Why a plan satisfies its constraints and preferences, or does not.
 
-ghost use Rattle.std.specs.Prelude.{◌≡◌, ◌+◌, ◌≤◌, ◌++◌, None, length, option_map, IfErr, IfOk, IsTrue, OnOk};
+ghost use Rattle.std.specs.Prelude.{◌≡◌, ◌+◌, ◌≤◌, ◌++◌, None, length, option_map, IfErr, IfOk, IfSome, IsTrue, OnOk};
 ghost use Rattle.std.specs.List.{All};
 ghost use Rattle.p3_tree.specs.Explanations.{reasons};
 ghost use Rattle.p3_tree.specs.PlanTexts.{step_limit};
@@ -9,7 +9,7 @@ ghost use Rattle.p3_tree.specs.Validity.{first_fault, step_fault};
 ghost use Rattle.p3_ground.specs.StandsFor.{LeftOutAt};
 ghost use Rattle.p3_run.specs.Runs.{most_steps};
 ghost use Rattle.p3_marks.specs.Marked.{shown_all};
-ghost use Rattle.p3_eval.specs.Judged.{fault_in};
+ghost use Rattle.p3_eval.specs.Judged.{HasItsStep, fault_in};
 ghost use Rattle.p3_eval.specs.Runs.{OfItsPlan};
 ghost use Rattle.p3_eval.specs.Steps.{OfSteps};
 ghost use Rattle.p3_explain.specs.Explaining.{IsExplainFail};
@@ -71,6 +71,7 @@ pub fn explain_steps(
     ensures fault { IfOk result (λ found. OfSteps grounded.now.checked.now.task steps.now
         (λ plan. first_fault grounded.now.checked.now.task plan
         ≡ option_map fault_in found.fault)) }
+    ensures placed { IfOk result (λ found. IfSome found.fault HasItsStep) }
     ensures fit { OnOk result (OfSteps grounded.now.checked.now.task steps.now
         (λ plan. IsTrue (steps_fit grounded.now.checked.now.task plan))) }
     ensures fail { IfErr result (λ fail. OfSteps grounded.now.checked.now.task steps.now
