@@ -13,7 +13,6 @@ use Rattle.p3_tree.specs.Lifting.{steps}
 use Rattle.p3_tree.specs.Names.{Name}
 use Rattle.p3_tree.specs.Offences.{WellFormed}
 use Rattle.p3_tree.specs.Plans.{action_named}
-use Rattle.p3_tree.specs.Refusals.Flat.{IsWideStepAt}
 use Rattle.p3_tree.specs.Refusals.Places.{refusal_at_word}
 use Rattle.p3_tree.specs.Sides.{step_count_limit}
 use Rattle.p3_tree.specs.StepNumbers.{HasNumber, IsOwn}
@@ -115,14 +114,17 @@ module _ (T : Task) (name : List ℕ) (of : IsOfWideStep T name) where
   some_action well step same none = let own = own_action well step same in absurd (let no : None ≡ Some own.action = sym none ∙ own.named in cc)
 
   -- the refusal stands at its action
-  pub wide_step_at : (step : Step) (action : Action) (refusal : Refusal) → step ≡ of.step → action_named T step.action ≡ Some action → refusal ≡ refusal_at_word FlatTooWide role.Domain action.name → IsWideStepAt T refusal
-  wide_step_at step action refusal same named is = record {
-    step = of.step;
-    own = (of.number, number_within, get_or_from_slice_get (steps T) of.number of.step of.step of.has);
-    wide = of.wide;
-    action = action;
-    named = sym (λ i. action_named T (same i).action) ∙ named;
-    is = is;
+  pub refused_by_name : (step : Step) (action : Action) (refusal : Refusal) → step ≡ of.step → action_named T step.action ≡ Some action → refusal ≡ refusal_at_word FlatTooWide role.Domain action.name → IsRefusedByName T name refusal
+  refused_by_name step action refusal same named is = record {
+    at = record {
+      step = of.step;
+      own = (of.number, number_within, get_or_from_slice_get (steps T) of.number of.step of.step of.has);
+      wide = of.wide;
+      action = action;
+      named = sym (λ i. action_named T (same i).action) ∙ named;
+      is = is;
+    };
+    is = record { number = of.number; named = of.named; has = of.has };
   }
 
 -- ---- names

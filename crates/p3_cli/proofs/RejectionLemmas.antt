@@ -226,7 +226,7 @@ one_reason Watch n (x ∷ y ∷ z ∷ u ∷ texts) how other shown also = absurd
 
 -- a reason that may come, where none must
 only_may : {A : Type 0} (kind : CommandKind) (number : ℕ) (texts : List (List ℕ)) (how other : Ending) → MayRejectBy kind number texts how → RejectsBy kind number texts other → A
-only_may CompileFlat n (x ∷ y ∷ []) how other shown also = absurd (nothing_is_refused Source x y shown.shows.task shown.shows.accepted also.refusal also.shows)
+only_may CompileFlat n (x ∷ y ∷ []) how other shown also = absurd (nothing_is_refused Source x y shown.shows.is.task shown.shows.is.accepted also.refusal also.shows)
 only_may CompileFlat n [] how other shown also = absurd shown
 only_may CompileFlat n (x ∷ []) how other shown also = absurd shown
 only_may CompileFlat n (x ∷ y ∷ z ∷ texts) how other shown also = absurd shown

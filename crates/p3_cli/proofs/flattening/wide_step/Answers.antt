@@ -12,7 +12,7 @@ use Rattle.p3_tree.specs.declared.task.Task.{Task}
 use Rattle.p3_metric.proofs.ShortNames.{short_names}
 use Rattle.p3_types.specs.declared.checked.Checked.{Checked}
 use Rattle.p3_cli.specs.Flattening.{IsOfWideStep}
-use Rattle.p3_cli.proofs.FlatteningLemmas.{named_short, number_small, same_step, some_action, wide_step_at}
+use Rattle.p3_cli.proofs.FlatteningLemmas.{named_short, number_small, refused_by_name, same_step, some_action}
 use Rattle.p3_cli.proofs.flattening.wide_step.Goals as goal
 
 -- the step of the number that the name gives
@@ -59,7 +59,6 @@ returns c =
     let action = c.in-Some-action_named.action.now in
     let is = its_step T c.args.name.now c.bytes.result.now of (number_small T c.args.name.now of checked.ensures.few) c.owning_step.result c.in-Some.number step checked.result.now c.bytes.ensures.bytes
     c.owning_step.ensures.owner c.in-Some.is same c.in_ok-step.ensures in
-    let at = wide_step_at T c.args.name.now of step action c.flat_refusal.result is
+    refused_by_name T c.args.name.now of step action c.flat_refusal.result is
     (in_task T c.task.result.now step (option_copied c.action_named.result) (Some action) (λ U. action_named U step.action) (c.task.ensures.task ∙ same) c.action_named.ensures (ap option_copied c.in-Some-action_named.is))
-    c.flat_refusal.ensures in
-    record { at = at; is = record { number = of.number; named = of.named; has = of.has } }
+    c.flat_refusal.ensures
