@@ -77,12 +77,13 @@ fn push_updates(
     Ok(())
 }
 
-/// No change, in a list with room for those of the step, and for one for each monitor that it touches,
-/// as far as the number of their places, which may repeat, tells.
+/// No change, in a list with room for those of the step, and for two for each monitor that it
+/// touches, as far as the number of their places, which may repeat, tells.
 fn room_for(alloc: Global, step: &Effects, touched: usize) -> Result<Vec<Change>, NoMemory>
     ensures { IfOk result (λ all. all.items ≡ []) }
 {
-    Ok(Vec::with_capacity(alloc, step.len().saturating_add(touched))?)
+    let room = step.len().saturating_add(touched.saturating_mul(2));
+    Ok(Vec::with_capacity(alloc, room)?)
 }
 
 /// The places of the monitors that read an atom which the step may change. They rise, and one may
@@ -159,8 +160,8 @@ pub(crate) fn simpler(alloc: Global, pre: &Form, changes: Effects) -> Result<Eff
     Ok(trimmed)
 }
 
-/// The changes of a step in the target, simplified by what its precondition fixes: its own, and those
-/// of the monitors that it touches.
+/// The changes of a step in the target, simplified by what its precondition fixes: its own, and
+/// those of the monitors that it touches.
 pub(crate) fn step_changes(
     alloc: Global,
     frame: &Frame,

@@ -38,8 +38,8 @@ fn push_guard(
     Ok(())
 }
 
-/// The guards of those of the monitors that stand at these places, which rise. One may stand several
-/// times.
+/// The guards of those of the monitors that stand at these places, which rise. One may stand
+/// several times.
 fn guards(
     alloc: Global,
     monitors: &[Monitor],
@@ -84,8 +84,8 @@ fn joined_guards(alloc: Global, pre: &Form, guards: Vec<Form>) -> Result<Form, N
     Ok(Form::And(List::from(parts)))
 }
 
-/// The precondition of a step, and that it breaks none of the hard constraints whose monitors stand at
-/// these places and which would stay broken.
+/// The precondition of a step, and that it breaks none of the hard constraints whose monitors stand
+/// at these places and which would stay broken.
 pub(crate) fn guarded_pre(
     alloc: Global,
     frame: &Frame,

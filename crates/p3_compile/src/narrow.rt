@@ -63,7 +63,8 @@ fn all_of(mut parts: Vec<Form>) -> Form
     }
 }
 
-/// The form that holds where the atom is set and the condition holds, which is as simple as it can be.
+/// The form that holds where the atom is set and the condition holds, which is as simple as it can
+/// be.
 fn behind_atom(alloc: Global, atom: usize, condition: Form) -> Result<Form, NoMemory>
     requires tidy { IsTrue (is_tidy condition) }
     requires possible { is_value false condition ≡ false }
@@ -75,7 +76,8 @@ fn behind_atom(alloc: Global, atom: usize, condition: Form) -> Result<Form, NoMe
     Ok(all_of(parts))
 }
 
-/// The action of a copy, which takes the changes and simplifies them by what its precondition fixes.
+/// The action of a copy, which takes the changes and simplifies them by what its precondition
+/// fixes.
 fn copy_action(
     alloc: Global,
     number: u32,

@@ -6,7 +6,7 @@ use Rattle.p3_formula.specs.Forms.{nodes}
 use Rattle.p3_formula.specs.declared.form.Change.{Change}
 use Rattle.p3_formula.specs.declared.form.Form.{Form}
 use Rattle.p3_formula.specs.Simplified.{constant, is_value}
-use Rattle.p3_formula.specs.declared.form.Form.TheVariants.{True, False, Atom, Not}
+use Rattle.p3_formula.specs.declared.form.Form.TheVariants.{True, False, Atom, Not, And}
 use Rattle.p3_formula.specs.declared.modal.GroundModal.{GroundModal}
 use Rattle.p3_formula.specs.declared.modal.GroundModal.TheVariants as modal
 use Rattle.p3_formula.specs.Trimmed.{unless_never}
@@ -23,17 +23,10 @@ change add atom cond = record { cond = cond; atom = atom; add = add }
 abbrev pub joint : Form → Form → Form
 joint first second = if is_value false first then False else (if is_value true first then second else both first second)
 
--- both hold, where the second may be a constant
-abbrev pub joint_behind : Form → Form → Form
-joint_behind first second = if is_value false second then False else (if is_value true second then first else both first second)
-
--- the atom is set, and the form does not hold
-abbrev pub ceased : ℕ → Form → Form
-ceased base now = both (Atom base) (Not now)
-
--- the atom is set, the form does not hold, and it does later
+-- the atom is set, the form does not hold, and it does later, where that may be a constant
 abbrev pub back : ℕ → Form → Form → Form
-back base now later = joint_behind (ceased base now) later
+back base now later =
+    if is_value false later then False else (if is_value true later then both (Atom base) (Not now) else And (Atom base ∷ Not now ∷ later ∷ []))
 
 -- the form holds, and the atom is not set
 abbrev pub early : ℕ → Form → Form

@@ -31,7 +31,8 @@ impl FormsByAtom {
         }
     }
 
-    /// The parts of the forms of the constraint. Where only the last state counts, nothing is listed.
+    /// The parts of the forms of the constraint. Where only the last state counts, nothing is
+    /// listed.
     pub(crate) fn of(alloc: Global, modal: &GroundModal) -> Result<FormsByAtom, NoMemory>
         ensures { IfOk result (IndexesForms modal.now) }
     {

@@ -69,26 +69,29 @@ pub(crate) fn unless(alloc: Global, condition: Form) -> Result<Form, NoMemory>
     Form::negation(alloc, condition)
 }
 
-/// The atom is set, and the form does not hold.
-fn ceased(alloc: Global, base: usize, form: &Form) -> Result<Form, NoMemory>
-    ensures { IfOk result (λ ceased. ceased ≡ made.ceased base form.now) }
-{
-    let gone = Form::negation(alloc, copied(alloc, form)?)?;
-    Form::both(alloc, Form::Atom(base), gone)
-}
-
-/// The atom is set, the form does not hold, and it does later.
+/// The atom is set, the form does not hold, and it does later, where that may be a constant.
 pub(crate) fn back(alloc: Global, base: usize, form: &Form, later: Form) -> Result<Form, NoMemory>
     ensures { IfOk result (λ back. back ≡ made.back base form.now later) }
 {
     if is_value(&later, false) {
         return Ok(Form::False);
     }
-    let ceased = ceased(alloc, base, form)?;
+    let gone = Form::negation(alloc, copied(alloc, form)?)?;
     if is_value(&later, true) {
-        return Ok(ceased);
+        return Form::both(alloc, Form::Atom(base), gone);
     }
-    Form::both(alloc, ceased, later)
+    all_three(alloc, Form::Atom(base), gone, later)
+}
+
+/// The conjunction of three forms.
+fn all_three(alloc: Global, first: Form, second: Form, third: Form) -> Result<Form, NoMemory>
+    ensures { IfOk result (λ form. form ≡ Form.And (first ∷ second ∷ third ∷ [])) }
+{
+    let mut parts = Vec::with_capacity(alloc, 3)?;
+    parts.push(first)?;
+    parts.push(second)?;
+    parts.push(third)?;
+    Ok(Form::And(List::from(parts)))
 }
 
 /// The form holds, and the atom is not set.
@@ -129,7 +132,8 @@ pub(crate) fn at_most_once(
     later: Form,
 ) -> Result<Effects, NoMemory>
     requires { base + 1 ≤ 2 ^ 64 - 1 }
-    ensures { IfOk result (λ effects. effects ≡ made.possible (made.at_most_once base form.now later)) }
+    ensures { IfOk result (λ effects.
+        effects ≡ made.possible (made.at_most_once base form.now later)) }
 {
     let mut effects = Vec::new(alloc);
     push_change(&mut effects, copied(alloc, &later)?, base, true)?;
@@ -159,7 +163,8 @@ pub(crate) fn sometime_after(
     met: Form,
     awaited: Form,
 ) -> Result<Effects, NoMemory>
-    ensures { IfOk result (λ effects. effects ≡ made.possible (made.sometime_after base met awaited)) }
+    ensures { IfOk result (λ effects.
+        effects ≡ made.possible (made.sometime_after base met awaited)) }
 {
     let mut effects = Vec::new(alloc);
     push_change(&mut effects, met, base, false)?;
@@ -177,7 +182,8 @@ pub(crate) fn sometime_before(
     second: Form,
 ) -> Result<Effects, NoMemory>
     requires { base + 1 ≤ 2 ^ 64 - 1 }
-    ensures { IfOk result (λ effects. effects ≡ made.possible (made.sometime_before base first second)) }
+    ensures { IfOk result (λ effects.
+        effects ≡ made.possible (made.sometime_before base first second)) }
 {
     let mut effects = Vec::new(alloc);
     push_change(&mut effects, second, base, true)?;

@@ -48,7 +48,8 @@ impl Monitor {
     #[tactic(auto, using(crate::proofs::ChangeLaws::others_stay))]
     pub fn effects(&self, alloc: Global, step: &Effects) -> Result<Effects, NoMemory>
         requires apart { HasNone (is_own self.now.base self.now.modal) step.now }
-        // With the step's changes and those of other monitors they keep the bits over one state more.
+        // With the step's changes and those of other monitors they keep the bits over one state
+        // more.
         ensures kept { IfOk result (KeepsOn self.now.base self.now.modal step.now) }
         // They are of its own atoms.
         ensures own { IfOk result (AreOwn self.now.base self.now.modal) }
@@ -70,7 +71,8 @@ impl Monitor {
     #[tactic(auto, using(crate::proofs::ChangeLaws::others_stay))]
     pub fn effects_in(&self, alloc: Global, regressed: &mut Regressed) -> Result<Effects, NoMemory>
         requires apart { HasNone (is_own self.now.base self.now.modal) regressed.old.effects }
-        // With the step's changes and those of other monitors they keep the bits over one state more.
+        // With the step's changes and those of other monitors they keep the bits over one state
+        // more.
         ensures kept { IfOk result (KeepsOn self.now.base self.now.modal regressed.old.effects) }
         // They are of its own atoms.
         ensures own { IfOk result (AreOwn self.now.base self.now.modal) }
@@ -97,7 +99,8 @@ impl Monitor {
         FormsByAtom::of(alloc, &self.modal)
     }
 
-    /// Makes what `effects_in` makes, where the parts of the constraint's forms are looked up by atom.
+    /// Makes what `effects_in` makes, where the parts of the constraint's forms are looked up by
+    /// atom.
     #[tactic(auto, using(crate::proofs::ChangeLaws::others_stay))]
     pub fn effects_by(
         &self,
@@ -121,8 +124,8 @@ impl Monitor {
         updates(alloc, &self.modal, self.base, regressed, by_atom)
     }
 
-    /// Makes the form that holds before the step of a regression exactly where the step does not break
-    /// the constraint. For a constraint that can be satisfied again later it always holds.
+    /// Makes the form that holds before the step of a regression exactly where the step does not
+    /// break the constraint. For a constraint that can be satisfied again later it always holds.
     pub fn guard(&self, alloc: Global, regressed: &mut Regressed) -> Result<Form, NoMemory>
         // While the constraint is satisfied, the form tells whether it is so after the step, too.
         ensures guards { IfOk result

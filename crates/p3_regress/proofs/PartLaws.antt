@@ -12,13 +12,14 @@ use Rattle.std.proofs.lemmas.List.Sorted.{list_any-IsPermutation}
 use mathlib.Core.Former.{Count}
 use Rattle.p3_formula.specs.AtomLists.{atoms_of, atoms_layer}
 use Rattle.p3_formula.specs.Folds.{fold_forms}
+use Rattle.p3_formula.specs.Simplified.{joined}
 use Rattle.p3_formula.specs.declared.form.Change.{Change}
 use Rattle.p3_formula.specs.declared.form.Form.{Form, Row_of-Form, end_of-Form, more_of-Form, items_hidden-the_row-Form-1}
 use Rattle.p3_formula.specs.declared.form.Form.TheVariants.{True, False, Atom, Not, And, Or, Not', And', Or'}
 use Rattle.p3_regress.specs.Parts.{AreListed, HasTurning, ListsParts, parts_of}
 use Rattle.p3_regress.specs.Readers.{is_at, is_read_at, mentions, readers_from}
 use Rattle.p3_regress.specs.Regressed.{is_of, regressed}
-use Rattle.p3_regress.specs.Turned.{may_turn, some_joined, turned, turned_parts, turned_whole, turns_layer}
+use Rattle.p3_regress.specs.Turned.{may_turn, turned, turned_parts, turned_whole, turns_layer}
 use Rattle.p3_regress.specs.declared.readers.PartsByAtom.{PartsByAtom}
 use Rattle.p3_regress.specs.declared.readers.Reader.{Reader}
 use Rattle.p3_regress.proofs.ReaderLemmas.{any_weaker, inside, mentioned}
@@ -34,11 +35,11 @@ parts_of-Or parts = items_hidden-the_row-Form-1 parts
 pub ruleset parts_laws = (parts_of-And, parts_of-Or)
 
 module _ (changes : List Change) (up : Bool) where
-  pub turned-And : (parts : List Form) → turned changes up (And parts) ≡ (if up then turned_whole changes true (And parts) else some_joined true (turned_parts changes false parts))
-  turned-And parts = ap (λ some. if up then turned_whole changes true (And parts) else some_joined true (turned_parts changes false some)) (parts_of-And parts)
+  pub turned-And : (parts : List Form) → turned changes up (And parts) ≡ (if up then turned_whole changes true (And parts) else joined true (turned_parts changes false parts))
+  turned-And parts = ap (λ some. if up then turned_whole changes true (And parts) else joined true (turned_parts changes false some)) (parts_of-And parts)
 
-  pub turned-Or : (parts : List Form) → turned changes up (Or parts) ≡ (if up then some_joined false (turned_parts changes true parts) else turned_whole changes false (Or parts))
-  turned-Or parts = ap (λ some. if up then some_joined false (turned_parts changes true some) else turned_whole changes false (Or parts)) (parts_of-Or parts)
+  pub turned-Or : (parts : List Form) → turned changes up (Or parts) ≡ (if up then joined false (turned_parts changes true parts) else turned_whole changes false (Or parts))
+  turned-Or parts = ap (λ some. if up then joined false (turned_parts changes true some) else turned_whole changes false (Or parts)) (parts_of-Or parts)
 
   pub turned-Not : (part : Form) → turned changes up (Not part) ≡ turned_whole changes up (Not part)
   turned-Not part = refl

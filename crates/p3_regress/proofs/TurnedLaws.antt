@@ -2,7 +2,7 @@
 use Rattle.std.proofs.Common.{◌≡◌, ◌∙◌, ℕ, ◌+◌, ◌≤◌, nat_lt, Bool, true, false, cond, not, ◌&&◌, ◌||◌, List, [], ◌∷◌, if◌then◌else◌, length, map, sum, sum_by, refl, sym, ap, subst, arith, true≢false}
 use Rattle.std.specs.List.{list_any, list_all, filter}
 use Rattle.std.specs.List.Sorted.{IsPermutation}
-use Rattle.std.proofs.Math.Bool.{and-false, or-true, not-not}
+use Rattle.std.proofs.Math.Bool.{and-false, and-true, or-false, or-true, not-not}
 use Rattle.std.proofs.lemmas.Bool.{and_parts, and_from, or_parts, or_from}
 use Rattle.std.proofs.lemmas.Bool.Decides.{nat_tests}
 use Rattle.std.proofs.lemmas.List.Sorted.{list_any-IsPermutation}
@@ -15,7 +15,7 @@ use Rattle.p3_formula.specs.Constructors.{both}
 use Rattle.p3_formula.specs.Folds.{fold_form, fold_forms}
 use Rattle.p3_formula.specs.Forms.{State, is_set, truth, truth_layer, has_atoms, nodes}
 use Rattle.p3_formula.specs.Next.{is_added, is_deleted, is_set_after, after}
-use Rattle.p3_formula.specs.Simplified.{constant}
+use Rattle.p3_formula.specs.Simplified.{constant, joined}
 use Rattle.p3_formula.specs.declared.form.Change.{Change}
 use Rattle.p3_formula.specs.declared.form.Form.{Form, Row_of-Form, end_of-Form, more_of-Form, items-the_row-Form}
 use Rattle.p3_formula.specs.declared.form.Form.TheBlock.{backs-Form, hidden-the_row-Form-0, items_shown-the_row-Form-1}
@@ -24,7 +24,7 @@ use Rattle.p3_formula.specs.declared.form.Form.TheOpen as layer
 use Rattle.p3_formula.proofs.FormLemmas.{fold_parts, list_any-map, truth-And, truth-Or, has_atoms-And, has_atoms-Or, nodes-And, nodes-Or}
 use Rattle.p3_formula.proofs.NextLaws.{is_set-after, is_set-beyond, after-permutation}
 use Rattle.p3_regress.specs.Regressed.{HasAtomsOfBoth, IsTrueBefore, is_of, growth, growth_layer, regressed}
-use Rattle.p3_regress.specs.Turned.{turns_layer, may_turn, some_joined, turned, turned_parts, turned_whole, IsTurnBefore, IsNarrowed}
+use Rattle.p3_regress.specs.Turned.{turns_layer, may_turn, turned, turned_parts, turned_whole, IsTurnBefore, IsNarrowed}
 use Rattle.p3_regress.proofs.RegressedLaws.{growth_same, sorted_truth, sorted_nodes, sorted_atoms}
 use Rattle.p3_regress.proofs.RegressedLemmas.{regressed-True, regressed-False, regressed-And, regressed-Or}
 
@@ -327,35 +327,60 @@ module _ (changes : List Change) where
     by true e is later = ap (λ b. b || list_any test parts) e
     by false e is later = ap (λ b. test part || b) (later is) ∙ or-true (test part)
 
-  and_cut : (parts : List Form) → IsCutTo changes false (And parts) (some_joined true (turned_parts changes false parts))
+  -- one part alone is that part
+  one_and : (up : Bool) (form part : Form) → may_turn changes up form ≡ true → IsNarrowed up changes form (And (part ∷ [])) → IsNarrowed up changes form part
+  one_and up form part may all = record {
+    turns = λ state now. sym (truth-And (after state changes) (part ∷ []) ∙ and-true (truth (after state changes) part)) ∙ all.turns state now;
+    only = λ state h. sym (truth-And (after state changes) (part ∷ []) ∙ and-true (truth (after state changes) part)) ∙ all.only state h;
+    still = λ none. absurd (true≢false (sym may ∙ none));
+    atoms = λ allowed h. sym (has_atoms-And allowed (part ∷ []) ∙ and-true (has_atoms allowed part)) ∙ all.atoms allowed h;
+    size = let s = all.size in let h = nodes-And (part ∷ []) in let p = sum_by-cons nodes part [] in omega (arith, s, h, p);
+    growth = let g = all.growth in let h = growth-And changes (part ∷ []) in let p = sum_by-cons (growth changes) part [] in omega (arith, g, h, p);
+  }
+
+  one_or : (up : Bool) (form part : Form) → may_turn changes up form ≡ true → IsNarrowed up changes form (Or (part ∷ [])) → IsNarrowed up changes form part
+  one_or up form part may all = record {
+    turns = λ state now. sym (truth-Or (after state changes) (part ∷ []) ∙ or-false (truth (after state changes) part)) ∙ all.turns state now;
+    only = λ state h. sym (truth-Or (after state changes) (part ∷ []) ∙ or-false (truth (after state changes) part)) ∙ all.only state h;
+    still = λ none. absurd (true≢false (sym may ∙ none));
+    atoms = λ allowed h. sym (has_atoms-Or allowed (part ∷ []) ∙ and-true (has_atoms allowed part)) ∙ all.atoms allowed h;
+    size = let s = all.size in let h = nodes-Or (part ∷ []) in let p = sum_by-cons nodes part [] in omega (arith, s, h, p);
+    growth = let g = all.growth in let h = growth-Or changes (part ∷ []) in let p = sum_by-cons (growth changes) part [] in omega (arith, g, h, p);
+  }
+
+  and_cut : (parts : List Form) → IsCutTo changes false (And parts) (joined true (turned_parts changes false parts))
   and_cut parts = by (filter (may_turn changes false) parts) refl where
-    by : (kept : List Form) → filter (may_turn changes false) parts ≡ kept → IsCutTo changes false (And parts) (some_joined true (map (regressed changes) kept))
+    may : (part : Form) (rest : List Form) → filter (may_turn changes false) parts ≡ part ∷ rest → may_turn changes false (And parts) ≡ true
+    may part rest is = may_turn-And changes false parts ∙ some_left (may_turn changes false) parts part rest is
+
+    are : (part : Form) (rest : List Form) → filter (may_turn changes false) parts ≡ part ∷ rest → IsNarrowed false changes (And parts) (And (part ∷ rest))
+    are part rest is = subst (λ kept. IsNarrowed false changes (And parts) (And kept)) is (narrowed_and changes parts (may part rest is))
+
+    by : (kept : List Form) → filter (may_turn changes false) parts ≡ kept → IsCutTo changes false (And parts) (joined true (map (regressed changes) kept))
     by [] none = record {
       part = True;
       narrowed = narrowed_still changes false (And parts) (may_turn-And changes false parts ∙ none_left (may_turn changes false) parts none);
       is = sym (regressed-True changes);
     }
-    by (part ∷ rest) is = record {
-      part = And (part ∷ rest);
-      narrowed = subst (λ kept. IsNarrowed false changes (And parts) (And kept)) is
-          (narrowed_and changes parts (may_turn-And changes false parts ∙ some_left (may_turn changes false) parts part rest is));
-      is = sym (regressed-And changes (part ∷ rest));
-    }
+    by (part ∷ []) is = record { part = part; narrowed = one_and false (And parts) part (may part [] is) (are part [] is); is = refl }
+    by (part ∷ other ∷ rest) is = record { part = And (part ∷ other ∷ rest); narrowed = are part (other ∷ rest) is; is = sym (regressed-And changes (part ∷ other ∷ rest)) }
 
-  or_cut : (parts : List Form) → IsCutTo changes true (Or parts) (some_joined false (turned_parts changes true parts))
+  or_cut : (parts : List Form) → IsCutTo changes true (Or parts) (joined false (turned_parts changes true parts))
   or_cut parts = by (filter (may_turn changes true) parts) refl where
-    by : (kept : List Form) → filter (may_turn changes true) parts ≡ kept → IsCutTo changes true (Or parts) (some_joined false (map (regressed changes) kept))
+    may : (part : Form) (rest : List Form) → filter (may_turn changes true) parts ≡ part ∷ rest → may_turn changes true (Or parts) ≡ true
+    may part rest is = may_turn-Or changes true parts ∙ some_left (may_turn changes true) parts part rest is
+
+    are : (part : Form) (rest : List Form) → filter (may_turn changes true) parts ≡ part ∷ rest → IsNarrowed true changes (Or parts) (Or (part ∷ rest))
+    are part rest is = subst (λ kept. IsNarrowed true changes (Or parts) (Or kept)) is (narrowed_or changes parts (may part rest is))
+
+    by : (kept : List Form) → filter (may_turn changes true) parts ≡ kept → IsCutTo changes true (Or parts) (joined false (map (regressed changes) kept))
     by [] none = record {
       part = False;
       narrowed = narrowed_still changes true (Or parts) (may_turn-Or changes true parts ∙ none_left (may_turn changes true) parts none);
       is = sym (regressed-False changes);
     }
-    by (part ∷ rest) is = record {
-      part = Or (part ∷ rest);
-      narrowed = subst (λ kept. IsNarrowed true changes (Or parts) (Or kept)) is
-          (narrowed_or changes parts (may_turn-Or changes true parts ∙ some_left (may_turn changes true) parts part rest is));
-      is = sym (regressed-Or changes (part ∷ rest));
-    }
+    by (part ∷ []) is = record { part = part; narrowed = one_or true (Or parts) part (may part [] is) (are part [] is); is = refl }
+    by (part ∷ other ∷ rest) is = record { part = Or (part ∷ other ∷ rest); narrowed = are part (other ∷ rest) is; is = sym (regressed-Or changes (part ∷ other ∷ rest)) }
 
   cut : (up : Bool) (form : Form) → IsCutTo changes up form (turned changes up form)
   cut up True = whole_cut up True
@@ -363,8 +388,8 @@ module _ (changes : List Change) where
   cut up (Atom atom) = whole_cut up (Atom atom)
   cut up (Not' shape part) = whole_cut up (Not' shape part)
   cut true (And' shape parts) = whole_cut true (And' shape parts)
-  cut false (And' shape parts) = subst (λ form. IsCutTo changes false form (some_joined true (turned_parts changes false (items-the_row-Form _ parts)))) (and_is shape parts) (and_cut (items-the_row-Form _ parts))
-  cut true (Or' shape parts) = subst (λ form. IsCutTo changes true form (some_joined false (turned_parts changes true (items-the_row-Form _ parts)))) (or_is shape parts) (or_cut (items-the_row-Form _ parts))
+  cut false (And' shape parts) = subst (λ form. IsCutTo changes false form (joined true (turned_parts changes false (items-the_row-Form _ parts)))) (and_is shape parts) (and_cut (items-the_row-Form _ parts))
+  cut true (Or' shape parts) = subst (λ form. IsCutTo changes true form (joined false (turned_parts changes true (items-the_row-Form _ parts)))) (or_is shape parts) (or_cut (items-the_row-Form _ parts))
   cut false (Or' shape parts) = whole_cut false (Or' shape parts)
 
 -- what is made is right for the effects, whose changes were sorted

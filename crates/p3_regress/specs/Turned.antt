@@ -1,13 +1,13 @@
 -- Which way the changes of a step may turn a form, and what to look at before them where the form is not yet turned.
-use Rattle.std.specs.Prelude.{◌≡◌, ◌≤◌, Bool, true, false, not, if◌then◌else◌, List, [], ◌∷◌, filter, length, map}
+use Rattle.std.specs.Prelude.{◌≡◌, ◌≤◌, Bool, true, false, not, if◌then◌else◌, List, filter, length, map}
 use Rattle.std.specs.List.{list_any}
 use Rattle.p3_formula.specs.Folds.{fold_form}
 use Rattle.p3_formula.specs.Forms.{State, truth, HasAtomsOf, IsBelow, nodes}
 use Rattle.p3_formula.specs.Next.{after}
-use Rattle.p3_formula.specs.Simplified.{constant}
+use Rattle.p3_formula.specs.Simplified.{constant, joined}
 use Rattle.p3_formula.specs.declared.form.Change.{Change}
 use Rattle.p3_formula.specs.declared.form.Form.{Form, items-the_row-Form}
-use Rattle.p3_formula.specs.declared.form.Form.TheVariants.{True, False, Atom, And, Or, Not', And', Or'}
+use Rattle.p3_formula.specs.declared.form.Form.TheVariants.{True, False, Atom, Not', And', Or'}
 use Rattle.p3_formula.specs.declared.form.Form.TheOpen as layer
 use Rattle.p3_regress.specs.Regressed.{is_of, growth, regressed}
 
@@ -43,12 +43,6 @@ pub record IsNarrowed (up : Bool) (effects : List Change) (form part : Form) : T
 abbrev pub turned_parts : List Change → Bool → List Form → List Form
 turned_parts changes up parts = map (regressed changes) (filter (may_turn changes up) parts)
 
--- the conjunction of the parts, or else their disjunction, and a constant where there is none
-abbrev pub some_joined : Bool → List Form → Form
-some_joined every [] = constant every
-some_joined true (part ∷ parts) = And (part ∷ parts)
-some_joined false (part ∷ parts) = Or (part ∷ parts)
-
 abbrev pub turned_whole : List Change → Bool → Form → Form
 turned_whole changes up form = if may_turn changes up form then regressed changes form else constant (not up)
 
@@ -58,5 +52,5 @@ turned changes up True = turned_whole changes up True
 turned changes up False = turned_whole changes up False
 turned changes up (Atom atom) = turned_whole changes up (Atom atom)
 turned changes up (Not' shape part) = turned_whole changes up (Not' shape part)
-turned changes up (And' shape parts) = if up then turned_whole changes true (And' shape parts) else some_joined true (turned_parts changes false (items-the_row-Form _ parts))
-turned changes up (Or' shape parts) = if up then some_joined false (turned_parts changes true (items-the_row-Form _ parts)) else turned_whole changes false (Or' shape parts)
+turned changes up (And' shape parts) = if up then turned_whole changes true (And' shape parts) else joined true (turned_parts changes false (items-the_row-Form _ parts))
+turned changes up (Or' shape parts) = if up then joined false (turned_parts changes true (items-the_row-Form _ parts)) else turned_whole changes false (Or' shape parts)

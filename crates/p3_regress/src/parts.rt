@@ -62,8 +62,8 @@ impl PartsByAtom {
         })
     }
 
-    /// The places of the parts that read an atom which one of the changes names, by rising place. One
-    /// may stand several times.
+    /// The places of the parts that read an atom which one of the changes names, by rising place.
+    /// One may stand several times.
     pub(crate) fn places_read(
         &self,
         alloc: Global,

@@ -91,8 +91,8 @@ fn push_places(places: &mut Vec<usize>, readers: &[Reader]) -> Result<(), NoMemo
     Ok(())
 }
 
-/// The places at which an atom is read that one of the changes names, by rising place, once for each
-/// time that it is read there.
+/// The places at which an atom is read that one of the changes names, by rising place, once for
+/// each time that it is read there.
 pub(crate) fn places_read(
     alloc: Global,
     readers: &[Reader],

@@ -133,7 +133,8 @@ impl<'e> Regressed<'e> {
         self.turned_by(alloc, form, up, &PartsByAtom::none(alloc))
     }
 
-    /// Whether the step may turn the form true, or else false, where its parts are looked up by atom.
+    /// Whether the step may turn the form true, or else false, where its parts are looked up by
+    /// atom.
     pub fn may_turn_by(
         &self,
         alloc: Global,
@@ -147,9 +148,9 @@ impl<'e> Regressed<'e> {
         may_turn_by(alloc, &self.changes, form, up, by_atom)
     }
 
-    /// Makes what `turned` makes of the form, whose parts are looked up by atom: of a conjunction that
-    /// may turn false, and of a disjunction that may turn true, it looks only at the parts that the step
-    /// touches.
+    /// Makes what `turned` makes of the form, whose parts are looked up by atom: of a conjunction
+    /// that may turn false, and of a disjunction that may turn true, it looks only at the parts
+    /// that the step touches.
     pub fn turned_by(
         &mut self,
         alloc: Global,
@@ -170,8 +171,8 @@ impl<'e> Regressed<'e> {
         turned(alloc, &self.changes, &self.noted, form, up, by_atom)
     }
 
-    /// The places of the readers of an atom that a change of the step names, by rising place. One may
-    /// stand several times.
+    /// The places of the readers of an atom that a change of the step names, by rising place. One
+    /// may stand several times.
     pub fn places_read(&self, alloc: Global, readers: &[Reader]) -> Result<Vec<usize>, NoMemory>
         requires { AreRising readers.now }
         ensures read { IfOk result (λ places. (place : ℕ)
@@ -194,8 +195,8 @@ impl<'e> Regressed<'e> {
 ///
 /// An atom becomes the disjunction of the conditions that set it and of its staying set, and an
 /// atom that no change names stays. The changes are sorted once, each atom's are found by halving,
-/// and equal parts are regressed once, so that the time is near-linear in the form, the changes
-/// and what is made.
+/// and what many changes make of one atom is made once, so that the time is near-linear in the form,
+/// the changes and what is made.
 pub fn regress(alloc: Global, form: &Form, effects: &Effects) -> Result<Form, NoMemory>
     ensures truth { IfOk result (λ before. IsTrueBefore effects.now form.now before) }
     ensures untouched { IsUntouched effects.now form.now

@@ -214,17 +214,28 @@ fn constant(value: bool) -> Form
     if value { Form::True } else { Form::False }
 }
 
-/// The conjunction of the parts, or else their disjunction, where there are any.
-fn some_joined(parts: Vec<Form>, every: bool) -> Form
-    ensures { result ≡ turned.some_joined every parts.items }
+/// The conjunction of the parts, or else their disjunction, where there are two or more.
+fn joined(mut parts: Vec<Form>, every: bool) -> Form
+    ensures { result ≡ simplified.joined every parts.items }
 {
-    if parts.is_empty() {
-        return constant(every);
+    if parts.len() > 1 {
+        return together(List::from(parts), every);
     }
+    match parts.pop() {
+        Some(part) => part,
+        None => constant(every),
+    }
+}
+
+/// A conjunction of the parts, or else their disjunction.
+fn together(parts: List<Form>, every: bool) -> Form
+    ensures { result ≡ simplified.together every parts }
+{
     if every {
-        return Form::And(List::from(parts));
+        Form::And(parts)
+    } else {
+        Form::Or(parts)
     }
-    Form::Or(List::from(parts))
 }
 
 /// The form before the changes, or where they cannot turn it the constant that says so.
@@ -249,8 +260,8 @@ fn turned_whole(
 }
 
 /// What of the form to look at after the changes, where it is not yet turned, before them: of a
-/// conjunction that may turn false, and of a disjunction that may turn true, the parts that may do so
-/// alone.
+/// conjunction that may turn false, and of a disjunction that may turn true, the parts that may do
+/// so alone.
 #[tactic(auto, using(crate::proofs::PartLaws::parts_laws, crate::proofs::PartLaws::turned_laws))]
 pub(crate) fn turned(
     alloc: Global,
@@ -271,12 +282,12 @@ pub(crate) fn turned(
                 return turned_whole(alloc, changes, noted, form, true, by_atom);
             }
             let kept = turned_parts(alloc, changes, noted, parts.items(), false, by_atom)?;
-            Ok(some_joined(kept, true))
+            Ok(joined(kept, true))
         }
         Form::Or(parts) => {
             if up {
                 let kept = turned_parts(alloc, changes, noted, parts.items(), true, by_atom)?;
-                return Ok(some_joined(kept, false));
+                return Ok(joined(kept, false));
             }
             turned_whole(alloc, changes, noted, form, false, by_atom)
         }
