@@ -1,5 +1,5 @@
 -- How the steps of a plan are found one by one.
-use Rattle.std.proofs.Common.{◌≡◌, ◌∙◌, ℕ, suc, ◌+◌, ◌<◌, ◌≤◌, refl, sym, ap, subst, List, [], ◌∷◌, ◌++◌, length, get_or, take, drop, arith, Some, None}
+use Rattle.std.proofs.Common.{◌≡◌, ◌∙◌, ℕ, suc, ◌+◌, ◌<◌, ◌≤◌, refl, sym, ap, subst, List, [], ◌∷◌, ◌++◌, length, get_or, take, drop, arith, Option, Some, None}
 use Rattle.std.proofs.Math.Seq.{drop-cons}
 use Rattle.std.proofs.lemmas.Bool.{true≢false}
 use Rattle.std.proofs.lemmas.List.{append-nil, length-take, take-append-drop, take_all, take_more}
@@ -16,7 +16,8 @@ use Rattle.p3_types.specs.declared.finding.Found.{Found}
 use Rattle.p3_types.specs.declared.finding.Found.TheVariants as found
 use Rattle.p3_ground.specs.PlansByNumber.{AreNumbers}
 use Rattle.p3_run.specs.Runs.{most_steps}
-use Rattle.p3_eval.specs.Steps.{AreFirst, LacksNumber}
+use Rattle.p3_eval.specs.Judged.{found_count}
+use Rattle.p3_eval.specs.Steps.{AreFirst, GoesOnAs, LacksNumber}
 use Rattle.p3_eval.proofs.JudgeLemmas.{numbers_more}
 
 -- what is found, and is no number
@@ -33,6 +34,36 @@ found_again T K step number found.Arguments has is =
     let own = K.own number step has in
     let same = Some-injective own.action is.action (sym own.named ∙ is.named) in
     absurd (true≢false (sym own.args ∙ ap (λ (action : Action). are_arguments T action.params step.args) same ∙ is.args))
+
+-- a plan whose steps have numbers is found whole
+module _ (T : Task) (K : HasStepNumbers T) where
+  at_seam : (front rest : Plan) (step : Step) (numbers : List ℕ) → AreNumbers T (front ++ step ∷ rest) numbers → (number : ℕ) × HasNumber T step number
+  at_seam [] rest step [] are = absurd are
+  at_seam [] rest step (number ∷ numbers) are = (number, are.0)
+  at_seam (first ∷ front) rest step [] are = absurd are
+  at_seam (first ∷ front) rest step (number ∷ numbers) are = at_seam front rest step numbers are.1
+
+  has_one : (step : Step) (number : ℕ) (answer : Found) → HasNumber T step number → LacksNumber T step answer → ⊥
+  has_one step number (found.Number own) has lacks = lacks
+  has_one step number found.UnknownAction has lacks = let same = found_again T K step number found.UnknownAction has lacks in cc
+  has_one step number found.Arguments has lacks = let same = found_again T K step number found.Arguments has lacks in cc
+
+  module _ (plan : Plan) (all : List ℕ) (are : AreNumbers T plan all) (numbers : List ℕ) (next : Option Found) (first : AreFirst T plan numbers next) where
+    pub all_numbered : AreNumbers T plan numbers
+    all_numbered = by next first.behind
+      where
+        by : (next : Option Found) → GoesOnAs T first.rest next → AreNumbers T plan numbers
+        by None ends = subst (λ list. AreNumbers T list numbers) (sym (first.parts ∙ ap (λ list. first.front ++ list) ends ∙ append-nil first.front)) first.are
+        by (Some answer) (step, more, cuts, lacks) =
+            let (number, has) = at_seam first.front more step all (subst (λ list. AreNumbers T list all) (first.parts ∙ ap (λ list. first.front ++ list) cuts) are) in
+            absurd (has_one step number answer has lacks)
+
+    pub few_of_all : found_count numbers next ≤ most_steps → length plan ≤ most_steps
+    few_of_all few = let long = AllZip-long (HasNumber T) plan numbers all_numbered in by next few long
+      where
+        by : (next : Option Found) → found_count numbers next ≤ most_steps → length numbers ≡ length plan → length plan ≤ most_steps
+        by None few long = omega (arith, few, long)
+        by (Some answer) few long = omega (arith, few, long)
 
 module _ (T : Task) (plan : Plan) (place : ℕ) (numbers : List ℕ) (are : AreNumbers T (take place plan) numbers) where
   module _ (step : Step) (within : place < length plan) (at : step ≡ get_or plan place step) where

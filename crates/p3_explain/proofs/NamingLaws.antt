@@ -36,8 +36,8 @@ use Rattle.p3_ground.proofs.Mentioned.{instance_name_is_ordered, step_name_is_or
 use Rattle.p3_ground.proofs.NameNumbers.{at_place, no_place}
 use Rattle.p3_ground.proofs.PlanNumbers.{has_numbers}
 use Rattle.p3_ground.proofs.Walk.{Met, begun, kept_where_fits, next_met}
-use Rattle.p3_eval.specs.Steps.{AreFirst, GoesOnAs, LacksNumber}
-use Rattle.p3_eval.proofs.StepsLemmas.{found_again}
+use Rattle.p3_eval.specs.Steps.{AreFirst}
+use Rattle.p3_eval.proofs.StepsLemmas.{all_numbered}
 use Rattle.p3_explain.specs.Naming.{instance_number, name_numbered, own_number, pref_number}
 
 -- the name of the number of a name that is one of the ordered ones
@@ -63,29 +63,6 @@ zipped_names {A = A} {B = B} T Q xs ys name number zipped each k = by (slice_get
     by None (Some y) e left right = absurd right
     by (Some x) None e left right = absurd left
     by (Some x) (Some y) e left right = each k x y e left
-
--- a plan whose steps fit has no step without a number
-module _ (T : Task) (K : HasStepNumbers T) where
-  at_seam : (front rest : Plan) (step : Step) (numbers : GroundPlan) → AreNumbers T (front ++ step ∷ rest) numbers → (number : ℕ) × HasNumber T step number
-  at_seam [] rest step [] are = absurd are
-  at_seam [] rest step (number ∷ numbers) are = (number, are.0)
-  at_seam (first ∷ front) rest step [] are = absurd are
-  at_seam (first ∷ front) rest step (number ∷ numbers) are = at_seam front rest step numbers are.1
-
-  has_one : (step : Step) (number : ℕ) (found : Found) → HasNumber T step number → LacksNumber T step found → ⊥
-  has_one step number (Number n) has lacks = lacks
-  has_one step number UnknownAction has lacks = let same = found_again T K step number UnknownAction has lacks in cc
-  has_one step number Arguments has lacks = let same = found_again T K step number Arguments has lacks in cc
-
-  all_numbered : (plan : Plan) (numbers : List ℕ) (next : Option Found) → AreFirst T plan numbers next → steps_fit T plan ≡ true → AreNumbers T plan numbers
-  all_numbered plan numbers next first fit = by next first.behind
-    where
-      by : (next : Option Found) → GoesOnAs T first.rest next → AreNumbers T plan numbers
-      by None ends = subst (λ list. AreNumbers T list numbers) (sym (first.parts ∙ ap (λ list. first.front ++ list) ends ∙ append-nil first.front)) first.are
-      by (Some found) (step, more, cuts, lacks) =
-          let (all, are) = has_numbers T K plan fit in
-          let (number, has) = at_seam first.front more step all (subst (λ list. AreNumbers T list all) (first.parts ∙ ap (λ list. first.front ++ list) cuts) are) in
-          absurd (has_one step number found has lacks)
 
 module _ (T : Task) (atoms : List Fact) (G : GroundTask) (S : StandsBy T atoms G) where
   pub instance_named : (k : ℕ) → name_numbered T (instance_number G k) ≡ instance_name T k
@@ -122,4 +99,5 @@ module _ (T : Task) (atoms : List Fact) (G : GroundTask) (S : StandsBy T atoms G
     pub first_named : (plan : Plan) (numbers : List ℕ) (next : Option Found) → AreFirst T plan numbers next → All (LeftOutAt T G) numbers → steps_fit T plan ≡ true
         → (k : ℕ) → name_numbered T (option_and_then (λ number. pref_number G number pref) (slice_get numbers k)) ≡ option_and_then (λ step. pref_name T step pref) (slice_get plan k)
     first_named plan numbers next first left fit =
-        steps_named plan numbers (those_are_asked T G plan numbers left (all_numbered T K plan numbers next first fit)) fit
+        let (all, are) = has_numbers T K plan fit in
+        steps_named plan numbers (those_are_asked T G plan numbers left (all_numbered T K plan all are numbers next first)) fit

@@ -1,5 +1,6 @@
 mod AnswerLaws
 mod FaithfulLaws
+mod LiftLaws
 mod LossLaws
 mod NameLaws
 mod PlainLaws
