@@ -211,7 +211,7 @@ module _ (texts : AllTexts) (task : Task) (accepted : AreAcceptedFor Source text
   pub rejected_plan : (how : code.Ending) → IsRejectedBy (λ end. OfSteps task steps (IsFaultOf task end)) how → IsRejectedPlan texts how
   rejected_plan =
       says_more (λ end. OfSteps task steps (IsFaultOf task end)) (RejectsPlan texts) (λ how told.
-        let its = told the_plan.plan the_steps in inr (record { task = task; plan = the_plan.plan; texts = its_texts; fault = its.fault; first = its.first; says = its.says }))
+      let its = told the_plan.plan the_steps in inr (record { task = task; plan = the_plan.plan; texts = its_texts; fault = its.fault; first = its.first; says = its.says }))
 
   pub is_explanation : (report : List ℕ) → OfSteps task steps (IsExplained task report) → IsExplanation texts.domain texts.problem texts.plan report
   is_explanation report told = record { task = task; plan = the_plan.plan; texts = its_texts; explained = told the_plan.plan the_steps }
@@ -219,7 +219,7 @@ module _ (texts : AllTexts) (task : Task) (accepted : AreAcceptedFor Source text
   pub unexplained_plan : (how : code.Ending) → IsRejectedBy (λ end. OfSteps task steps (IsUnfit task end)) how → IsUnexplained texts how
   unexplained_plan =
       says_more (λ end. OfSteps task steps (IsUnfit task end)) (RejectsExplaining texts) (λ how told.
-        inr (record { task = task; plan = the_plan.plan; texts = its_texts; unfit = told the_plan.plan the_steps }))
+      inr (record { task = task; plan = the_plan.plan; texts = its_texts; unfit = told the_plan.plan the_steps }))
 
 pub refused_flat : (texts : AllTexts) (how : code.Ending) → IsRefusedTask texts how → IsStoppedFlat texts how
 refused_flat texts = says_more (IsRefusal (given_task Source texts.domain texts.problem) texts) (StopsFlat texts) (λ how said. inl said)

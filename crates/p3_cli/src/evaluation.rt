@@ -106,11 +106,7 @@ fn judged(alloc: Global, accepted: &Accepted, steps: &Steps) -> Result<Report, E
     let ground_task = accepted.ground_steps(alloc, steps.numbers.as_slice())?;
     let mut run = accepted.grounded(&ground_task).begin(alloc)?;
     match run.judge_steps(steps) {
-        None => Ok(Report::Evaluate(evaluated_report(
-            alloc,
-            accepted.checked(),
-            &run,
-        )?)),
+        None => Ok(Report::Evaluate(evaluated_report(alloc, accepted.checked(), &run)?)),
         Some(fault) => Err(invalid(&fault)),
     }
 }
