@@ -1,1 +1,0 @@
-use Rattle.p3_embed.proofs.plans.embed.Goals as goal
