@@ -1,9 +1,8 @@
 -- The numbers of preference names in a ground task are those of the names in the task for which it stands.
-use Rattle.std.proofs.Common.{◌≡◌, ◌∙◌, ℕ, zero, suc, refl, sym, ap, subst, true, List, [], ◌∷◌, ◌++◌, Option, Some, None}
+use Rattle.std.proofs.Common.{◌≡◌, ◌∙◌, ℕ, zero, suc, refl, sym, ap, true, List, [], ◌∷◌, Option, Some, None}
 use Rattle.std.specs.Prelude.{option_and_then, position, slice_get, IsSomeAnd, MatchOption}
 use Rattle.std.specs.List.{All, AllZip}
 use Rattle.std.proofs.lemmas.Bool.{and_parts, true≢false}
-use Rattle.std.proofs.lemmas.List.{append-nil}
 use Rattle.std.proofs.lemmas.Slice.Eq.{bytes_eq-Decides}
 use Rattle.std.proofs.lemmas.Slice.Zip.{AllZip-left, AllZip-right}
 use Rattle.p3_tree.specs.Constraints.{Instance, instances}
@@ -13,7 +12,7 @@ use Rattle.p3_tree.specs.Names.{Name, same_name}
 use Rattle.p3_tree.specs.Plans.{Plan, fits, state_after, steps_fit}
 use Rattle.p3_tree.specs.PreferenceNames.{ordered_names}
 use Rattle.p3_tree.specs.Reports.Explanations.{instance_name, pref_name}
-use Rattle.p3_tree.specs.StepNumbers.{HasNumber, HasStepNumbers}
+use Rattle.p3_tree.specs.StepNumbers.{HasStepNumbers}
 use Rattle.p3_tree.specs.States as named
 use Rattle.p3_tree.specs.States.{start}
 use Rattle.p3_tree.specs.declared.state.Fact.{Fact}
@@ -28,8 +27,7 @@ use Rattle.p3_formula.specs.declared.modal.GroundSoft.{GroundSoft}
 use Rattle.p3_formula.specs.declared.task.GroundStep.{GroundStep}
 use Rattle.p3_formula.specs.declared.task.GroundTask.{GroundTask}
 use Rattle.p3_types.specs.declared.finding.Found.{Found}
-use Rattle.p3_types.specs.declared.finding.Found.TheVariants.{Arguments, Number, UnknownAction}
-use Rattle.p3_ground.specs.PlansByNumber.{AreAsked, AreNumbers}
+use Rattle.p3_ground.specs.PlansByNumber.{AreAsked}
 use Rattle.p3_ground.specs.StandsFor.{IsAsked, IsMadeOf, LeftOutAt, PrefStands, SoftStands, StandsBy, number_of_name}
 use Rattle.p3_ground.proofs.Asked.{those_are_asked}
 use Rattle.p3_ground.proofs.Mentioned.{instance_name_is_ordered, step_name_is_ordered}

@@ -1,4 +1,4 @@
-use Rattle.std.proofs.Common.{◌∙◌, ap, sym, subst}
+use Rattle.std.proofs.Common.{◌∙◌, ap, subst, sym}
 use Rattle.std.specs.Prelude.{option_map}
 use Rattle.p3_formula.specs.GroundPlans.{GroundValid}
 use Rattle.p3_formula.specs.Targets.{Compiled}
@@ -19,6 +19,6 @@ embed_numbers-requires c =
           (subst (λ (weights : Weights). Compiled whole.ground_task weights c.args.target.now) (sym c.weights.ensures.weights) c.requires.compiled);
       valid = subst (λ (G : GroundTask). GroundValid G c.as_slice.result.now) (sym c.ground_task.ensures)
           (subst (GroundValid whole.ground_task) (sym c.as_slice.ensures.value)
-          (numbers_are_valid whole.checked.task whole.ground_task whole.weights (belong_together whole) plan
-          (c.in_ok-fault.ensures.told plan are ∙ ap (option_map fault_in) c.in_default.is) (whole_leaves_out whole) c.args.steps.now.numbers.items (c.in_ok-fault.ensures.done c.in_default.is plan are)));
+          (numbers_are_valid whole.checked.task whole.ground_task whole.weights (belong_together whole) plan (c.in_ok-fault.ensures.told plan are ∙ ap (option_map fault_in) c.in_default.is)
+          (whole_leaves_out whole) c.args.steps.now.numbers.items (c.in_ok-fault.ensures.done c.in_default.is plan are)));
     }
