@@ -68,7 +68,7 @@ module _ (T U read : Task) (same : erased read ≡ erased U) where
 
 module _ (T : Task) (G : GroundTask) (w : Weights) (X : Target) (can : CanBeCompiled T G w) (compiled : Compiled G w X) (p q : Plan) (cost : ℤ) (is : IsEmbeddedPlan T G X p q) (costs : cost ≡ pos (target_cost X (names_of q))) where
   stands : StandsFor T G
-  stands = record { atoms = can.grounding.atoms; stands = can.grounding.stands }
+  stands = record { atoms = can.grounding.atoms; stands = can.grounding.stands; left_out = can.grounding.left_out }
 
   faithful : Faithful T (task_of X)
   faithful = compiled_faithful T G w X can.well_formed stands can.linear can.weighed compiled

@@ -1,20 +1,30 @@
 -- A plan that is judged by the steps that it names.
-use Rattle.std.proofs.Common.{◌≡◌, ◌∙◌, ℕ, List, Option, Some, None, ap, sym, subst}
+use Rattle.std.proofs.Common.{◌≡◌, ◌∙◌, ℕ, List, Option, None, ap, sym, subst}
 use Rattle.std.specs.List.{All}
 use Rattle.std.specs.Prelude.{option_map}
 use Rattle.p3_tree.specs.Plans.{Plan}
-use Rattle.p3_tree.specs.Validity.{Valid, first_fault}
+use Rattle.p3_tree.specs.Validity.{Valid}
 use Rattle.p3_tree.specs.declared.task.Task.{Task}
 use Rattle.p3_tree.proofs.ValidityLemmas.{valid_where_no_fault}
 use Rattle.p3_formula.specs.declared.target.Weights.{Weights}
 use Rattle.p3_formula.specs.declared.task.GroundTask.{GroundTask}
-use Rattle.p3_ground.specs.StandsFor.{LeftOutAt}
+use Rattle.p3_types.specs.declared.checked.Checked.{Checked}
+use Rattle.p3_ground.specs.StandsFor.{LeavesOutOnlyUnfit, LeftOutAt}
 use Rattle.p3_run.specs.Runs.{Ran, begun}
 use Rattle.p3_eval.specs.Judged.{IsJudged, fault_in}
 use Rattle.p3_eval.specs.Runs.{BelongTogether}
-use Rattle.p3_eval.specs.Steps.{AreStepsOf, OfItsSteps}
+use Rattle.p3_eval.specs.Steps.{AreStepsOf, OfItsSteps, OfPlanText, OfSteps}
 use Rattle.p3_eval.specs.declared.fault.PlanFault.{PlanFault}
 use Rattle.p3_eval.specs.declared.steps.Steps.{Steps}
+use Rattle.p3_explain.specs.Explaining.{IsExplainFail}
+use Rattle.p3_explain.specs.declared.error.ExplainFail.{ExplainFail}
+use Rattle.p3_explain.specs.declared.error.ExplainFail.TheVariants as fail
+use Rattle.p3_cli.specs.Ending.{Ending}
+use Rattle.p3_cli.specs.Explaining.{IsUnfit, TellsFail}
+
+-- the steps that are found of a text, for the task that was checked
+pub steps_are : (text : List ℕ) (one checked : Checked) (steps : Steps) → one ≡ checked → OfPlanText text (λ plan. AreStepsOf one.task plan steps) → OfPlanText text (λ plan. AreStepsOf checked.task plan steps)
+steps_are text one checked steps same = subst (λ (each : Checked). OfPlanText text (λ plan. AreStepsOf each.task plan steps)) same
 
 module _ (T : Task) (G : GroundTask) (w : Weights) (steps : Steps) (old new : Ran) (found : Option PlanFault) (together : BelongTogether T G w) (left : All (LeftOutAt T G) steps.numbers.items)
     (is : old ≡ begun G w) (judged : OfItsSteps old steps (λ task plan. IsJudged task plan old new found)) (plan : Plan) (are : AreStepsOf T plan steps) where
@@ -30,3 +40,16 @@ module _ (T : Task) (G : GroundTask) (w : Weights) (steps : Steps) (old new : Ra
   still_together none =
       let done = plan_judged.done none in
       subst (λ weights. BelongTogether T new.task weights) (sym (done.weights ∙ ap (λ (ran : Ran). ran.weights) is)) (subst (λ ground. BelongTogether T ground w) (sym (done.task ∙ ap (λ (ran : Ran). ran.task) is)) together)
+
+-- where the steps are asked of a ground task, they are asked of one that is the same
+pub asked_there : (T : Task) (G H : GroundTask) (numbers items : List ℕ) → H ≡ G → numbers ≡ items → All (LeftOutAt T G) numbers → All (LeftOutAt T H) items
+asked_there T G H numbers items same are left = subst (λ list. All (LeftOutAt T H) list) are (subst (λ ground. All (LeftOutAt T ground) numbers) (sym same) left)
+
+-- what is left out is left out at each number
+pub all_left : (T : Task) (G : GroundTask) → LeavesOutOnlyUnfit T G → (numbers : List ℕ) → All (LeftOutAt T G) numbers
+all_left T G unfit numbers = λ k d within. unfit _
+
+-- a plan that is not explained has a step that does not fit, where the ending says so
+pub unfit : (T : Task) (steps : Steps) (why : ExplainFail) → OfSteps T steps (λ plan. IsExplainFail T plan why) → (how : Ending) → TellsFail why how → OfSteps T steps (IsUnfit T how)
+unfit T steps (fail.Fault told) fails how says plan are = record { fault = fault_in told; first = fails plan are; says = says }
+unfit T steps fail.NoMemory fails how says plan are = absurd says

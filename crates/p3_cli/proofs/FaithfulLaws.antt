@@ -23,8 +23,9 @@ use Rattle.p3_formula.specs.declared.target.Target.{Target}
 use Rattle.p3_formula.specs.declared.target.Weights.{Weights}
 use Rattle.p3_formula.specs.declared.task.GroundTask.{GroundTask}
 use Rattle.p3_formula.proofs.NamedLaws.{translates, well_named}
-use Rattle.p3_ground.specs.PlansByNumber.{AreNumbers, are_bare, names_of}
+use Rattle.p3_ground.specs.PlansByNumber.{AreAsked, AreNumbers, are_bare, names_of}
 use Rattle.p3_ground.specs.StandsFor.{StandsFor, StandsBy, SoftStands}
+use Rattle.p3_ground.proofs.Asked.{all_are_asked}
 use Rattle.p3_ground.proofs.Counts.{counts_agree, losses_alike}
 use Rattle.p3_ground.proofs.Extras.{extras_alike}
 use Rattle.p3_ground.proofs.Lifts.{lift_alike}
@@ -74,6 +75,9 @@ module _ (T : Task) (G : GroundTask) (w : Weights) (X : Target) (well : WellForm
   S : StandsBy T stands.atoms G
   S = stands.stands
 
+  asked : (plan : Plan) (numbers : GroundPlan) → AreNumbers T plan numbers → AreAsked T G plan numbers
+  asked = all_are_asked T G stands.left_out
+
   weighed : IsWeights T w
   weighed = is_weights T linear (counts_names T well) w has
 
@@ -84,9 +88,9 @@ module _ (T : Task) (G : GroundTask) (w : Weights) (X : Target) (well : WellForm
   loss_above : (plan : Plan) (numbers : GroundPlan) → AreNumbers T plan numbers → steps_fit T plan ≡ true → loss T plan ≡ base_loss T +ℤ pos (ground_loss G w numbers)
   unfolding loss
   loss_above plan numbers are fit =
-      ap (loss_at T (violated T plan)) (counts_agree T stands.atoms G S K plan numbers are fit).costs
+      ap (loss_at T (violated T plan)) (counts_agree T stands.atoms G S K plan numbers (asked plan numbers are) fit).costs
       ∙ weighed.linear (violated T plan) (ground_cost G numbers)
-      ∙ ap (λ n. base_loss T +ℤ pos n) (sym (losses_alike T stands.atoms G S K w has.count plan numbers are fit))
+      ∙ ap (λ n. base_loss T +ℤ pos n) (sym (losses_alike T stands.atoms G S K w has.count plan numbers (asked plan numbers are) fit))
 
   above_base : (l b : ℤ) (n : ℕ) → l ≡ b +ℤ pos n → pos n ≡ l -ℤ b
   above_base l b n e = omega (arith, ints, e)
@@ -107,7 +111,7 @@ module _ (T : Task) (G : GroundTask) (w : Weights) (X : Target) (well : WellForm
     is_sound = translating.sound names target_valid
 
     lifted_valid : Valid T (lift T q)
-    lifted_valid = valid_alike T stands.atoms G S K (lift T q) (ground_lift G names) alike ∙ is_sound.valid
+    lifted_valid = valid_alike T stands.atoms G S K (lift T q) (ground_lift G names) (asked (lift T q) (ground_lift G names) alike) ∙ is_sound.valid
 
     fit : steps_fit T (lift T q) ≡ true
     fit = valid_fits T (lift T q) lifted_valid
@@ -123,7 +127,7 @@ module _ (T : Task) (G : GroundTask) (w : Weights) (X : Target) (well : WellForm
     long =
         sym (length-map q (λ step. step.action)) ∙ translating.length names target_valid
         ∙ (λ i. AllZip-long (HasNumber T) (lift T q) (ground_lift G names) alike i + 1 + AllZip-long (SoftStands T stands.atoms) (instances T) G.soft S.soft i
-        + sym (extras_alike T w has.by_name stands.atoms G S K (lift T q) (ground_lift G names) alike fit) i)
+        + sym (extras_alike T w has.by_name stands.atoms G S K (lift T q) (ground_lift G names) (asked (lift T q) (ground_lift G names) alike) fit) i)
 
   -- ---- a valid plan of the task
 
@@ -147,7 +151,7 @@ module _ (T : Task) (G : GroundTask) (w : Weights) (X : Target) (well : WellForm
   one_source : (p : Plan) → Valid T p → HasOneSource T (task_of X) p
   one_source p valid =
       let (numbers, are) = has_numbers T K p (valid_fits T p valid) in
-      one_source_by p numbers are (translating.one_to_one numbers (sym (valid_alike T stands.atoms G S K p numbers are) ∙ valid))
+      one_source_by p numbers are (translating.one_to_one numbers (sym (valid_alike T stands.atoms G S K p numbers (asked p numbers are)) ∙ valid))
 
   -- ---- a plan that is embedded
 

@@ -54,7 +54,7 @@ module _ (T : Task) (G : GroundTask) (w : Weights) (X Y : Target) (can : CanBeCo
   same_plans = flat_translates X Y flat (can_be_flattened X compiled.named) G w (translates G w X compiled)
 
   faithful : Faithful T (task_of Y)
-  faithful = translation_faithful T G w Y can.well_formed (record { atoms = can.grounding.atoms; stands = can.grounding.stands }) can.linear can.weighed is_sized is_well_named same_plans
+  faithful = translation_faithful T G w Y can.well_formed (record { atoms = can.grounding.atoms; stands = can.grounding.stands; left_out = can.grounding.left_out }) can.linear can.weighed is_sized is_well_named same_plans
 
   -- they are those of a faithful translation without conditional effects
   pub has_flat_text : (od op : List ℕ) → AreTextsOf Y od op → HasFlatText od op T

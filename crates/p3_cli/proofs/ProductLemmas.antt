@@ -192,10 +192,10 @@ module _ (n : ℕ) (d p q report : List ℕ) (means : IsSampling n d p q report)
 -- ---- of the plan of a text, by its steps
 
 module _ (texts : AllTexts) (task : Task) (accepted : AreAcceptedFor Source texts task) (free : plan_offence texts.plan ≡ None) (steps : Steps) (are : OfPlanText texts.plan (λ plan. AreStepsOf task plan steps)) where
-  the_plan : HasPlan texts.plan
+  pub the_plan : HasPlan texts.plan
   the_plan = (a_plan_where_no_offence texts.plan).1 free
 
-  the_steps : AreStepsOf task the_plan.plan steps
+  pub the_steps : AreStepsOf task the_plan.plan steps
   the_steps = are the_plan.plan the_plan.spelled
 
   -- the steps are those of a plan

@@ -24,4 +24,4 @@ is_laid_out T G w X can is od op domain problem = record { target = X; of = is_t
 -- they are those of a faithful translation
 pub is_faithful : (T : Task) (G : GroundTask) (w : Weights) (X : Target) → CanBeCompiled T G w → Compiled G w X → (od op : List ℕ) → IsDomainTextOf od (task_of X).domain → IsProblemTextOf op (task_of X).problem → HasFaithfulText od op T
 is_faithful T G w X can compiled od op domain problem =
-    texts_faithful od op T _ (compiled_faithful T G w X can.well_formed (record { atoms = can.grounding.atoms; stands = can.grounding.stands }) can.linear can.weighed compiled) domain problem
+    texts_faithful od op T _ (compiled_faithful T G w X can.well_formed (record { atoms = can.grounding.atoms; stands = can.grounding.stands; left_out = can.grounding.left_out }) can.linear can.weighed compiled) domain problem

@@ -5,6 +5,9 @@ use Rattle.p3_tree.specs.Reports.Explanations.{explained_lines}
 use Rattle.p3_tree.specs.Validity.{Fault, step_fault}
 use Rattle.p3_tree.specs.declared.task.Task.{Task}
 use Rattle.p3_reports.specs.Faults.{fault_named}
+use Rattle.p3_eval.specs.Judged.{fault_in}
+use Rattle.p3_explain.specs.declared.error.ExplainFail.{ExplainFail}
+use Rattle.p3_explain.specs.declared.error.ExplainFail.TheVariants as fail
 use Rattle.p3_cli.specs.Ending.{Ending, Invalid}
 use Rattle.p3_cli.specs.Evaluation.{AreOfPlan, given_plan}
 use Rattle.p3_cli.specs.Refusing.{AllTexts, IsRefusal, IsRejectedBy}
@@ -22,6 +25,11 @@ pub record IsUnfit (T : Task) (how : Ending) (plan : Plan) : Type 0 where
   pub fault : Fault
   pub first : step_fault T plan ≡ Some fault
   pub says : how ≡ Invalid (fault_named fault)
+
+-- the ending says why
+abbrev pub TellsFail : ExplainFail → Ending → Type 0
+TellsFail (fail.Fault told) how = how ≡ Invalid (fault_named (fault_in told))
+TellsFail fail.NoMemory how = ⊥
 
 -- ---- of the texts
 

@@ -105,7 +105,7 @@ pub(crate) fn embedded(
 {
     match embed_steps(alloc, whole, target, steps) {
         Ok(embedded) => Ok(embedded),
-        Err(EmbedFail::Invalid(fault)) => Err(invalid(&fault)),
+        Err(EmbedFail::Invalid(fault)) => Err(invalid(fault)),
         Err(EmbedFail::NoMemory) => Err(Ending::OutOfMemory),
     }
 }

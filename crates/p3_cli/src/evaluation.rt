@@ -107,13 +107,13 @@ fn judged(alloc: Global, accepted: &Accepted, steps: &Steps) -> Result<Report, E
     let mut run = accepted.grounded(&ground_task).begin(alloc)?;
     match run.judge_steps(steps) {
         None => Ok(Report::Evaluate(evaluated_report(alloc, accepted.checked(), &run)?)),
-        Some(fault) => Err(invalid(&fault)),
+        Some(fault) => Err(invalid(fault)),
     }
 }
 
 /// Gives the ending that says the first fault of a plan.
-pub(crate) fn invalid(fault: &PlanFault) -> Ending
-    ensures { IsRejectedBy (λ how. how ≡ Invalid (fault_named (fault_in fault.now))) result }
+pub(crate) fn invalid(fault: PlanFault) -> Ending
+    ensures { IsRejectedBy (λ how. how ≡ Invalid (fault_named (fault_in fault))) result }
 {
-    Ending::Invalid(named_fault(fault))
+    Ending::Invalid(named_fault(&fault))
 }

@@ -17,6 +17,7 @@ ghost use Rattle.p3_cli.specs.Explaining.{
   IsExplanation,
   IsUnexplained,
   IsUnfit,
+  TellsFail,
 };
 ghost use Rattle.p3_cli.specs.Refusing.{IsRejectedBy, all_texts};
 
@@ -54,11 +55,36 @@ fn report_of(alloc: Global, accepted: &Accepted, steps: &Steps) -> Result<Report
         (IsUnfit accepted.now.checked.task how))) }
 {
     let ground_task = accepted.ground_steps(alloc, steps.numbers.as_slice())?;
-    let grounded = accepted.grounded(&ground_task);
-    match explain_steps(alloc, &grounded, steps) {
-        Ok(found) => Ok(Report::Explain(explained_report(alloc, &grounded, steps, &found)?)),
-        Err(ExplainFail::Fault(fault)) => Err(invalid(&fault)),
-        Err(ExplainFail::NoMemory) => Err(Ending::OutOfMemory),
+    let report = grounded_report(alloc, &accepted.grounded(&ground_task), steps);
+    forget(ground_task);
+    report
+}
+
+/// Explains the plan of these steps, which are grounded, where each of them fits.
+fn grounded_report(alloc: Global, grounded: &Grounded<'_>, steps: &Steps) -> Result<Report, Ending>
+    requires asked { All (LeftOutAt grounded.now.checked.now.task grounded.now.ground_task.now)
+        steps.now.numbers.items }
+    ensures report { IfOk result (λ report. OfSteps grounded.now.checked.now.task steps.now
+        (IsExplained grounded.now.checked.now.task (report_text report))) }
+    ensures err { IfErr result (IsRejectedBy (λ how.
+        OfSteps grounded.now.checked.now.task steps.now
+        (IsUnfit grounded.now.checked.now.task how))) }
+{
+    let found = match explain_steps(alloc, grounded, steps) {
+        Ok(found) => found,
+        Err(fail) => return Err(unexplained(&fail)),
+    };
+    let report = explained_report(alloc, grounded, steps, &found)?;
+    Ok(Report::Explain(report))
+}
+
+/// Gives the ending that says why a plan is not explained.
+fn unexplained(fail: &ExplainFail) -> Ending
+    ensures { IsRejectedBy (TellsFail fail.now) result }
+{
+    match fail {
+        ExplainFail::Fault(fault) => invalid(*fault),
+        ExplainFail::NoMemory => Ending::OutOfMemory,
     }
 }
 

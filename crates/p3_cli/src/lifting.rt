@@ -122,7 +122,7 @@ fn unlifted(fail: &LiftFail) -> Ending
 {
     match fail {
         LiftFail::NotPlain => Ending::Refused(Rejection::NotPlain),
-        LiftFail::Invalid(fault) => invalid(fault),
+        LiftFail::Invalid(fault) => invalid(*fault),
         LiftFail::Mismatch(differ) => Ending::Refused(differing(differ)),
         LiftFail::NoMemory => Ending::OutOfMemory,
     }

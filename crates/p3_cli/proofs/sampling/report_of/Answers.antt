@@ -1,16 +1,24 @@
-use Rattle.std.proofs.Common.{subst}
+use Rattle.std.proofs.Common.{◌∙◌, rules, subst}
+use Rattle.std.proofs.lemmas.Int.{to_z-of_z}
+use mir.Syntax.{w128}
+use mir.Val.{SFits}
+use Rattle.p3_tree.proofs.StepNumberLaws.{steps_have_numbers}
 use Rattle.p3_formula.specs.Targets.{Compiled}
 use Rattle.p3_reports.specs.Reports.{generate_text}
+use Rattle.p3_ground.proofs.PlanNumbers.{has_numbers, valid_fits}
+use Rattle.p3_eval.proofs.StepsLemmas.{all_numbered}
 use Rattle.p3_cli.specs.Refusing.{all_texts}
 use Rattle.p3_cli.proofs.EmbeddingLemmas.{is_sampled}
-use Rattle.p3_cli.proofs.ProductLemmas.{faulty_plan}
+use Rattle.p3_cli.proofs.EvaluationLemmas.{steps_are}
+use Rattle.p3_cli.proofs.ProductLemmas.{its_texts, rejected_plan, the_plan, the_steps}
 use Rattle.p3_cli.proofs.sampling.report_of.Goals as goal
 
 pub returns-in-Err-clause-err : goal.returns-in-Err-clause-err
 returns-in-Err-clause-err c =
     let whole = c.in_ok-whole in
-    let plan = c.in_ok-plan in
-    faulty_plan (all_texts c.args.texts.now) whole.whole.checked.task whole.ensures.accepted plan.plan plan.ensures.spelled plan.ensures.few c.in-Err.ending c.in-Err.ensures.err
+    let steps = c.in_ok-steps in
+    rejected_plan (all_texts c.args.texts.now) whole.whole.checked.task whole.ensures.accepted whole.ensures.free steps.steps
+    (steps_are c.args.texts.now.plan.now c.checked.result.now whole.whole.checked steps.steps c.checked.ensures.checked steps.ensures.are) c.in-Err.ending c.in-Err.ensures.err
 
 pub returns-clause-means : goal.returns-clause-means
 returns-clause-means c =
@@ -19,13 +27,24 @@ returns-clause-means c =
     let G = whole.whole.ground_task in
     let w = whole.whole.weights in
     let X = c.in_ok-target.target in
-    let plan = c.in_ok-plan in
+    let steps = c.in_ok-steps in
+    let texts = all_texts c.args.texts.now in
+    let are = steps_are c.args.texts.now.plan.now c.checked.result.now whole.whole.checked steps.steps c.checked.ensures.checked steps.ensures.are in
+    let plan = (the_plan texts T whole.ensures.accepted whole.ensures.free steps.steps are).plan in
+    let has = the_steps texts T whole.ensures.accepted whole.ensures.free steps.steps are in
     let source = c.in-Ok in
+    let valid = source.ensures.valid plan has in
     let compiled = subst (λ ground. Compiled ground w X) c.ground_task.ensures (subst (λ weights. Compiled c.ground_task.result.now weights X) c.weights.ensures.weights c.in_ok-target.ensures.compiled) in
+    let K = steps_have_numbers T whole.ensures.ready.well_formed in
+    let known = has_numbers T K plan (valid_fits T plan valid) in
+    let numbers = all_numbered T K plan known.0 known.1 steps.steps.numbers.items steps.steps.rest has in
+    let fits : SFits w128 c.in_ok-metric.metric = search rules in
     record {
       task = T;
-      plan = plan.plan;
-      of = record { accepted = whole.ensures.accepted; spelled = plan.ensures.spelled; few = plan.ensures.few };
-      valid = source.ensures.valid;
-      sampled = is_sampled T G w X whole.ensures.ready compiled plan.plan source.embedded.plan source.embedded.cost source.ensures.plan source.ensures.cost (generate_text c.sampled_report-report.result) c.sampled_report-report.ensures;
+      plan = plan;
+      of = its_texts texts T whole.ensures.accepted whole.ensures.free steps.steps are;
+      valid = valid;
+      sampled =
+          is_sampled T G w X whole.ensures.ready compiled plan source.embedded.plan source.embedded.cost (source.ensures.plan plan has) source.ensures.cost (generate_text c.sampled_report-report.result)
+          (c.sampled_report-report.ensures plan numbers (to_z-of_z w128 c.in_ok-metric.metric fits ∙ c.in_ok-metric.ensures plan has));
     }
