@@ -1,9 +1,9 @@
 -- What comes of reading one more input.
-use Rattle.std.proofs.Common.{◌≡◌, ◌∙◌, ◌+◌, ◌<◌, ◌≤◌, ◌++◌, ℕ, true, false, cond, List, [], ◌∷◌, length, map, take, drop, get_or, Option, Some, None, IfSome, refl, sym, ap, subst, arith, inl, inr}
+use Rattle.std.proofs.Common.{◌≡◌, ◌∙◌, ◌+◌, ◌<◌, ◌≤◌, ◌++◌, ℕ, true, false, cond, List, [], ◌∷◌, length, take, drop, get_or, Option, Some, None, IfSome, refl, sym, ap, arith, inl, inr}
 use Rattle.std.specs.Prelude.{IsSomeAnd, nat_lt, slice_get, zero, suc}
 use Rattle.std.proofs.lemmas.List.{drop_more, map-append, take-append-drop, take_more}
 use Rattle.std.proofs.Math.Seq.{take-append_seam}
-use Rattle.p3_base.specs.Outside.{Store, bytes_under, holding, Rose}
+use Rattle.p3_base.specs.Outside.{Store, bytes_under, Rose}
 use Rattle.p3_base.specs.declared.refusal.Role.{Role}
 use Rattle.p3_cli.specs.Asked.{asked_input, asked_inputs}
 use Rattle.p3_cli.specs.Outcome.{ReadsAll, ReadFails}

@@ -1,5 +1,5 @@
 -- The code's requests, as the commands that they are.
-use Rattle.std.specs.Prelude.{ℕ, List, map}
+use Rattle.std.specs.Prelude.{List, map}
 use Rattle.p3_tree.specs.Commands as commands
 use Rattle.p3_cli.specs.declared.request.Input.{Input}
 use Rattle.p3_cli.specs.declared.request.Request.{Request}

@@ -1,4 +1,4 @@
-use Rattle.std.proofs.Common.{◌≡◌, ◌∙◌, ◌+◌, ◌∷◌, [], ◌++◌, IfSome, IsTrue, map, drop, take, subst, sym, ap, arith, append_assoc, append-nil}
+use Rattle.std.proofs.Common.{◌∙◌, ◌+◌, ◌∷◌, [], ◌++◌, IsTrue, map, drop, take, subst, sym, ap, arith, append_assoc, append-nil}
 use Rattle.std.proofs.lemmas.List.{drop_more, drop_all, map-append, take_all}
 use Rattle.p3_cli.specs.Asked.{asked_input, asked_inputs}
 use Rattle.p3_cli.specs.Outcome.{ReadsAll, ReadFails}

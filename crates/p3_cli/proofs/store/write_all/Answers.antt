@@ -1,4 +1,4 @@
-use Rattle.std.proofs.Common.{◌≡◌, ◌∙◌, Err, map, sym, ap, subst, arith}
+use Rattle.std.proofs.Common.{◌∙◌, Err, sym, ap, subst, arith}
 use Rattle.p3_base.specs.Outside.{holding, IsPartlyWritten}
 use Rattle.p3_base.specs.declared.refusal.Role.TheVariants as role
 use Rattle.p3_cli.specs.Store.{files, holding_all}

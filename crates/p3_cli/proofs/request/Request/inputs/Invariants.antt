@@ -1,6 +1,6 @@
 use Rattle.std.proofs.Common.{◌≡◌, ◌++◌, drop, map, zip}
 use Rattle.p3_tree.specs.Commands.{input, inputs}
-use Rattle.p3_cli.specs.Asked.{asked_command, asked_inputs}
+use Rattle.p3_cli.specs.Asked.{asked_inputs}
 use Rattle.p3_cli.proofs.request.Request.inputs.Given as goal
 
 -- with those that are left they are all
