@@ -55,16 +55,6 @@ fn constants_are_left_out(rt: HostRuntime) -> Result<(), Fail> {
 }
 
 #[test]
-fn a_node_holds_where_its_atom_does_not(rt: HostRuntime) -> Result<(), Fail> {
-    let alloc = rt.alloc();
-    let mut table = Table::new(alloc);
-    let atom = table.add(Node::Atom(0))?;
-    let not = table.add(Node::Not(atom))?;
-    assert_eq!(&rt; table.truth(not, &Bits::new(alloc, 1)?), true);
-    Ok(())
-}
-
-#[test]
 fn names_are_compared_by_bytes(rt: HostRuntime) -> Result<(), Fail> {
     let alloc = rt.alloc();
     let (first, second) = (Name::of(alloc, b"a9")?, Name::of(alloc, b"AB")?);

@@ -81,16 +81,38 @@ fn task_of(alloc: Global, domain: &[u8], problem: &[u8]) -> Result<Whole, NoMemo
     }
 }
 
+/// What is told of a plan, and of the steps of it that were done.
+#[derive(Drop)]
+struct Judged {
+    verdict: TextVerdict,
+    steps: u32,
+    cost: i128,
+    metric: i128,
+}
+
+/// Judges the text of a plan for a task.
+fn judge(alloc: Global, whole: &Whole, text: &[u8]) -> Result<Judged, NoMemory>
+    requires { length text.now ≤ plan_byte_limit }
+{
+    let mut run = whole.begin(alloc)?;
+    let verdict = judge_text(whole, &mut run, text);
+    Ok(Judged {
+        verdict,
+        steps: run.steps(),
+        cost: run.total_cost(),
+        metric: run.metric(),
+    })
+}
+
 #[test]
 fn a_valid_plan_has_its_value(rt: HostRuntime) -> Result<(), Fail> {
     let alloc = rt.alloc();
     let whole = task_of(alloc, TRUCKS.as_bytes(), DELIVERY.as_bytes())?;
-    let mut run = whole.begin(alloc)?;
-    let verdict = judge_text(&whole, &mut run, BOTH_CRATES.as_bytes());
-    assert!(&rt; matches!(verdict, TextVerdict::Valid));
-    assert_eq!(&rt; run.steps(), 6);
-    assert_eq!(&rt; run.total_cost(), 11);
-    assert_eq!(&rt; run.metric(), 37);
+    let judged = judge(alloc, &whole, BOTH_CRATES.as_bytes())?;
+    assert!(&rt; matches!(judged.verdict, TextVerdict::Valid));
+    assert_eq!(&rt; judged.steps, 6);
+    assert_eq!(&rt; judged.cost, 11);
+    assert_eq!(&rt; judged.metric, 37);
     Ok(())
 }
 
@@ -98,11 +120,10 @@ fn a_valid_plan_has_its_value(rt: HostRuntime) -> Result<(), Fail> {
 fn a_plan_is_not_valid_at_its_second_step(rt: HostRuntime) -> Result<(), Fail> {
     let alloc = rt.alloc();
     let whole = task_of(alloc, ONCE.as_bytes(), NOTHING.as_bytes())?;
-    let mut run = whole.begin(alloc)?;
-    let verdict = judge_text(&whole, &mut run, b"(a) (a)");
+    let judged = judge(alloc, &whole, b"(a) (a)")?;
     assert!(&rt;
         matches!(
-            verdict,
+            judged.verdict,
             TextVerdict::Invalid(PlanFault {
                 step: 2,
                 kind: FaultKind::Precondition,
@@ -116,11 +137,10 @@ fn a_plan_is_not_valid_at_its_second_step(rt: HostRuntime) -> Result<(), Fail> {
 fn a_plan_that_is_cut_is_refused_at_its_end(rt: HostRuntime) -> Result<(), Fail> {
     let alloc = rt.alloc();
     let whole = task_of(alloc, ONCE.as_bytes(), NOTHING.as_bytes())?;
-    let mut run = whole.begin(alloc)?;
-    let verdict = judge_text(&whole, &mut run, b"(a) (a");
+    let judged = judge(alloc, &whole, b"(a) (a")?;
     assert!(&rt;
         matches!(
-            verdict,
+            judged.verdict,
             TextVerdict::Refused(Refusal {
                 code: Code::Unbalanced,
                 pos: Pos {
