@@ -10,8 +10,8 @@ use Rattle.std.proofs.lemmas.Bool.Decides.{nat_tests}
 use Rattle.p3_tree.specs.Constraints.{HardModal, Instance, hard_list, instances, operators}
 use Rattle.p3_tree.specs.Literals.{Literal}
 use Rattle.p3_tree.specs.States.{has_fact, same_fact}
-use Rattle.p3_tree.specs.declared.constraint.Modal.{Modal}
-use Rattle.p3_tree.specs.declared.constraint.Modal.TheVariants as modal
+use Rattle.p3_tree.specs.Modal.{Modal}
+use Rattle.p3_base.specs.declared.operator.Operator.TheVariants as modal
 use Rattle.p3_tree.specs.declared.state.Fact.{Fact}
 use Rattle.p3_tree.specs.declared.task.Step.{Step}
 use Rattle.p3_tree.specs.declared.task.Task.{Task}
@@ -21,13 +21,14 @@ use Rattle.p3_tree.specs.States.{Environment}
 use Rattle.p3_tree.specs.Touching.{all_operators, can_touch, conds, has_literal_of, looks_back}
 use Rattle.p3_tree.proofs.StateLemmas.{same_fact-Decides}
 use Rattle.p3_formula.specs.Forms.{is_other}
-use Rattle.p3_formula.specs.Modals.{forms_of, is_read, modal_has, touches}
+use Rattle.p3_formula.specs.Modals.{is_read, modal_has, touches}
+use Rattle.p3_base.specs.Operators.{formulas_of}
 use Rattle.p3_formula.specs.Simplified.{is_value}
 use Rattle.p3_formula.specs.Unconditional.{is_conditional}
 use Rattle.p3_formula.specs.declared.form.Change.{Change}
 use Rattle.p3_formula.specs.declared.form.Form.TheVariants.{True}
-use Rattle.p3_formula.specs.declared.modal.GroundModal.{GroundModal}
-use Rattle.p3_formula.specs.declared.modal.GroundModal.TheVariants as made
+use Rattle.p3_formula.specs.GroundModal.{GroundModal}
+use Rattle.p3_base.specs.declared.operator.Operator.TheVariants as made
 use Rattle.p3_formula.specs.declared.modal.GroundSoft.{GroundSoft}
 use Rattle.p3_formula.specs.declared.target.Target.{Target}
 use Rattle.p3_formula.specs.declared.target.TargetAction.{TargetAction}
@@ -122,7 +123,7 @@ read_is : (allowed : ℕ → Bool) (gm : GroundModal) → modal_has allowed gm �
 read_is allowed gm has atom read = by (allowed atom) refl where
   by : (b : Bool) → allowed atom ≡ b → b ≡ true
   by true e = refl
-  by false e = absurd (true≢false (sym read ∙ ap not (all_have_more_of allowed (is_other atom) differs (forms_of gm) has)))
+  by false e = absurd (true≢false (sym read ∙ ap not (all_have_more_of allowed (is_other atom) differs (formulas_of gm) has)))
     where
       differs : (other : ℕ) → allowed other ≡ true → is_other atom other ≡ true
       differs other may = one_way (other == atom) refl

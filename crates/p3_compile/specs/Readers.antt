@@ -1,8 +1,8 @@
 -- Which monitors read an atom, and where in their constraints.
 use Rattle.std.specs.Prelude.{ℕ, ◌≤◌, ◌<◌, List, [], ◌++◌, length, map, slice_index_or}
 use Rattle.p3_formula.specs.AtomLists.{atoms_of}
-use Rattle.p3_formula.specs.declared.modal.GroundModal.{GroundModal}
-use Rattle.p3_formula.specs.declared.modal.GroundModal.TheVariants.{AtEnd, Always, Sometime, AtMostOnce, SometimeAfter, SometimeBefore}
+use Rattle.p3_formula.specs.GroundModal.{GroundModal}
+use Rattle.p3_base.specs.declared.operator.Operator.TheVariants.{AtEnd, Always, Sometime, AtMostOnce, SometimeAfter, SometimeBefore}
 use Rattle.p3_regress.specs.Readers.{readers_from}
 use Rattle.p3_regress.specs.declared.readers.Reader.{Reader}
 use Rattle.p3_monitors.specs.FormIndex.{IndexesForms}

@@ -7,11 +7,11 @@ use Rattle.std.proofs.lemmas.List.{append-nil}
 use Rattle.std.proofs.lemmas.List.Folds.{list_all-append}
 use Rattle.p3_tree.specs.States.{State}
 use Rattle.p3_formula.specs.Forms.{has_atoms}
-use Rattle.p3_formula.specs.Modals.{forms_of}
+use Rattle.p3_base.specs.Operators.{formulas_of}
 use Rattle.p3_formula.specs.Tidy.{is_tidy}
 use Rattle.p3_formula.specs.declared.form.Form.{Form}
-use Rattle.p3_formula.specs.declared.modal.GroundModal.{GroundModal}
-use Rattle.p3_formula.specs.declared.modal.GroundModal.TheVariants as ground_modal
+use Rattle.p3_formula.specs.GroundModal.{GroundModal}
+use Rattle.p3_base.specs.declared.operator.Operator.TheVariants as ground_modal
 use Rattle.p3_numbers.specs.Conditions.{met}
 use Rattle.p3_numbers.specs.Constraints as meaning
 use Rattle.p3_numbers.specs.Constraints.{PlacedModal, ModalMeaning, numbered_modal_meaning, placed_modal_meaning, hard_operators, all_operators}
@@ -19,8 +19,8 @@ use Rattle.p3_numbers.specs.Slots.{Slots, bound}
 use Rattle.p3_numbers.specs.declared.condition.Condition.{Condition}
 use Rattle.p3_numbers.specs.declared.constraint.NumberedConstraint.{NumberedConstraint}
 use Rattle.p3_numbers.specs.declared.constraint.NumberedConstraint.TheVariants.{Both, Each, Single, Soft}
-use Rattle.p3_numbers.specs.declared.constraint.NumberedModal.{NumberedModal}
-use Rattle.p3_numbers.specs.declared.constraint.NumberedModal.TheVariants as modal
+use Rattle.p3_numbers.specs.NumberedModal.{NumberedModal}
+use Rattle.p3_base.specs.declared.operator.Operator.TheVariants as modal
 use Rattle.p3_numbers.specs.declared.numbers.Numbers.{Numbers}
 use Rattle.p3_numbers.proofs.ConstraintLemmas.{hard_operators-Both, hard_operators-Each, all_operators-Both, all_operators-Each, all_operators-Soft}
 use Rattle.p3_expansion.specs.Atoms.{GroundAtom, Keeps}
@@ -68,7 +68,7 @@ module _ (N : Numbers) (S : Statics) where
     one-condition operator is = ap (flat_map (condition_atoms N slots)) is ∙ append-nil (condition_atoms N slots f)
 
     one-stands : (atoms : List GroundAtom) (form : Form) → Stands N S atoms (condition_meaning N slots f) form → is_tidy form ≡ true
-        → (operator : NumberedModal) (modal : GroundModal) → conditions_of operator ≡ f ∷ [] → forms_of modal ≡ form ∷ [] → HasTruths N S atoms (numbered_modal_meaning N slots operator) modal → OperatorStands N S atoms (record { modal = operator; slots = slots }) modal
+        → (operator : NumberedModal) (modal : GroundModal) → conditions_of operator ≡ f ∷ [] → formulas_of modal ≡ form ∷ [] → HasTruths N S atoms (numbered_modal_meaning N slots operator) modal → OperatorStands N S atoms (record { modal = operator; slots = slots }) modal
     one-stands atoms form stands tidy operator modal conditions forms truths = record {
       truths = truths;
       reads = λ passes allowed allows those.
@@ -80,7 +80,7 @@ module _ (N : Numbers) (S : Statics) where
     stands-AtEnd atoms form stands tidy = one-stands atoms form stands tidy (modal.AtEnd f) (ground_modal.AtEnd form) refl refl stands.truth
 
   module _ (slots : Slots) (f : Condition) (old new : Work) (form : Form) (makes : Makes N S old new (condition_meaning N slots f) form) where
-    one_form : (operator : NumberedModal) (modal : GroundModal) → conditions_of operator ≡ f ∷ [] → forms_of modal ≡ form ∷ [] → HasTruths N S new.atoms (numbered_modal_meaning N slots operator) modal → MakesOperator N S (record { modal = operator; slots = slots }) old new modal
+    one_form : (operator : NumberedModal) (modal : GroundModal) → conditions_of operator ≡ f ∷ [] → formulas_of modal ≡ form ∷ [] → HasTruths N S new.atoms (numbered_modal_meaning N slots operator) modal → MakesOperator N S (record { modal = operator; slots = slots }) old new modal
     one_form operator modal conditions forms truths = record {
       grows = subst (λ atoms. Grows atoms old new) (sym (one-condition slots f operator conditions)) makes.grows;
       stands = one-stands slots f new.atoms form makes.stands makes.tidy operator modal conditions forms truths;
@@ -99,7 +99,7 @@ module _ (N : Numbers) (S : Statics) where
     makes-AtMostOnce = one_form (modal.AtMostOnce f) (ground_modal.AtMostOnce form) refl refl makes.stands.truth
 
   module _ (slots : Slots) (f g : Condition) (old mid new : Work) (form other : Form) (first : Makes N S old mid (condition_meaning N slots f) form) (second : Makes N S mid new (condition_meaning N slots g) other) where
-    two_forms : (operator : NumberedModal) (modal : GroundModal) → conditions_of operator ≡ f ∷ g ∷ [] → forms_of modal ≡ form ∷ other ∷ [] → HasTruths N S new.atoms (numbered_modal_meaning N slots operator) modal → MakesOperator N S (record { modal = operator; slots = slots }) old new modal
+    two_forms : (operator : NumberedModal) (modal : GroundModal) → conditions_of operator ≡ f ∷ g ∷ [] → formulas_of modal ≡ form ∷ other ∷ [] → HasTruths N S new.atoms (numbered_modal_meaning N slots operator) modal → MakesOperator N S (record { modal = operator; slots = slots }) old new modal
     two_forms operator modal reads forms truths = record {
       grows = grows-trans all old mid new (grows-wider all (condition_atoms N slots f) old mid (λ passes those. (split passes those).0) first.grows) (grows-wider all (condition_atoms N slots g) mid new (λ passes those. (split passes those).1) second.grows);
       stands = record {

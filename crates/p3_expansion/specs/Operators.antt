@@ -3,18 +3,19 @@ use Rattle.std.specs.Prelude.{◌≡◌, ℕ, Bool, true, false, List, [], ◌�
 use Rattle.std.specs.List.{list_all, AllZip}
 use Rattle.p3_tree.specs.States.{State}
 use Rattle.p3_formula.specs.Forms.{truth}
-use Rattle.p3_formula.specs.Modals.{forms_of, modal_has}
+use Rattle.p3_formula.specs.Modals.{modal_has}
+use Rattle.p3_base.specs.Operators.{formulas_of}
 use Rattle.p3_formula.specs.Tidy.{is_tidy}
 use Rattle.p3_formula.specs.declared.form.Form.{Form}
-use Rattle.p3_formula.specs.declared.modal.GroundModal.{GroundModal}
-use Rattle.p3_formula.specs.declared.modal.GroundModal.TheVariants as ground_modal
+use Rattle.p3_formula.specs.GroundModal.{GroundModal}
+use Rattle.p3_base.specs.declared.operator.Operator.TheVariants as ground_modal
 use Rattle.p3_numbers.specs.Constraints as meaning
 use Rattle.p3_numbers.specs.Constraints.{PlacedModal, ModalMeaning, placed_modal_meaning, hard_operators, all_operators}
 use Rattle.p3_numbers.specs.Slots.{Slots}
 use Rattle.p3_numbers.specs.declared.condition.Condition.{Condition}
 use Rattle.p3_numbers.specs.declared.constraint.NumberedConstraint.{NumberedConstraint}
-use Rattle.p3_numbers.specs.declared.constraint.NumberedModal.{NumberedModal}
-use Rattle.p3_numbers.specs.declared.constraint.NumberedModal.TheVariants as modal
+use Rattle.p3_numbers.specs.NumberedModal.{NumberedModal}
+use Rattle.p3_base.specs.declared.operator.Operator.TheVariants as modal
 use Rattle.p3_numbers.specs.declared.numbers.Numbers.{Numbers}
 use Rattle.p3_expansion.specs.Atoms.{GroundAtom}
 use Rattle.p3_expansion.specs.Expansions.{Allows, Grows, Tells}
@@ -58,7 +59,7 @@ HasTruths N S atoms _ _ = ⊥
 pub record OperatorStands (N : Numbers) (S : Statics) (atoms : List GroundAtom) (meant : PlacedModal) (made : GroundModal) : Type 0 where
   pub truths : HasTruths N S atoms (placed_modal_meaning N meant) made
   pub reads : (passes : GroundAtom → Bool) (allowed : ℕ → Bool) → Allows atoms passes allowed → list_all passes (operator_atoms N meant) ≡ true → modal_has allowed made ≡ true
-  pub tidy : IsTrue (list_all is_tidy (forms_of made))
+  pub tidy : IsTrue (list_all is_tidy (formulas_of made))
 
 -- entry by entry
 abbrev pub OperatorsStand : Numbers → Statics → List GroundAtom → List PlacedModal → List GroundModal → Type 0

@@ -12,8 +12,8 @@ use Rattle.p3_tree.specs.Literals.{Literal, literals}
 use Rattle.p3_tree.specs.Metrics.{prefs_by, step_prefs}
 use Rattle.p3_tree.specs.Plans.{arguments, state_by, state_after}
 use Rattle.p3_tree.specs.States.{State, Environment, has_fact}
-use Rattle.p3_tree.specs.declared.constraint.Modal.{Modal}
-use Rattle.p3_tree.specs.declared.constraint.Modal.TheVariants as modal
+use Rattle.p3_tree.specs.Modal.{Modal}
+use Rattle.p3_base.specs.declared.operator.Operator.TheVariants as modal
 use Rattle.p3_tree.specs.declared.state.Fact.{Fact}
 use Rattle.p3_tree.specs.declared.task.Action.{Action}
 use Rattle.p3_tree.specs.declared.task.Step.{Step}
@@ -22,8 +22,8 @@ use Rattle.p3_tree.proofs.OnceLemmas.{in_map, map_at}
 use Rattle.p3_formula.specs.Forms as forms
 use Rattle.p3_formula.specs.declared.form.Change.{Change}
 use Rattle.p3_formula.specs.declared.form.Form.{Form}
-use Rattle.p3_formula.specs.declared.modal.GroundModal.{GroundModal}
-use Rattle.p3_formula.specs.declared.modal.GroundModal.TheVariants as ground_modal
+use Rattle.p3_formula.specs.GroundModal.{GroundModal}
+use Rattle.p3_base.specs.declared.operator.Operator.TheVariants as ground_modal
 use Rattle.p3_formula.specs.declared.modal.GroundPref.{GroundPref}
 use Rattle.p3_formula.specs.declared.modal.GroundSoft.{GroundSoft}
 use Rattle.p3_formula.specs.declared.task.GroundStep.{GroundStep}

@@ -12,8 +12,8 @@ use Rattle.p3_tree.specs.Folds.{fold_constraints}
 use Rattle.p3_tree.specs.States.{State, Environment}
 use Rattle.p3_tree.specs.Bindings.{bind}
 use Rattle.p3_tree.proofs.OperatorLaws.{sat-operators}
-use Rattle.p3_tree.specs.declared.constraint.Modal.{Modal}
-use Rattle.p3_tree.specs.declared.constraint.Modal.TheVariants as modal
+use Rattle.p3_tree.specs.Modal.{Modal}
+use Rattle.p3_base.specs.declared.operator.Operator.TheVariants as modal
 use Rattle.p3_tree.specs.declared.constraint.Constraint.{Constraint, Row_of-Constraint, end_of-Constraint, more_of-Constraint}
 use Rattle.p3_tree.specs.declared.constraint.Constraint.TheVariants.{Both', Each', Single, Soft'}
 use Rattle.p3_tree.specs.declared.task.Task.{Task}

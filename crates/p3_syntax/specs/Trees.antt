@@ -7,7 +7,7 @@ use Rattle.p3_tree.specs.Grammar.Goals.{goal_place, goal_forms, each_form}
 use Rattle.p3_tree.specs.Grammar.Constraints.{modal_forms, inner_forms, inner_place, constraint_place, single_form}
 use Rattle.p3_tree.specs.Grammar.Constraints as constraint
 use Rattle.p3_tree.specs.declared.formula.Formula.{Formula}
-use Rattle.p3_tree.specs.declared.constraint.Modal.{Modal}
+use Rattle.p3_tree.specs.Modal.{Modal}
 use Rattle.p3_tree.specs.declared.constraint.Constraint.{Constraint}
 use Rattle.p3_tree.specs.declared.goal.PreGoal.{PreGoal}
 use Rattle.p3_tree.specs.declared.goal.PreGoal.TheVariants.{Plain}

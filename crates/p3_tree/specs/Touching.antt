@@ -4,8 +4,8 @@ use Rattle.std.specs.List.{list_any}
 use Rattle.p3_tree.specs.States.{has_fact}
 use Rattle.p3_tree.specs.Constraints.{HardModal, Instance, hard_list, instances, operators}
 use Rattle.p3_tree.specs.Literals.{Literal}
-use Rattle.p3_tree.specs.declared.constraint.Modal.{Modal}
-use Rattle.p3_tree.specs.declared.constraint.Modal.TheVariants.{AtEnd}
+use Rattle.p3_tree.specs.Modal.{Modal}
+use Rattle.p3_base.specs.declared.operator.Operator.TheVariants.{AtEnd}
 use Rattle.p3_tree.specs.declared.task.Step.{Step}
 use Rattle.p3_tree.specs.declared.task.Task.{Task}
 use Rattle.p3_tree.specs.Mentions.{operator_atoms, step_literals, is_under_when}

@@ -2,7 +2,7 @@
 
 ghost use Rattle.std.specs.Prelude.{◌≡◌, ◌∷◌, [], IfOk, length, true};
 ghost use Rattle.p3_formula.specs.declared.form.Form.TheVariants as form;
-ghost use Rattle.p3_formula.specs.declared.modal.GroundModal.TheVariants as ground_modal;
+ghost use Rattle.p3_base.specs.declared.operator.Operator.TheVariants as ground_modal;
 
 use p3_base::{List, NoMemory};
 use p3_endphase::{EndPhase, SoftEnd, end_phase};

@@ -1,5 +1,5 @@
 use Rattle.std.proofs.Common.{sym, subst}
-use Rattle.p3_formula.specs.declared.modal.GroundModal.TheVariants as ground_modal
+use Rattle.p3_base.specs.declared.operator.Operator.TheVariants as ground_modal
 use Rattle.p3_expansion.specs.Operators.{MakesOperator}
 use Rattle.p3_expansion.proofs.OperatorLemmas.{makes-AtEnd, makes-Always, makes-Sometime, makes-AtMostOnce, makes-SometimeAfter, makes-SometimeBefore}
 use Rattle.p3_expansion.proofs.constraint.ground_operator.Goals as goal

@@ -1,7 +1,7 @@
 use Rattle.std.proofs.Common.{refl, subst, sym}
 use Rattle.p3_formula.specs.Kept.{is_own}
 use Rattle.p3_formula.specs.declared.form.Form.TheVariants.{Atom}
-use Rattle.p3_formula.specs.declared.modal.GroundModal.TheVariants.{Sometime}
+use Rattle.p3_base.specs.declared.operator.Operator.TheVariants.{Sometime}
 use Rattle.p3_monitors.specs.KeepsOn.{HasNone}
 use Rattle.p3_unit_rows.proofs.watched.riding.Goals as goal
 

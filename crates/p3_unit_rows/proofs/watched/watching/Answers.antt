@@ -2,7 +2,7 @@ use Rattle.std.proofs.Common.{length, refl, subst, sym}
 use Rattle.p3_formula.specs.Forms.{State, has_atoms}
 use Rattle.p3_formula.specs.Modals.{IsModalBelow}
 use Rattle.p3_formula.specs.declared.form.Form.TheVariants.{Atom}
-use Rattle.p3_formula.specs.declared.modal.GroundModal.TheVariants.{Sometime}
+use Rattle.p3_base.specs.declared.operator.Operator.TheVariants.{Sometime}
 use Rattle.p3_unit_rows.proofs.watched.watching.Goals as goal
 
 pub monitor-requires-clause-below : goal.monitor-requires-clause-below
