@@ -30,7 +30,7 @@ use Rattle.p3_tree.specs.declared.effect.Effect.TheOpen as effect
 use Rattle.p3_tree.specs.declared.goal.PreGoal.{PreGoal, PreGoal-F}
 use Rattle.p3_tree.specs.declared.goal.PreGoal.TheOpen as goal
 use Rattle.p3_tree.specs.Modal.{Modal}
-use Rattle.p3_base.proofs.OperatorLaws.{over_along}
+use Rattle.p3_base.proofs.OperatorLaws.{over_over, over_same}
 use Rattle.p3_base.specs.Operators.{is_satisfied}
 use Rattle.p3_tree.specs.declared.constraint.Constraint.{Constraint, Constraint-F, Row_of-Constraint, end_of-Constraint, more_of-Constraint}
 use Rattle.p3_tree.specs.declared.constraint.Constraint.TheVariants as tree
@@ -182,7 +182,7 @@ module _ (T : Task) where
   module _ (W : List State) where
     pub satisfies-erased : (env : Environment) (m : Modal) → satisfies (erased T) W env (erased_modal m) ≡ satisfies T W env m
     unfolding satisfies
-    satisfies-erased env m = λ i. is_satisfied (length W) (over_along erased_formula (holds_at (erased T) W env) (holds_at T W env) (λ f i k. holds-erased T (state_at W k) env f i) m i)
+    satisfies-erased env m = λ i. is_satisfied (length W) ((over_over erased_formula (holds_at (erased T) W env) m ∙ over_same _ (holds_at T W env) (λ f i k. holds-erased T (state_at W k) env f i) m) i)
 
     sat_layer-erased : (x : Constraint-F (Environment → Bool)) → sat_layer (erased T) W (erased_constraint_layer same x) ≡ sat_layer T W x
     sat_layer-erased (constraint.Both parts) = λ i env. all_along same (λ part. part env) (λ part. part env) (λ part. refl) parts i

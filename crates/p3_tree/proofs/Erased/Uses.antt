@@ -18,7 +18,7 @@ use Rattle.p3_tree.specs.declared.effect.Effect.TheOpen as effect
 use Rattle.p3_tree.specs.declared.goal.PreGoal.{PreGoal, PreGoal-F}
 use Rattle.p3_tree.specs.declared.goal.PreGoal.TheOpen as goal
 use Rattle.p3_tree.specs.Modal.{Modal}
-use Rattle.p3_base.proofs.OperatorLaws.{joined_into}
+use Rattle.p3_base.proofs.OperatorLaws.{joined_image, joined_over}
 use Rattle.p3_tree.specs.declared.constraint.Constraint.{Constraint, Constraint-F}
 use Rattle.p3_tree.specs.declared.constraint.Constraint.TheOpen as constraint
 use Rattle.p3_tree.specs.declared.metric.Metric.{Metric}
@@ -91,7 +91,7 @@ unfolding goal_uses
 goal_uses-erased g = fold_goal-erased goal_layer goal_layer erased_found goal_layer-erased g
 
 modal_uses-erased : (m : Modal) (scope : Scope) → modal_uses (erased_modal m) scope ≡ map erased_use (modal_uses m scope)
-modal_uses-erased m scope = joined_into erased_formula (map erased_use) ◌++◌ ◌++◌ (λ first second. sym (map-append erased_use first second)) (λ formula. formula_uses formula scope) (λ formula. formula_uses formula scope) (λ formula i. formula_uses-erased formula i scope) m
+modal_uses-erased m scope = joined_over erased_formula ◌++◌ (λ formula. formula_uses formula scope) m ∙ joined_image (map erased_use) ◌++◌ ◌++◌ (λ first second. sym (map-append erased_use first second)) _ (λ formula. formula_uses formula scope) (λ formula i. formula_uses-erased formula i scope) m
 
 constraint_layer-erased : (x : Constraint-F Found) → constraint_layer (erased_constraint_layer erased_found x) ≡ erased_found (constraint_layer x)
 constraint_layer-erased (constraint.Both parts) = λ i scope. parts_found parts scope i
