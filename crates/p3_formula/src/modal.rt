@@ -1,6 +1,5 @@
 //! Ground trajectory constraints and preferences.
 
-
 use crate::Form;
 use p3_base::{List, Operator};
 
