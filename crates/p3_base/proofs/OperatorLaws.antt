@@ -1,9 +1,13 @@
 -- Operators over what their formulas become.
-use Rattle.std.proofs.Common.{◌≡◌, ◌∙◌, refl, Bool, true, ◌&&◌, List, map}
+use Rattle.std.proofs.Common.{◌≡◌, ◌∙◌, absurd, refl, Bool, true, ◌&&◌, List, [], ◌∷◌, map}
 use Rattle.std.proofs.lemmas.Bool.{and_parts}
-use Rattle.p3_base.specs.Operators.{all, formulas_of, joined, over}
+use Rattle.p3_base.specs.Operators.{all, binary, formulas_of, joined, over, Pairs, unary}
+use Rattle.p3_base.specs.declared.operator.Binary.{Binary}
+use Rattle.p3_base.specs.declared.operator.Binary.TheVariants as two
 use Rattle.p3_base.specs.declared.operator.Operator.{Operator}
 use Rattle.p3_base.specs.declared.operator.Operator.TheVariants.{AtEnd, Always, Sometime, AtMostOnce, SometimeAfter, SometimeBefore}
+use Rattle.p3_base.specs.declared.operator.Unary.{Unary}
+use Rattle.p3_base.specs.declared.operator.Unary.TheVariants as one
 
 -- ---- over what the formulas become
 
@@ -31,6 +35,60 @@ module _ {A B : Type 0} (f : A → B) where
   joined_over join find (AtMostOnce _) = refl
   joined_over join find (SometimeAfter _ _) = refl
   joined_over join find (SometimeBefore _ _) = refl
+
+-- ---- by kind
+
+module _ {A B : Type 0} (f : A → B) where
+  pub over_unary : (kind : Unary) (x : A) → over f (unary kind x) ≡ unary kind (f x)
+  over_unary one.AtEnd x = refl
+  over_unary one.Always x = refl
+  over_unary one.Sometime x = refl
+  over_unary one.AtMostOnce x = refl
+
+  pub over_binary : (kind : Binary) (x y : A) → over f (binary kind x y) ≡ binary kind (f x) (f y)
+  over_binary two.SometimeAfter x y = refl
+  over_binary two.SometimeBefore x y = refl
+
+module _ {A X : Type 0} (join : X → X → X) (find : A → X) where
+  pub joined_unary : (kind : Unary) (x : A) → joined join find (unary kind x) ≡ find x
+  joined_unary one.AtEnd x = refl
+  joined_unary one.Always x = refl
+  joined_unary one.Sometime x = refl
+  joined_unary one.AtMostOnce x = refl
+
+  pub joined_binary : (kind : Binary) (x y : A) → joined join find (binary kind x y) ≡ join (find x) (find y)
+  joined_binary two.SometimeAfter x y = refl
+  joined_binary two.SometimeBefore x y = refl
+
+pub formulas_unary : {A : Type 0} (kind : Unary) (x : A) → formulas_of (unary kind x) ≡ x ∷ []
+formulas_unary one.AtEnd x = refl
+formulas_unary one.Always x = refl
+formulas_unary one.Sometime x = refl
+formulas_unary one.AtMostOnce x = refl
+
+pub formulas_binary : {A : Type 0} (kind : Binary) (x y : A) → formulas_of (binary kind x y) ≡ x ∷ y ∷ []
+formulas_binary two.SometimeAfter x y = refl
+formulas_binary two.SometimeBefore x y = refl
+
+module _ {A B : Type 0} (related : A → B → Type 0) where
+  pub pairs_unary : (kind : Unary) (x : A) (y : B) → related x y → Pairs related (unary kind x) (unary kind y)
+  pairs_unary one.AtEnd x y both = both
+  pairs_unary one.Always x y both = both
+  pairs_unary one.Sometime x y both = both
+  pairs_unary one.AtMostOnce x y both = both
+
+  pub pairs_binary : (kind : Binary) (x x2 : A) (y y2 : B) → related x y → related x2 y2 → Pairs related (binary kind x x2) (binary kind y y2)
+  pairs_binary two.SometimeAfter x x2 y y2 first second = (first, second)
+  pairs_binary two.SometimeBefore x x2 y y2 first second = (first, second)
+
+pub pairs_weaker : {A B : Type 0} (related weaker : A → B → Type 0) → ((x : A) (y : B) → related x y → weaker x y) → (operator : Operator A) (other : Operator B) → Pairs related operator other → Pairs weaker operator other
+pairs_weaker related weaker by (AtEnd x) (AtEnd y) pair = by x y pair
+pairs_weaker related weaker by (Always x) (Always y) pair = by x y pair
+pairs_weaker related weaker by (Sometime x) (Sometime y) pair = by x y pair
+pairs_weaker related weaker by (AtMostOnce x) (AtMostOnce y) pair = by x y pair
+pairs_weaker related weaker by (SometimeAfter x x2) (SometimeAfter y y2) pair = (by x y pair.0, by x2 y2 pair.1)
+pairs_weaker related weaker by (SometimeBefore x x2) (SometimeBefore y y2) pair = (by x y pair.0, by x2 y2 pair.1)
+pairs_weaker related weaker by _ _ pair = absurd pair
 
 -- ---- where two functions give the same of each formula
 

@@ -1,11 +1,16 @@
 -- The operators of trajectory constraints (the PDDL3 report), over whatever stands for a formula: what they are made of, and what they mean over tests at the places of the list of visited states.
-use Rattle.std.specs.Prelude.{ℕ, Bool, true, false, ◌&&◌, List, [], ◌∷◌, ◌++◌, Option, None, Some}
-use denote.Ref.{Bor}
+use Rattle.std.specs.Prelude.{ℕ, Bool, true, false, ◌&&◌, List, [], ◌∷◌, ◌++◌}
 use Rattle.p3_base.specs.Trajectories as trajectory
 use Rattle.p3_base.specs.Showings.{shown_at_end, shown_always, shown_sometime, shown_at_most_once, shown_sometime_after, shown_sometime_before}
 use Rattle.p3_base.specs.declared.showing.Showing.{Showing}
+use Rattle.p3_base.specs.declared.operator.Binary.{Binary}
+use Rattle.p3_base.specs.declared.operator.Binary.TheVariants as two
+use Rattle.p3_base.specs.declared.operator.Operands.{Operands}
+use Rattle.p3_base.specs.declared.operator.Operands.TheVariants.{One, Two}
 use Rattle.p3_base.specs.declared.operator.Operator.{Operator}
 use Rattle.p3_base.specs.declared.operator.Operator.TheVariants.{AtEnd, Always, Sometime, AtMostOnce, SometimeAfter, SometimeBefore}
+use Rattle.p3_base.specs.declared.operator.Unary.{Unary}
+use Rattle.p3_base.specs.declared.operator.Unary.TheVariants as one
 
 -- ---- what they are made of
 
@@ -17,10 +22,21 @@ formulas_of (AtMostOnce f) = f ∷ []
 formulas_of (SometimeAfter f g) = f ∷ g ∷ []
 formulas_of (SometimeBefore f g) = f ∷ g ∷ []
 
--- the formulas behind the first, as they are lent
-abbrev pub seconds : {F : Type 0} → Option (Bor F) → List F
-seconds None = []
-seconds (Some formula) = formula.now ∷ []
+-- the operator of a kind over its formulas
+abbrev pub unary : {F : Type 0} → Unary → F → Operator F
+unary one.AtEnd f = AtEnd f
+unary one.Always f = Always f
+unary one.Sometime f = Sometime f
+unary one.AtMostOnce f = AtMostOnce f
+
+abbrev pub binary : {F : Type 0} → Binary → F → F → Operator F
+binary two.SometimeAfter f g = SometimeAfter f g
+binary two.SometimeBefore f g = SometimeBefore f g
+
+-- as they are lent
+abbrev pub operator_of : {F : Type 0} → Operands F → Operator F
+operator_of (One kind formula) = unary kind formula.now
+operator_of (Two kind first second) = binary kind first.now second.now
 
 -- the same operator over what the formulas become
 abbrev pub over : {F G : Type 0} → (F → G) → Operator F → Operator G
@@ -47,6 +63,16 @@ all test operator = joined (λ first second. first && second) test operator
 -- what each formula lists
 abbrev pub each : {F X : Type 0} → (F → List X) → Operator F → List X
 each list operator = joined (λ first second. first ++ second) list operator
+
+-- one operator over formulas that stand in a relation, first to first and second to second
+abbrev pub Pairs : {F G : Type 0} → (F → G → Type 0) → Operator F → Operator G → Type 0
+Pairs related (AtEnd f) (AtEnd f2) = related f f2
+Pairs related (Always f) (Always f2) = related f f2
+Pairs related (Sometime f) (Sometime f2) = related f f2
+Pairs related (AtMostOnce f) (AtMostOnce f2) = related f f2
+Pairs related (SometimeAfter f g) (SometimeAfter f2 g2) = related f f2 × related g g2
+Pairs related (SometimeBefore f g) (SometimeBefore f2 g2) = related f f2 × related g g2
+Pairs related _ _ = ⊥
 
 -- the last state alone counts
 abbrev pub is_at_end : {F : Type 0} → Operator F → Bool

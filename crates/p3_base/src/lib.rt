@@ -29,7 +29,7 @@ pub use list::List;
 pub use mem_files::MemFiles;
 pub use mem_sink::MemSink;
 pub use name::{Name, Word};
-pub use operator::{Formulas, Operator};
+pub use operator::{Binary, Operands, Operator, Unary};
 pub use place::line_column;
 pub use real_files::RealFiles;
 pub use real_sink::RealSink;
