@@ -1,5 +1,5 @@
 -- Operators over what their formulas become.
-use Rattle.std.proofs.Common.{◌≡◌, ◌∙◌, refl, Bool, true, ◌&&◌, List, [], ◌∷◌, map}
+use Rattle.std.proofs.Common.{◌≡◌, ◌∙◌, refl, Bool, true, [], ◌∷◌, map}
 use Rattle.std.proofs.lemmas.Bool.{and_parts}
 use Rattle.p3_base.specs.Operators.{all, binary, formulas_of, joined, over, Pairs, unary}
 use Rattle.p3_base.specs.declared.operator.Binary.{Binary}

@@ -1,9 +1,8 @@
 -- The forms of a trajectory constraint, and the atoms that stand in them.
-use Rattle.std.specs.Prelude.{◌≡◌, ℕ, nat_lt, Bool, true, false, not, List, [], ◌∷◌, Option, None, Some, sum_by, IsTrue}
+use Rattle.std.specs.Prelude.{◌≡◌, ℕ, nat_lt, Bool, true, not, List, sum_by, IsTrue}
 use Rattle.std.specs.List.{list_any, list_all}
 use Rattle.p3_formula.specs.Forms.{State, is_set, has_atoms, is_other, nodes}
 use Rattle.p3_formula.specs.declared.form.Change.{Change}
-use Rattle.p3_formula.specs.declared.form.Form.{Form}
 use Rattle.p3_formula.specs.GroundModal.{GroundModal}
 use Rattle.p3_base.specs.Operators.{formulas_of}
 

@@ -1,7 +1,6 @@
 -- Why the constraints and preferences of a plan are satisfied or not: for each operator the visited states that show it (the PDDL3 report).
 use Rattle.std.specs.Prelude.{ℕ, ◌-◌, Bool, not, List, ◌++◌, map, flat_map, filter, length}
 use Rattle.std.specs.List.{enumerate_from}
-
 use Rattle.p3_base.specs.declared.showing.Reason.{Reason}
 use Rattle.p3_base.specs.declared.showing.Showing.{Showing}
 use Rattle.p3_base.specs.declared.showing.Showing.TheVariants.{FailsAt}

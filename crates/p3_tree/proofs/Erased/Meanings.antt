@@ -12,7 +12,6 @@ use Rattle.p3_tree.specs.Effects.{adds, adds_layer, dels, dels_layer, next}
 use Rattle.p3_tree.specs.Goals.{hard_holds, hard_layer, StatePref, named, prefs, prefs_layer}
 use Rattle.p3_tree.specs.Costs.{increases, increases_layer, amount_numeral, value_numeral, amount_numerals, value_numerals, most_places, cost_places, cost_units, entry_value, given_value, amount_value, total, effect_cost}
 use Rattle.p3_tree.specs.Plans.{state_at}
-use Rattle.p3_base.specs.Trajectories as operator
 use Rattle.p3_tree.specs.Constraints.{holds_at, satisfies, sat, sat_layer, HardModal, hard_modals, hard_modals_layer, hard_list, operators, operators_layer, Instance, instances_of, instances_of_all, instances_of_one, one_constraint, at_end, instances}
 use Rattle.p3_tree.specs.Erased.{erased_ref, erased_numeral, erased_amount, erased_init, erased_action, erased_formula, erased_effect, erased_goal, erased_modal, erased_constraint, erased_constraints, erased, erased_state_pref, erased_hard_modal, erased_instance}
 use Rattle.p3_tree.proofs.Erased.Along.{any_along, all_along, map_along, flat_map_along, filter_map_along, flat_map_into, filter_map_into, flat_map_images}
