@@ -1,7 +1,6 @@
 pub mod Loops
 pub mod FirstLemmas
 pub mod TreeLemmas
-pub mod WordLemmas
 pub mod NumeralLemmas
 pub mod GroupLemmas
 pub mod ListLemmas

@@ -6,7 +6,7 @@ ghost use Rattle.p3_outline.specs.Nodes.{expression_of, expressions_of};
 ghost use Rattle.p3_syntax.specs.Groups.{GivesFirst, GivesNext, IfFound, all_grouped, groups_left, groups_size, item_before, the_item};
 
 use crate::error::Fault;
-use crate::tree::tests::is;
+use p3_lexer::is;
 use p3_outline::{Parts, View};
 
 /// An item, and its type where it has one.

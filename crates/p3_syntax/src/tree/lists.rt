@@ -10,9 +10,9 @@ ghost use Rattle.p3_syntax.specs.Groups.{the_item, typed_at};
 use crate::error::Fault;
 use crate::tree::groups::{Groups, TypedItem};
 use crate::tree::parts::{headed, parts};
-use crate::tree::tests::{is, is_name, is_variable};
 use crate::tree::words::{copied, name, variable, word};
 use p3_base::{List, NoMemory};
+use p3_lexer::{is, is_name, is_variable};
 use p3_outline::{Parts, View};
 use p3_tree::{Ref, Term, Typed};
 use std::alloc::Global;
@@ -112,7 +112,7 @@ fn names(alloc: Global, parts: Parts<'_, '_>) -> Result<List<Ref>, Fault>
 }
 
 /// The names behind the word `either`.
-#[tactic(auto, using(p3_places::proofs::WordLemmas::same_name_sym))]
+#[tactic(auto, using(p3_lexer::proofs::ClassLemmas::same_name_sym))]
 fn either(alloc: Global, parts: Parts<'_, '_>) -> Result<List<Ref>, Fault>
     ensures { Gives (λ names. names) result (either_in (expressions_of parts.entry)) }
 {

@@ -17,9 +17,9 @@ use crate::tree::parts::{HeadedParts, headed, only, pair, parts};
 use crate::tree::sections::{
     Half, at_most_one, constraints, exactly_one, named_sections, requirements,
 };
-use crate::tree::tests::is;
 use crate::tree::words::{function, name, predicate};
 use p3_base::List;
+use p3_lexer::is;
 use p3_outline::{Parts, View};
 use p3_tree::{Constraint, Init, Metric, Part, PreGoal, Problem, Ref, Typed};
 use std::alloc::Global;

@@ -13,9 +13,9 @@ ghost use Rattle.p3_syntax.specs.Trees.{the_word};
 use crate::error::Fault;
 use crate::tree::constraints::constraint_or_empty;
 use crate::tree::parts::{HeadedParts, headed, only, pair, parts};
-use crate::tree::tests::is;
 use crate::tree::words::{TextWord, keyword, name, word};
 use p3_base::List;
+use p3_lexer::{begins_with_colon, is};
 use p3_outline::{Parts, View};
 use p3_tree::{Constraint, Part, Ref};
 use std::alloc::Global;
@@ -156,7 +156,7 @@ pub fn named_sections<'o, 'a>(
 }
 
 /// Whether a section has this keyword.
-#[tactic(auto, using(p3_places::proofs::WordLemmas::same_name_sym))]
+#[tactic(auto, using(p3_lexer::proofs::ClassLemmas::same_name_sym))]
 pub fn is_named(word: &[u8], keyword: &[u8]) -> bool
     requires { str_to_ascii_lowercase keyword.now ≡ keyword.now }
     ensures { result ≡ same_name (str_to_ascii_lowercase word.now) keyword.now }
@@ -205,9 +205,10 @@ fn requirement<'a>(view: View<'_, 'a>) -> Result<TextWord<'a>, Fault>
     ensures { Gives the_word result (word_if begins_with_colon (expression_of view.entry)) }
 {
     let word = word(view)?;
-    match word.text {
-        [first, ..] if first.to_ascii_lowercase() == b':' => Ok(word),
-        _ => Err(Fault::Malformed),
+    if begins_with_colon(word.text) {
+        Ok(word)
+    } else {
+        Err(Fault::Malformed)
     }
 }
 

@@ -8,8 +8,8 @@ ghost use Rattle.p3_syntax.specs.Reading.{Gives};
 ghost use Rattle.p3_syntax.specs.Trees.{the_word, expression_at};
 
 use crate::error::Fault;
-use crate::tree::tests::{is, is_function_name, is_name, is_predicate_name, is_variable};
 use p3_base::{Name, NoMemory};
+use p3_lexer::{is, is_function_name, is_name, is_predicate_name, is_variable};
 use p3_outline::View;
 use p3_tree::Ref;
 use std::alloc::Global;

@@ -1,6 +1,6 @@
-//! Words, compared without letter case.
+//! Classes of words, told without letter case.
 
-ghost use Rattle.std.specs.Prelude.{◌≡◌, ◌∷◌, [], map, codes, not, ◌&&◌};
+ghost use Rattle.std.specs.Prelude.{◌≡◌, take, drop, not, ◌&&◌};
 ghost use Rattle.std.specs.Char.{to_ascii_lowercase};
 ghost use Rattle.std.specs.List.{list_all};
 ghost use Rattle.std.specs.Str.{str_to_ascii_lowercase};
@@ -8,20 +8,19 @@ ghost use Rattle.p3_base.specs.Words.{is_digit, is_name, is_variable, is_predica
 ghost use Rattle.p3_tree.specs.Decimals.{are_digits, is_decimal};
 ghost use Rattle.p3_tree.specs.Names.{same_name, total_cost};
 ghost use Rattle.p3_tree.specs.Grammar.Halves.{begins_with_colon};
-ghost use Rattle.p3_places.specs.Places.{goes_on_as_decimal, is_word_of, begins_with_letters};
-
-use crate::state::Class;
+ghost use Rattle.p3_lexer.specs.Words.{goes_on_as_decimal, begins_with_letters};
 
 /// Whether a word is the text, which has no capital letter.
-#[tactic(auto, using(crate::proofs::WordLemmas::same_lowered))]
-pub(crate) fn is(word: &[u8], text: &[u8]) -> bool
+#[tactic(auto, using(crate::proofs::ClassLemmas::same_lowered))]
+pub fn is(word: &[u8], text: &[u8]) -> bool
     requires { str_to_ascii_lowercase text.now ≡ text.now }
     ensures { result ≡ same_name text.now (str_to_ascii_lowercase word.now) }
 {
     word.eq_ignore_ascii_case(text)
 }
 
-pub(crate) fn is_name_word(word: &[u8]) -> bool
+/// Whether a word is a name.
+pub fn is_name(word: &[u8]) -> bool
     ensures { result ≡ is_name (str_to_ascii_lowercase word.now) }
 {
     match word {
@@ -30,7 +29,8 @@ pub(crate) fn is_name_word(word: &[u8]) -> bool
     }
 }
 
-pub(crate) fn is_variable_word(word: &[u8]) -> bool
+/// Whether a word is a variable.
+pub fn is_variable(word: &[u8]) -> bool
     ensures { result ≡ is_variable (str_to_ascii_lowercase word.now) }
 {
     match word {
@@ -39,7 +39,19 @@ pub(crate) fn is_variable_word(word: &[u8]) -> bool
     }
 }
 
-fn is_digit_byte(byte: &u8) -> bool
+/// Whether a word begins with `:`.
+pub fn begins_with_colon(word: &[u8]) -> bool
+    ensures { result ≡ begins_with_colon (str_to_ascii_lowercase word.now) }
+{
+    match word {
+        [] => false,
+        [first, ..] => first.to_ascii_lowercase() == b':',
+    }
+}
+
+// ---- numbers
+
+fn is_digit(byte: &u8) -> bool
     ensures { result ≡ is_digit (to_ascii_lowercase byte.now) }
 {
     let byte = byte.to_ascii_lowercase();
@@ -50,7 +62,7 @@ fn are_all_digits(word: &[u8]) -> bool
     ensures { result ≡ list_all is_digit (str_to_ascii_lowercase word.now) }
 {
     for byte in word {
-        if !is_digit_byte(byte) {
+        if !is_digit(byte) {
             return false;
         }
     }
@@ -67,15 +79,15 @@ fn are_digits(word: &[u8]) -> bool
 }
 
 /// Whether a word goes on as a number behind its first digit.
-#[tactic(auto, using(crate::proofs::DecimalWords::point_here, crate::proofs::DecimalWords::digit_here, crate::proofs::DecimalWords::other_here))]
-fn is_decimal_behind(word: &[u8]) -> bool
+#[tactic(auto, using(crate::proofs::ClassLemmas::point_here, crate::proofs::ClassLemmas::digit_here, crate::proofs::ClassLemmas::other_here))]
+fn goes_on_as_decimal(word: &[u8]) -> bool
     ensures { result ≡ goes_on_as_decimal (str_to_ascii_lowercase word.now) }
 {
     for (index, byte) in word.iter().enumerate() {
         if *byte == b'.' {
             return are_digits(&word[index + 1..]);
         }
-        if !is_digit_byte(byte) {
+        if !is_digit(byte) {
             return false;
         }
     }
@@ -83,32 +95,20 @@ fn is_decimal_behind(word: &[u8]) -> bool
 }
 
 /// Whether a word is digits, or digits with one point that is neither first nor last.
-#[tactic(auto, using(crate::proofs::DecimalWords::first_and_behind))]
-fn is_decimal_word(word: &[u8]) -> bool
+#[tactic(auto, using(crate::proofs::ClassLemmas::first_and_behind))]
+pub fn is_decimal(word: &[u8]) -> bool
     ensures { result ≡ is_decimal (str_to_ascii_lowercase word.now) }
 {
     match word {
         [] => false,
-        [first, behind @ ..] => is_digit_byte(first) && is_decimal_behind(behind),
+        [first, behind @ ..] => is_digit(first) && goes_on_as_decimal(behind),
     }
 }
 
-pub(crate) fn is_keyword_word(word: &[u8]) -> bool
-    ensures { result ≡ begins_with_colon (str_to_ascii_lowercase word.now) }
-{
-    match word {
-        [] => false,
-        [first, ..] => first.to_ascii_lowercase() == b':',
-    }
-}
+// ---- names that are not reserved
 
 fn is_reserved_form(word: &[u8]) -> bool
-    ensures { result
-        ≡ has_name
-        (map codes
-        ("and" ∷ "or" ∷ "not" ∷ "imply" ∷ "exists" ∷ "forall" ∷ "when" ∷ "preference"
-        ∷ "increase" ∷ "either" ∷ "define" ∷ "is-violated" ∷ "total-time" ∷ []))
-        (str_to_ascii_lowercase word.now) }
+    ensures { result ≡ has_name (take 13 reserved_words) (str_to_ascii_lowercase word.now) }
 {
     is(word, b"and")
         || is(word, b"or")
@@ -126,13 +126,7 @@ fn is_reserved_form(word: &[u8]) -> bool
 }
 
 fn is_reserved_operator(word: &[u8]) -> bool
-    ensures { result
-        ≡ has_name
-        (map codes
-        ("always" ∷ "sometime" ∷ "at-most-once" ∷ "sometime-after" ∷ "sometime-before"
-        ∷ "within" ∷ "always-within" ∷ "hold-during" ∷ "hold-after" ∷ "assign"
-        ∷ "decrease" ∷ "scale-up" ∷ "scale-down" ∷ []))
-        (str_to_ascii_lowercase word.now) }
+    ensures { result ≡ has_name (drop 13 reserved_words) (str_to_ascii_lowercase word.now) }
 {
     is(word, b"always")
         || is(word, b"sometime")
@@ -159,27 +153,28 @@ fn begins_with_letters(word: &[u8]) -> bool
     }
 }
 
-/// Whether a word is reserved. Two bytes tell of many that they are not.
-#[tactic(auto, using(crate::proofs::WordLemmas::letters_first))]
-fn is_reserved(word: &[u8]) -> bool
-    ensures { result ≡ has_name reserved_words (str_to_ascii_lowercase word.now) }
-{
-    begins_with_letters(word) && is_listed_as_reserved(word)
-}
-
 fn is_listed_as_reserved(word: &[u8]) -> bool
     ensures { result ≡ has_name reserved_words (str_to_ascii_lowercase word.now) }
 {
     is_reserved_form(word) || is_reserved_operator(word)
 }
 
-pub(crate) fn is_function_word(word: &[u8]) -> bool
-    ensures { result ≡ is_function_name (str_to_ascii_lowercase word.now) }
+/// Whether a word is reserved. Two bytes tell of many that they are not.
+#[tactic(auto, using(crate::proofs::ClassLemmas::letters_first))]
+fn is_reserved(word: &[u8]) -> bool
+    ensures { result ≡ has_name reserved_words (str_to_ascii_lowercase word.now) }
 {
-    is_name_word(word) && !is_reserved(word)
+    begins_with_letters(word) && is_listed_as_reserved(word)
 }
 
-#[tactic(auto, using(crate::proofs::WordLemmas::same_name_sym))]
+/// Whether a word may be the name of a function.
+pub fn is_function_name(word: &[u8]) -> bool
+    ensures { result ≡ is_function_name (str_to_ascii_lowercase word.now) }
+{
+    is_name(word) && !is_reserved(word)
+}
+
+#[tactic(auto, using(crate::proofs::ClassLemmas::same_name_sym))]
 fn is_free(word: &[u8]) -> bool
     ensures { result
         ≡ (not (has_name reserved_words (str_to_ascii_lowercase word.now))
@@ -188,25 +183,9 @@ fn is_free(word: &[u8]) -> bool
     !is_reserved(word) && !is(word, b"total-cost")
 }
 
-pub(crate) fn is_predicate_word(word: &[u8]) -> bool
+/// Whether a word may be the name of a predicate.
+pub fn is_predicate_name(word: &[u8]) -> bool
     ensures { result ≡ is_predicate_name (str_to_ascii_lowercase word.now) }
 {
-    is_name_word(word) && is_free(word)
-}
-
-/// Whether a word is of the class.
-pub(crate) fn is_word_of(class: Class, word: &[u8]) -> bool
-    ensures { result ≡ is_word_of class (str_to_ascii_lowercase word.now) }
-{
-    match class {
-        Class::Name => is_name_word(word),
-        Class::Variable => is_variable_word(word),
-        Class::Term => is_name_word(word) || is_variable_word(word),
-        Class::Number => is_decimal_word(word),
-        Class::Keyword => is_keyword_word(word),
-        Class::Direction => is(word, b"minimize") || is(word, b"maximize"),
-        Class::End => is(word, b"end"),
-        Class::Numeric => is_decimal_word(word) || is(word, b"total-cost"),
-        Class::NumberType => is(word, b"number"),
-    }
+    is_name(word) && is_free(word)
 }
