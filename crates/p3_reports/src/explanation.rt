@@ -36,7 +36,10 @@ pub struct ExplainReport {
 }
 
 /// Puts the report of a plan whose steps fit.
-pub fn put_explain_report<S: Sink>(report: &ExplainReport, out: &mut S) -> Result<(), SinkFailed>
+pub(crate) fn put_explain_report<S: Sink>(
+    report: &ExplainReport,
+    out: &mut S,
+) -> Result<(), SinkFailed>
     ensures ok { OnOk result (IsPut (explain_text report.now)
         (S.seen out.old).written (S.seen out.new).written) }
     ensures partly { OnErr result (IsPartlyPut (explain_text report.now)

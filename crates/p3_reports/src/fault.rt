@@ -66,7 +66,7 @@ pub fn put_fault<S: Sink>(fault: Fault, out: &mut S) -> Result<(), SinkFailed>
 }
 
 /// Puts the line that refuses a plan by the first fault of its lifted plan.
-pub fn put_lifted_fault<S: Sink>(fault: Fault, out: &mut S) -> Result<(), SinkFailed>
+pub(crate) fn put_lifted_fault<S: Sink>(fault: Fault, out: &mut S) -> Result<(), SinkFailed>
     ensures ok { OnOk result (IsPut (lifted_fault_line (fault_line (fault_of fault)))
         (S.seen out.old).written (S.seen out.new).written) }
     ensures partly { OnErr result (IsPartlyPut (lifted_fault_line (fault_line (fault_of fault)))

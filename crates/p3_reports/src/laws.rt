@@ -1,6 +1,7 @@
 //! The laws of reports. Each is the contract of a function without a body.
 
-ghost use Rattle.std.specs.Prelude.{◌≡◌, ℕ, ℤ};
+ghost use Rattle.std.specs.Prelude.{◌≡◌, List, ℕ, ℤ};
+ghost use Rattle.p3_base.specs.declared.refusal.Refusal.{Refusal};
 ghost use Rattle.p3_tree.specs.Plans.{Plan};
 ghost use Rattle.p3_tree.specs.Validity.{Fault};
 ghost use Rattle.p3_tree.specs.Reports.Explanations.{explained_lines};
@@ -10,6 +11,7 @@ ghost use Rattle.p3_tree.specs.Reports.Plans.{
   generated_lines,
   lifted_lines,
 };
+ghost use Rattle.p3_tree.specs.Reports.Refusals.{refusal_line};
 ghost use Rattle.p3_tree.specs.Reports.Tasks.{compiled_lines};
 ghost use Rattle.p3_tree.specs.declared.task.Task.{Task};
 ghost use Rattle.p3_reports.specs.Explained.{IsExplainReport, explain_text};
@@ -21,6 +23,7 @@ ghost use Rattle.p3_reports.specs.Found.{
   IsGenerateReport,
   IsLiftReport,
 };
+ghost use Rattle.p3_reports.specs.Rejections.{placed_in, placed_line};
 ghost use Rattle.p3_reports.specs.Reports.{
   compile_text,
   embed_text,
@@ -35,7 +38,8 @@ ghost use Rattle.p3_reports.specs.declared.report.EvaluateReport.{EvaluateReport
 ghost use Rattle.p3_reports.specs.declared.report.GenerateReport.{GenerateReport};
 ghost use Rattle.p3_reports.specs.declared.report.LiftReport.{LiftReport};
 
-/// What is found of a task and a plan is printed as the lines that the definitions give them.
+/// What is found of a task and a plan, and a refusal of a text, are printed as the lines that the
+/// definitions give them.
 pub fn reports_are_lines()
     ensures compile { (T : Task) (report : CompileReport) → IsCompileReport T report
         → compile_text report ≡ compiled_lines T }
@@ -50,6 +54,8 @@ pub fn reports_are_lines()
         → generate_text report ≡ generated_lines T plan len cost }
     ensures explain { (T : Task) (plan : Plan) (report : ExplainReport)
         → IsExplainReport T plan report → explain_text report ≡ explained_lines T plan }
+    ensures refusal { (text : List ℕ) (refusal : Refusal)
+        → placed_line (placed_in text refusal) ≡ refusal_line text refusal }
 {}
 
 /// The fault that the code names for one of the definitions is that one.

@@ -16,21 +16,15 @@ mod stack_sink;
 mod tests;
 mod words;
 
-pub use explanation::{ExplainReport, NamedReason, put_explain_report};
-pub use fault::{Fault, Misfit, put_fault, put_lifted_fault};
+pub use explanation::{ExplainReport, NamedReason};
+pub use fault::{Fault, Misfit, put_fault};
 pub use laws::{faults_are_named, reports_are_lines};
 pub use outside::{put_no_memory, put_read_fault, put_too_long, put_usage, put_write_fault};
 pub use part::{NameCount, Part, put_part, put_parts};
-pub use piece::{Piece, put_line, put_pieces};
 pub use placed::PlacedRefusal;
 pub use quantity::Quantity;
-pub use refusal::{
-    Rejection, put_not_plain, put_numbers_differ, put_placed_refusal, put_refusal, put_rejection,
-};
+pub use refusal::{Rejection, put_placed_refusal, put_rejection};
 pub use report::{
-    CompileReport, EmbedReport, EvaluateReport, GenerateReport, LiftReport, Report,
-    put_compile_report, put_embed_report, put_evaluate_report, put_generate_report,
-    put_lift_report, put_report,
+    CompileReport, EmbedReport, EvaluateReport, GenerateReport, LiftReport, Report, put_report,
 };
 pub use stack_sink::StackSink;
-pub use words::{code_words, direction_word, misfit_words, role_word};

@@ -18,7 +18,7 @@ const LINE_ROOM: usize = 256;
 
 /// A piece of a line: a text, or what is found, which is printed by its digits or its name.
 #[derive(Clone, Copy)]
-pub enum Piece<'a> {
+pub(crate) enum Piece<'a> {
     /// A text.
     Text(&'a str),
     /// Bytes, as those of a name.
@@ -41,7 +41,7 @@ pub enum Piece<'a> {
 
 /// Puts pieces one behind another. Where they have no more bytes than most lines, they are put at
 /// once.
-pub fn put_pieces<S: Sink>(pieces: &[Piece<'_>], out: &mut S) -> Result<(), SinkFailed>
+pub(crate) fn put_pieces<S: Sink>(pieces: &[Piece<'_>], out: &mut S) -> Result<(), SinkFailed>
     ensures ok { OnOk result (IsPut (pieces_text pieces.now)
         (S.seen out.old).written (S.seen out.new).written) }
     ensures partly { OnErr result (IsPartlyPut (pieces_text pieces.now)
@@ -58,7 +58,7 @@ pub fn put_pieces<S: Sink>(pieces: &[Piece<'_>], out: &mut S) -> Result<(), Sink
 
 /// Puts a line of two parts, each of some pieces. Where it has no more bytes than most lines, it is
 /// put at once.
-pub fn put_line<S: Sink>(
+pub(crate) fn put_line<S: Sink>(
     first: &[Piece<'_>],
     second: &[Piece<'_>],
     out: &mut S,

@@ -1,20 +1,14 @@
 //! The lines that say why and where an input is refused.
 
-ghost use Rattle.std.specs.Prelude.{◌≤◌, OnErr, OnOk, length};
+ghost use Rattle.std.specs.Prelude.{◌≤◌, OnErr, OnOk};
 ghost use Rattle.p3_base.specs.Outside.{IsPartlyPut, IsPut, Rose};
-ghost use Rattle.p3_base.specs.declared.refusal.Side.TheVariants.{Written};
-ghost use Rattle.p3_tree.specs.Reports.Refusals.{
-  not_plain_line,
-  numbers_differ_line,
-  refusal_line,
-};
-ghost use Rattle.p3_tree.specs.Sides.{byte_limit};
+ghost use Rattle.p3_tree.specs.Reports.Refusals.{not_plain_line, numbers_differ_line};
 ghost use Rattle.p3_reports.specs.Rejections.{placed_line, rejection_line};
 
 use crate::fault::{Fault, put_lifted_fault};
 use crate::piece::{Piece, put_pieces};
 use crate::placed::PlacedRefusal;
-use p3_base::{Refusal, Sink, SinkFailed};
+use p3_base::{Sink, SinkFailed};
 
 /// Why what was read is refused.
 #[derive(Debug, Drop)]
@@ -51,20 +45,6 @@ pub fn put_rejection<S: Sink>(rejection: &Rejection, out: &mut S) -> Result<(), 
     }
 }
 
-/// Puts the line of a refusal of this text.
-pub fn put_refusal<S: Sink>(refusal: &Refusal, text: &[u8], out: &mut S) -> Result<(), SinkFailed>
-    requires { length text.now ≤ byte_limit Written }
-    ensures ok { OnOk result (IsPut (refusal_line text.now refusal.now)
-        (S.seen out.old).written (S.seen out.new).written) }
-    ensures partly { OnErr result (IsPartlyPut (refusal_line text.now refusal.now)
-        (S.seen out.old).written (S.seen out.new).written) }
-    ensures failed { OnErr result (Rose (S.seen out.old).faults (S.seen out.new).faults) }
-    ensures faults_grow { (S.seen out.old).faults ≤ (S.seen out.new).faults }
-{
-    let placed = PlacedRefusal::of(refusal, text);
-    put_placed_refusal(&placed, out)
-}
-
 /// Puts the line of a refusal at its place.
 pub fn put_placed_refusal<S: Sink>(placed: &PlacedRefusal, out: &mut S) -> Result<(), SinkFailed>
     ensures ok { OnOk result (IsPut (placed_line placed.now)
@@ -93,7 +73,7 @@ pub fn put_placed_refusal<S: Sink>(placed: &PlacedRefusal, out: &mut S) -> Resul
 }
 
 /// Puts the line that refuses a written task which is not plain.
-pub fn put_not_plain<S: Sink>(out: &mut S) -> Result<(), SinkFailed>
+fn put_not_plain<S: Sink>(out: &mut S) -> Result<(), SinkFailed>
     ensures ok { OnOk result (IsPut not_plain_line
         (S.seen out.old).written (S.seen out.new).written) }
     ensures partly { OnErr result (IsPartlyPut not_plain_line
@@ -106,7 +86,7 @@ pub fn put_not_plain<S: Sink>(out: &mut S) -> Result<(), SinkFailed>
 
 /// Puts the line that refuses a plan whose cost in the written task is not the loss of the lifted
 /// plan above the base.
-pub fn put_numbers_differ<S: Sink>(cost: i128, loss: i128, out: &mut S) -> Result<(), SinkFailed>
+fn put_numbers_differ<S: Sink>(cost: i128, loss: i128, out: &mut S) -> Result<(), SinkFailed>
     ensures ok { OnOk result (IsPut (numbers_differ_line cost loss)
         (S.seen out.old).written (S.seen out.new).written) }
     ensures partly { OnErr result (IsPartlyPut (numbers_differ_line cost loss)

@@ -118,7 +118,7 @@ pub fn put_report<S: Sink>(report: &Report, out: &mut S) -> Result<(), SinkFaile
 }
 
 /// Puts the report of a task that was compiled.
-pub fn put_compile_report<S: Sink>(report: &CompileReport, out: &mut S) -> Result<(), SinkFailed>
+fn put_compile_report<S: Sink>(report: &CompileReport, out: &mut S) -> Result<(), SinkFailed>
     ensures ok { OnOk result (IsPut (compile_text report.now)
         (S.seen out.old).written (S.seen out.new).written) }
     ensures partly { OnErr result (IsPartlyPut (compile_text report.now)
@@ -139,7 +139,7 @@ pub fn put_compile_report<S: Sink>(report: &CompileReport, out: &mut S) -> Resul
 }
 
 /// Puts the report of a plan that was embedded.
-pub fn put_embed_report<S: Sink>(report: &EmbedReport, out: &mut S) -> Result<(), SinkFailed>
+fn put_embed_report<S: Sink>(report: &EmbedReport, out: &mut S) -> Result<(), SinkFailed>
     ensures ok { OnOk result (IsPut (embed_text report.now)
         (S.seen out.old).written (S.seen out.new).written) }
     ensures partly { OnErr result (IsPartlyPut (embed_text report.now)
@@ -162,7 +162,7 @@ pub fn put_embed_report<S: Sink>(report: &EmbedReport, out: &mut S) -> Result<()
 }
 
 /// Puts the report of a valid plan.
-pub fn put_evaluate_report<S: Sink>(report: &EvaluateReport, out: &mut S) -> Result<(), SinkFailed>
+fn put_evaluate_report<S: Sink>(report: &EvaluateReport, out: &mut S) -> Result<(), SinkFailed>
     ensures ok { OnOk result (IsPut (evaluate_text report.now)
         (S.seen out.old).written (S.seen out.new).written) }
     ensures partly { OnErr result (IsPartlyPut (evaluate_text report.now)
@@ -183,7 +183,7 @@ pub fn put_evaluate_report<S: Sink>(report: &EvaluateReport, out: &mut S) -> Res
 }
 
 /// Puts the report of a lifted plan.
-pub fn put_lift_report<S: Sink>(report: &LiftReport, out: &mut S) -> Result<(), SinkFailed>
+fn put_lift_report<S: Sink>(report: &LiftReport, out: &mut S) -> Result<(), SinkFailed>
     ensures ok { OnOk result (IsPut (lift_text report.now)
         (S.seen out.old).written (S.seen out.new).written) }
     ensures partly { OnErr result (IsPartlyPut (lift_text report.now)
@@ -202,7 +202,7 @@ pub fn put_lift_report<S: Sink>(report: &LiftReport, out: &mut S) -> Result<(), 
 }
 
 /// Puts the report of a sample.
-pub fn put_generate_report<S: Sink>(report: &GenerateReport, out: &mut S) -> Result<(), SinkFailed>
+fn put_generate_report<S: Sink>(report: &GenerateReport, out: &mut S) -> Result<(), SinkFailed>
     ensures ok { OnOk result (IsPut (generate_text report.now)
         (S.seen out.old).written (S.seen out.new).written) }
     ensures partly { OnErr result (IsPartlyPut (generate_text report.now)

@@ -1,8 +1,8 @@
 //! What is printed, byte for byte.
 
 use crate::{
-    EvaluateReport, Fault, Misfit, NameCount, Part, Quantity, put_evaluate_report,
-    put_lifted_fault, put_numbers_differ, put_part, put_parts, put_refusal,
+    EvaluateReport, Fault, Misfit, NameCount, Part, PlacedRefusal, Quantity, Rejection, Report,
+    put_part, put_parts, put_rejection, put_report,
 };
 use p3_base::{Code, List, MemSink, Name, Pos, Refusal, Role, SinkFailed};
 use std::test::Fail;
@@ -32,7 +32,7 @@ fn a_valid_plan_is_reported_line_by_line(rt: HostRuntime) -> Result<(), Fail> {
             units: -305,
         },
     };
-    assert_eq!(rt; put_evaluate_report(&report, &mut sink), Ok(()));
+    assert_eq!(rt; put_report(&Report::Evaluate(report), &mut sink), Ok(()));
     let lines = b"valid\nsteps 7\ncost 30\nviolated home 12\nviolated tour 0\nmetric -3.05\n";
     assert_eq!(rt; sink.bytes(), lines.as_slice());
     Ok(())
@@ -50,7 +50,8 @@ fn a_refusal_names_its_place_and_its_word(rt: HostRuntime) -> Result<(), Fail> {
         },
         len: 3,
     };
-    assert_eq!(rt; put_refusal(&refusal, b"(a\n (BcD e))", &mut sink), Ok(()));
+    let placed = Rejection::At(PlacedRefusal::of(&refusal, b"(a\n (BcD e))"));
+    assert_eq!(rt; put_rejection(&placed, &mut sink), Ok(()));
     let foreign = Refusal {
         code: Code::BadByte,
         pos: Pos {
@@ -59,7 +60,8 @@ fn a_refusal_names_its_place_and_its_word(rt: HostRuntime) -> Result<(), Fail> {
         },
         len: 1,
     };
-    assert_eq!(rt; put_refusal(&foreign, b"(\xc3", &mut sink), Ok(()));
+    let placed = Rejection::At(PlacedRefusal::of(&foreign, b"(\xc3"));
+    assert_eq!(rt; put_rejection(&placed, &mut sink), Ok(()));
     let lines =
         b"refused 7 unknown: written-problem 2:3 bcd\nrefused 1 bad byte: plan 1:2 byte c3\n";
     assert_eq!(rt; sink.bytes(), lines.as_slice());
@@ -71,9 +73,14 @@ fn a_lifted_plan_differs_by_a_fault_or_by_numbers(rt: HostRuntime) -> Result<(),
     let alloc = rt.alloc();
     let mut sink = MemSink::new(alloc, 200)?;
     let fault = Fault::AtStep(3, Misfit::NoCost);
-    assert_eq!(rt; put_lifted_fault(fault, &mut sink), Ok(()));
-    assert_eq!(rt; put_lifted_fault(Fault::AtConstraint(0), &mut sink), Ok(()));
-    assert_eq!(rt; put_numbers_differ(-4, 5, &mut sink), Ok(()));
+    assert_eq!(rt;
+        put_rejection(&Rejection::LiftedFault(fault), &mut sink),
+        Ok(())
+    );
+    let other = Rejection::LiftedFault(Fault::AtConstraint(0));
+    assert_eq!(rt; put_rejection(&other, &mut sink), Ok(()));
+    let numbers = Rejection::NumbersDiffer { cost: -4, loss: 5 };
+    assert_eq!(rt; put_rejection(&numbers, &mut sink), Ok(()));
     let lines =
         b"refused 20 mismatch: invalid step 3: no cost\nrefused 20 mismatch: invalid: constraint 0\nrefused 20 mismatch: cost -4 loss 5\n";
     assert_eq!(rt; sink.bytes(), lines.as_slice());

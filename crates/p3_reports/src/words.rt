@@ -11,7 +11,7 @@ use crate::fault::Misfit;
 use p3_base::{Code, Direction, Role};
 
 /// Names a file.
-pub fn role_word(role: Role) -> &'static str
+pub(crate) fn role_word(role: Role) -> &'static str
     ensures { result.now ≡ role_name role }
 {
     match role {
@@ -24,7 +24,7 @@ pub fn role_word(role: Role) -> &'static str
 }
 
 /// Names a direction.
-pub fn direction_word(direction: Direction) -> &'static str
+pub(crate) fn direction_word(direction: Direction) -> &'static str
     ensures { result.now ≡ direction_name direction }
 {
     match direction {
@@ -34,7 +34,7 @@ pub fn direction_word(direction: Direction) -> &'static str
 }
 
 /// Says why a step does not fit.
-pub fn misfit_words(misfit: Misfit) -> &'static str
+pub(crate) fn misfit_words(misfit: Misfit) -> &'static str
     ensures { result.now ≡ misfit_name (misfit_of misfit) }
 {
     match misfit {
@@ -46,7 +46,7 @@ pub fn misfit_words(misfit: Misfit) -> &'static str
 }
 
 /// Gives the number and the text of a code.
-pub fn code_words(code: Code) -> &'static str
+pub(crate) fn code_words(code: Code) -> &'static str
     ensures { result.now ≡ code_text code }
 {
     match code {
