@@ -1,7 +1,7 @@
 -- Operators over what their formulas become.
 use Rattle.std.proofs.Common.{◌≡◌, ◌∙◌, refl, Bool, true, [], ◌∷◌, map}
 use Rattle.std.proofs.lemmas.Bool.{and_parts}
-use Rattle.p3_base.specs.Operators.{all, binary, formulas_of, joined, over, Pairs, unary}
+use Rattle.p3_base.specs.Operators.{all, binary, formulas_of, is_at_end, joined, over, Pairs, unary}
 use Rattle.p3_base.specs.declared.operator.Binary.{Binary}
 use Rattle.p3_base.specs.declared.operator.Binary.TheVariants as two
 use Rattle.p3_base.specs.declared.operator.Operator.{Operator}
@@ -89,6 +89,15 @@ pairs_weaker related weaker by (AtMostOnce x) (AtMostOnce y) pair = by x y pair
 pairs_weaker related weaker by (SometimeAfter x x2) (SometimeAfter y y2) pair = (by x y pair.0, by x2 y2 pair.1)
 pairs_weaker related weaker by (SometimeBefore x x2) (SometimeBefore y y2) pair = (by x y pair.0, by x2 y2 pair.1)
 pairs_weaker related weaker by _ _ pair = absurd pair
+
+pub pairs_at_end : {A B : Type 0} (related : A → B → Type 0) (operator : Operator A) (other : Operator B) → Pairs related operator other → is_at_end operator ≡ is_at_end other
+pairs_at_end related (AtEnd _) (AtEnd _) pair = refl
+pairs_at_end related (Always _) (Always _) pair = refl
+pairs_at_end related (Sometime _) (Sometime _) pair = refl
+pairs_at_end related (AtMostOnce _) (AtMostOnce _) pair = refl
+pairs_at_end related (SometimeAfter _ _) (SometimeAfter _ _) pair = refl
+pairs_at_end related (SometimeBefore _ _) (SometimeBefore _ _) pair = refl
+pairs_at_end related _ _ pair = absurd pair
 
 -- ---- where two functions give the same of each formula
 
