@@ -1,12 +1,7 @@
 -- Constructs that are left out, and the first of them.
-use Rattle.std.proofs.Common.{◌≡◌, ◌∙◌, refl, sym, ap, ℕ, Bool, true, false, IsTrue, ◌↔◌, ◌||◌, ◌&&◌, not, List, [], ◌∷◌, ◌++◌, map, fold, Option, Some, None, append_assoc}
+use Rattle.std.proofs.Common.{◌≡◌, ◌∙◌, refl, sym, ap, Bool, true, false, ◌||◌, ◌&&◌, not, List, [], ◌∷◌, ◌++◌, fold, Option, Some, None, append_assoc}
 use Rattle.std.specs.Prelude.{nat_lt, if◌then◌else◌, codes, option_map}
-use Rattle.std.specs.Bool.{one_answer}
 use Rattle.std.specs.List.{list_all, list_any}
-use Rattle.std.proofs.lemmas.Bool.{and_parts}
-use Rattle.std.specs.Char.{to_ascii_lowercase}
-use Rattle.std.specs.Str.{bytes_eq}
-use Rattle.std.proofs.lemmas.Slice.Eq.{bytes_eq-Decides}
 use mathlib.Core.Former.{Count}
 use Rattle.p3_lexer.proofs.ClassLemmas.{same_name_sym, differs, none_passed, test_first}
 use Rattle.p3_base.specs.Words.{is_name}

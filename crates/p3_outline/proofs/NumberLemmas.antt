@@ -1,5 +1,5 @@
 -- A word and its first point.
-use Rattle.std.proofs.Common.{◌≡◌, ◌∙◌, refl, ap, ℕ, suc, ◌+◌, ◌<◌, ◌≤◌, Bool, true, false, not, ◌&&◌, ◌||◌, nat_lt, sym, map, cond, List, [], ◌∷◌, take, drop, length, codes, Option, Some, None, arith}
+use Rattle.std.proofs.Common.{◌≡◌, ◌∙◌, refl, ap, ℕ, suc, ◌+◌, ◌<◌, ◌≤◌, Bool, true, false, not, sym, map, cond, List, [], ◌∷◌, take, drop, length, codes, Option, Some, None, arith}
 use Rattle.std.proofs.lemmas.List.{take_rest}
 use Rattle.std.specs.Prelude.{◌-◌, ◌==◌, if◌then◌else◌}
 use Rattle.std.specs.Char.{to_ascii_lowercase}
@@ -8,16 +8,12 @@ use Rattle.std.specs.Str.{bytes_eq, str_to_ascii_lowercase}
 use Rattle.std.proofs.lemmas.Bool.Decides.{nat_tests}
 use Rattle.p3_tree.specs.Names.{Name}
 use Rattle.p3_tree.specs.Decimals.{at_point}
-use Rattle.std.specs.List.{list_all}
-use Rattle.std.specs.Option.{option_or, option_map_or}
-use Rattle.p3_base.specs.Words.{is_digit}
+use Rattle.std.specs.Option.{option_or}
 use Rattle.p3_base.specs.declared.refusal.Refusal.{Refusal}
 use Rattle.p3_base.specs.declared.refusal.Role.{Role}
 use Rattle.p3_base.specs.declared.refusal.Side.{Side}
-use Rattle.p3_tree.specs.Decimals.{are_digits, is_decimal, digits_of}
 use Rattle.p3_tree.specs.Refusals.Places.{first_some}
-use Rattle.p3_tree.specs.Refusals.Texts.{is_too_long, has_places_above, long_number}
-use Rattle.p3_tree.specs.Sides.{digit_limit, place_limit}
+use Rattle.p3_tree.specs.Refusals.Texts.{long_number}
 use Rattle.p3_tree.specs.Tokens.{Token, Open, Close, Word, Tokens, before}
 use Rattle.p3_lexer.specs.Lexing.{token_of}
 use Rattle.p3_outline.specs.Numbers.{is_no_point}

@@ -17,7 +17,7 @@ use Rattle.p3_tree.specs.Sides.{Half, InDomain, InProblem, role_of, level_limit}
 use Rattle.p3_tree.specs.Tokens.{Token, Open, Close, Word, Tokens, is_blank, is_of_word, is_comment_after, before, prefixed, with_byte, tokens_from, tokens_of}
 use Rattle.p3_tree.specs.Grammar.Words.{Place, expressions}
 use Rattle.p3_tree.specs.Grammar.Halves.{domain_place, problem_place}
-use Rattle.p3_tree.specs.Refusals.Constructs.{left_out, word_when, head_of, first_word, unless_total_cost, other_increase, not_a_number, shown_by, constructs, constructs_of, constructs_all}
+use Rattle.p3_tree.specs.Refusals.Constructs.{word_when, head_of, first_word, unless_total_cost, other_increase, not_a_number, shown_by, constructs, constructs_of, constructs_all}
 use Rattle.p3_tree.specs.Refusals.Malformed.{IsMalformedAt, IsMalformed}
 use Rattle.p3_tree.specs.Refusals.Places.{refusal_at, refusal_at_word, refusal_at_token, first_some}
 use Rattle.p3_tree.specs.Refusals.Texts.{Before, Inside, Behind, after_token, construct_in, is_too_long, long_number, refusal_of_tokens, refusal_of_bytes, text_refusal, unbalanced_end, unbalanced_from, too_deep_from}

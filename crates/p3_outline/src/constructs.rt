@@ -183,7 +183,11 @@ fn head_shown(around: Around, head: TextWord<'_>, least: Option<Found>) -> Optio
 {
     let least = least_if(is_left_out(head.text), least, head);
     let least = least_if(around.declares && is_called(head, b"either"), least, head);
-    least_if(around.conditional && is_called(head, b"increase"), least, head)
+    least_if(
+        around.conditional && is_called(head, b"increase"),
+        least,
+        head,
+    )
 }
 
 /// An increase of something else than the total cost.

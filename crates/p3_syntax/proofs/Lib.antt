@@ -11,6 +11,7 @@ pub mod LayerLemmas
 pub mod MetricLemmas
 pub mod EffectLemmas
 pub mod SectionLemmas
+pub mod HeadLemmas
 pub mod ActionLemmas
 pub mod DomainLemmas
 pub mod ProblemLemmas

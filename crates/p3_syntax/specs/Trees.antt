@@ -27,9 +27,6 @@ use Rattle.p3_outline.specs.Nodes.{expression_of, expressions_of}
 abbrev pub the_word : TextWord → Ref
 the_word word = record { name = str_to_ascii_lowercase word.text.now; at = word.at }
 
-abbrev pub expression_at : TextWord → Expression
-expression_at word = Word word.at (str_to_ascii_lowercase word.text.now)
-
 abbrev pub the_pair : View × View → Expression × Expression
 the_pair both = (expression_of both.0, expression_of both.1)
 
