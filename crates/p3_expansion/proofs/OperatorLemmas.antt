@@ -14,7 +14,6 @@ use Rattle.p3_base.specs.declared.operator.Unary.{Unary}
 use Rattle.p3_formula.specs.Tidy.{is_tidy}
 use Rattle.p3_formula.specs.declared.form.Form.{Form}
 use Rattle.p3_formula.specs.GroundModal.{GroundModal}
-use Rattle.p3_base.specs.declared.operator.Operator.TheVariants as ground_modal
 use Rattle.p3_numbers.specs.Conditions.{met}
 use Rattle.p3_numbers.specs.Constraints.{PlacedModal, ModalMeaning, numbered_modal_meaning, test_at, placed_modal_meaning, hard_operators, all_operators}
 use Rattle.p3_numbers.specs.Slots.{Slots, bound}
@@ -78,8 +77,8 @@ module _ (N : Numbers) (S : Statics) where
       tidy = ap (list_all is_tidy) forms ∙ and_from (is_tidy form) true tidy refl;
     }
 
-    pub stands-AtEnd : (atoms : List GroundAtom) (form : Form) → Stands N S atoms (condition_meaning N slots f) form → is_tidy form ≡ true → OperatorStands N S atoms (record { modal = modal.AtEnd f; slots = slots }) (ground_modal.AtEnd form)
-    stands-AtEnd atoms form stands tidy = one-stands atoms form stands tidy (modal.AtEnd f) (ground_modal.AtEnd form) refl refl stands.truth
+    pub stands-AtEnd : (atoms : List GroundAtom) (form : Form) → Stands N S atoms (condition_meaning N slots f) form → is_tidy form ≡ true → OperatorStands N S atoms (record { modal = modal.AtEnd f; slots = slots }) (modal.AtEnd form)
+    stands-AtEnd atoms form stands tidy = one-stands atoms form stands tidy (modal.AtEnd f) (modal.AtEnd form) refl refl stands.truth
 
   module _ (slots : Slots) (f : Condition) (old new : Work) (form : Form) (makes : Makes N S old new (condition_meaning N slots f) form) where
     one_form : (operator : NumberedModal) (modal : GroundModal) → formulas_of operator ≡ f ∷ [] → formulas_of modal ≡ form ∷ [] → HasTruths N S new.atoms (numbered_modal_meaning N slots operator) modal → MakesOperator N S (record { modal = operator; slots = slots }) old new modal
