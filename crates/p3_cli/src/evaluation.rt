@@ -30,9 +30,10 @@ use crate::acceptance::{accepted, grounded, readable_plan, spelled_task};
 use crate::found::evaluated_report;
 use crate::texts::Texts;
 use p3_base::Side;
-use p3_eval::{Accepted, PlanFault, Steps, Whole, named_fault};
+use p3_eval::{Accepted, PlanFault, Steps, Whole};
 use p3_reports::Report;
 use p3_tree::Task;
+use p3_watch::named_fault;
 use std::alloc::Global;
 use std::mem::forget;
 

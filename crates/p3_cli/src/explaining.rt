@@ -26,9 +26,10 @@ use crate::evaluation::{invalid, judged_task};
 use crate::found::copied;
 use crate::texts::Texts;
 use p3_base::{List, NoMemory, Reason};
-use p3_eval::{Accepted, Grounded, PlanFault, Steps, named_fault};
+use p3_eval::{Accepted, Grounded, PlanFault, Steps};
 use p3_explain::{ExplainFail, Explanation, explain_steps, name_of};
 use p3_reports::{ExplainReport, Fault, NamedReason, Report};
+use p3_watch::named_fault;
 use std::alloc::Global;
 use std::mem::forget;
 

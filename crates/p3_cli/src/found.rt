@@ -27,7 +27,7 @@ ghost use Rattle.p3_cli.specs.Translation.{CanBeCompiled};
 
 use p3_base::{List, Name, NoMemory};
 use p3_embed::Embedded;
-use p3_eval::{Run, Steps, Whole, cost_of, metric_of, named_fault};
+use p3_eval::{Run, Steps, Whole};
 use p3_lift::{Differ, Lifted};
 use p3_metric::metric_places;
 use p3_reports::{
@@ -35,6 +35,7 @@ use p3_reports::{
     Rejection,
 };
 use p3_types::Checked;
+use p3_watch::{cost_of, metric_of, named_fault};
 use std::alloc::Global;
 
 /// Gives the report of a task: the number of its steps, that of its preference instances, the loss

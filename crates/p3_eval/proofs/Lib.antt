@@ -1,7 +1,6 @@
 pub mod AmongLemmas
 pub mod BaseLaws
 pub mod CostLaws
-pub mod FoundLemmas
 pub mod JudgeLaws
 pub mod JudgeLemmas
 pub mod ReadyLaws

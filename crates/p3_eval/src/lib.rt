@@ -5,7 +5,6 @@
 mod accepted;
 mod error;
 mod fault;
-mod found;
 mod grounded;
 mod judge;
 mod laws;
@@ -18,7 +17,6 @@ mod whole;
 pub use accepted::Accepted;
 pub use error::WholeFail;
 pub use fault::{FaultKind, PlanFault};
-pub use found::{cost_of, metric_of, named_fault};
 pub use grounded::Grounded;
 pub use laws::{
     accepted_tasks_can_be_compiled, accepted_tasks_can_be_run, runs_tell_costs_and_values,

@@ -9,10 +9,10 @@ ghost use Rattle.p3_watch.specs.Lines.{IsInLine, IsToldThere};
 ghost use Rattle.p3_watch.specs.Watching.{OfAnswer};
 
 use crate::evaluated::put_judged;
+use crate::found::named_fault;
 use crate::lines::Start;
 use crate::watch::{Line, Watch};
 use p3_base::{Pos, Refusal, Sink, SinkFailed};
-use p3_eval::named_fault;
 use p3_reports::{PlacedRefusal, StackSink, put_fault, put_placed_refusal};
 
 /// As many bytes as most blocks have at most.

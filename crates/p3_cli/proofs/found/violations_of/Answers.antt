@@ -1,12 +1,16 @@
-use Rattle.std.proofs.Common.{◌≡◌, ◌∙◌, ◌+◌, [], ◌∷◌, ◌++◌, Some, ap, arith, map, sym, take}
+use Rattle.std.proofs.Common.{◌≡◌, ◌∙◌, ◌+◌, ℕ, List, [], ◌∷◌, ◌++◌, Some, ap, arith, map, sym, take}
 use Rattle.std.specs.Option.{option_copied}
-use Rattle.std.specs.Prelude.{slice_get, suc}
+use Rattle.std.specs.Prelude.{slice_get, zero, suc}
 use Rattle.p3_reports.specs.Found.{count_of}
 use Rattle.p3_reports.specs.declared.part.NameCount.{NameCount}
 use Rattle.p3_tree.specs.Metrics.{violated}
 use Rattle.p3_tree.specs.PreferenceNames.{ordered_names}
-use Rattle.p3_eval.proofs.FoundLemmas.{map-one_more}
 use Rattle.p3_cli.proofs.found.violations_of.Goals as goal
+
+map-one_more : {A B : Type 0} (f : A → B) (things : List A) (k : ℕ) (thing : A) → slice_get things k ≡ Some thing → map f (take (suc k) things) ≡ map f (take k things) ++ f thing ∷ []
+map-one_more f [] k thing e = absurd (cc)
+map-one_more f (first ∷ things) zero thing e = let same : first ≡ thing = cc in ap (λ one. f one ∷ []) same
+map-one_more f (first ∷ things) (suc k) thing e = ap (λ rest. f first ∷ rest) (map-one_more f things k thing e)
 
 pub loop-number-preserved : goal.loop-number-preserved
 loop-number-preserved c = λ plan are.

@@ -9,7 +9,7 @@ ghost use Rattle.p3_reports.specs.Found.{IsQuantity};
 ghost use Rattle.p3_eval.specs.Judged.{fault_in};
 ghost use Rattle.p3_eval.specs.Runs.{BelongTogether, OfRun};
 
-use crate::{FaultKind, PlanFault, Run};
+use p3_eval::{FaultKind, PlanFault, Run};
 use p3_metric::metric_places;
 use p3_reports::{Fault, Misfit, Quantity};
 use p3_types::Checked;
