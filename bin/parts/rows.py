@@ -1,4 +1,4 @@
-"""Reads files of rows, as crates/p3_rows/data/README.md says what they are.
+"""Reads files of rows, as crates/p3_test_rows/data/README.md says what they are.
 
 A sheet has rows; a row has steps, each the number of its line, a word, and what stands behind that: words
 and, where the word takes one, a text. All is read as bytes, one to a letter.

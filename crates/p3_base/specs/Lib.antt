@@ -3,6 +3,7 @@ pub mod Copied
 pub mod Copies
 pub mod Limits
 pub mod Memory
+pub mod Operators
 pub mod Outside
 pub mod Place
 pub mod Showings

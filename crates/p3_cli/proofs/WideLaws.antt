@@ -10,24 +10,24 @@ use Rattle.std.proofs.lemmas.Bool.Decides.{nat_tests}
 use Rattle.p3_tree.specs.Constraints.{HardModal, Instance, hard_list, instances, operators}
 use Rattle.p3_tree.specs.Literals.{Literal}
 use Rattle.p3_tree.specs.States.{has_fact, same_fact}
-use Rattle.p3_tree.specs.declared.constraint.Modal.{Modal}
-use Rattle.p3_tree.specs.declared.constraint.Modal.TheVariants as modal
+use Rattle.p3_tree.specs.Modal.{Modal}
+use Rattle.p3_base.proofs.OperatorLaws.{pairs_at_end}
 use Rattle.p3_tree.specs.declared.state.Fact.{Fact}
 use Rattle.p3_tree.specs.declared.task.Step.{Step}
 use Rattle.p3_tree.specs.declared.task.Task.{Task}
 use Rattle.p3_tree.specs.Mentions.{operator_atoms, step_literals}
 use Rattle.p3_tree.specs.Refusals.Flat.{most_conditions}
 use Rattle.p3_tree.specs.States.{Environment}
-use Rattle.p3_tree.specs.Touching.{all_operators, can_touch, conds, has_literal_of, looks_back}
+use Rattle.p3_tree.specs.Touching.{all_operators, can_touch, conds, has_literal_of}
 use Rattle.p3_tree.proofs.StateLemmas.{same_fact-Decides}
 use Rattle.p3_formula.specs.Forms.{is_other}
-use Rattle.p3_formula.specs.Modals.{forms_of, is_read, modal_has, touches}
+use Rattle.p3_formula.specs.Modals.{is_read, modal_has, touches}
+use Rattle.p3_base.specs.Operators.{formulas_of, is_at_end}
 use Rattle.p3_formula.specs.Simplified.{is_value}
 use Rattle.p3_formula.specs.Unconditional.{is_conditional}
 use Rattle.p3_formula.specs.declared.form.Change.{Change}
 use Rattle.p3_formula.specs.declared.form.Form.TheVariants.{True}
-use Rattle.p3_formula.specs.declared.modal.GroundModal.{GroundModal}
-use Rattle.p3_formula.specs.declared.modal.GroundModal.TheVariants as made
+use Rattle.p3_formula.specs.GroundModal.{GroundModal}
 use Rattle.p3_formula.specs.declared.modal.GroundSoft.{GroundSoft}
 use Rattle.p3_formula.specs.declared.target.Target.{Target}
 use Rattle.p3_formula.specs.declared.target.TargetAction.{TargetAction}
@@ -36,7 +36,7 @@ use Rattle.p3_formula.specs.declared.task.GroundTask.{GroundTask}
 use Rattle.p3_formula.proofs.ReadAtoms.{all_have_more_of}
 use Rattle.p3_compile.specs.Lean.{IsLean, busy_modals, is_busy}
 use Rattle.p3_ground.specs.Sparse.{AtItsStep, HasFewChanges, HasOwnAtoms, IsGroundingOf, PartsHaveOwnAtoms, is_atom_of}
-use Rattle.p3_ground.specs.StandsFor.{HardStands, ModalStands, SoftStands}
+use Rattle.p3_ground.specs.StandsFor.{FormStands, HardStands, ModalStands, SoftStands}
 use Rattle.p3_flat.specs.Conditions.{conditions, is_too_wide}
 use Rattle.p3_flat.proofs.PlacingLemmas.{conditions_few}
 use Rattle.p3_cli.specs.Flattening.{IsOfWideStep}
@@ -122,7 +122,7 @@ read_is : (allowed : ℕ → Bool) (gm : GroundModal) → modal_has allowed gm �
 read_is allowed gm has atom read = by (allowed atom) refl where
   by : (b : Bool) → allowed atom ≡ b → b ≡ true
   by true e = refl
-  by false e = absurd (true≢false (sym read ∙ ap not (all_have_more_of allowed (is_other atom) differs (forms_of gm) has)))
+  by false e = absurd (true≢false (sym read ∙ ap not (all_have_more_of allowed (is_other atom) differs (formulas_of gm) has)))
     where
       differs : (other : ℕ) → allowed other ≡ true → is_other atom other ≡ true
       differs other may = one_way (other == atom) refl
@@ -152,50 +152,19 @@ module _ (T : Task) (atoms : List Fact) (step : Step) (changes : List Change) (f
   touched : (operator : HardModal) (gm : GroundModal) → HasOwnAtoms T atoms operator gm → touches gm changes ≡ true → has_literal_of T step operator ≡ true
   touched operator gm has busy = any_map (λ f. has_fact (operator_atoms T operator) f) (λ (literal : Literal). literal.fact) (step_literals T step) (touched_by operator gm has changes few.own busy)
 
-  looks : (env : Environment) (modal : Modal) (gm : GroundModal) → ModalStands T atoms env modal gm → is_busy changes gm ≡ true → (looks_back modal ≡ true) × (touches gm changes ≡ true)
-  looks env (modal.AtEnd f) (made.AtEnd form) same busy = absurd (true≢false (sym busy))
-  looks env (modal.AtEnd f) (made.Always form) same busy = absurd same
-  looks env (modal.AtEnd f) (made.Sometime form) same busy = absurd same
-  looks env (modal.AtEnd f) (made.AtMostOnce form) same busy = absurd same
-  looks env (modal.AtEnd f) (made.SometimeAfter form other) same busy = absurd same
-  looks env (modal.AtEnd f) (made.SometimeBefore form other) same busy = absurd same
-  looks env (modal.Always f) (made.AtEnd form) same busy = absurd same
-  looks env (modal.Always f) (made.Always form) same busy = (refl, busy)
-  looks env (modal.Always f) (made.Sometime form) same busy = absurd same
-  looks env (modal.Always f) (made.AtMostOnce form) same busy = absurd same
-  looks env (modal.Always f) (made.SometimeAfter form other) same busy = absurd same
-  looks env (modal.Always f) (made.SometimeBefore form other) same busy = absurd same
-  looks env (modal.Sometime f) (made.AtEnd form) same busy = absurd same
-  looks env (modal.Sometime f) (made.Always form) same busy = absurd same
-  looks env (modal.Sometime f) (made.Sometime form) same busy = (refl, busy)
-  looks env (modal.Sometime f) (made.AtMostOnce form) same busy = absurd same
-  looks env (modal.Sometime f) (made.SometimeAfter form other) same busy = absurd same
-  looks env (modal.Sometime f) (made.SometimeBefore form other) same busy = absurd same
-  looks env (modal.AtMostOnce f) (made.AtEnd form) same busy = absurd same
-  looks env (modal.AtMostOnce f) (made.Always form) same busy = absurd same
-  looks env (modal.AtMostOnce f) (made.Sometime form) same busy = absurd same
-  looks env (modal.AtMostOnce f) (made.AtMostOnce form) same busy = (refl, busy)
-  looks env (modal.AtMostOnce f) (made.SometimeAfter form other) same busy = absurd same
-  looks env (modal.AtMostOnce f) (made.SometimeBefore form other) same busy = absurd same
-  looks env (modal.SometimeAfter f g) (made.AtEnd form) same busy = absurd same
-  looks env (modal.SometimeAfter f g) (made.Always form) same busy = absurd same
-  looks env (modal.SometimeAfter f g) (made.Sometime form) same busy = absurd same
-  looks env (modal.SometimeAfter f g) (made.AtMostOnce form) same busy = absurd same
-  looks env (modal.SometimeAfter f g) (made.SometimeAfter form other) same busy = (refl, busy)
-  looks env (modal.SometimeAfter f g) (made.SometimeBefore form other) same busy = absurd same
-  looks env (modal.SometimeBefore f g) (made.AtEnd form) same busy = absurd same
-  looks env (modal.SometimeBefore f g) (made.Always form) same busy = absurd same
-  looks env (modal.SometimeBefore f g) (made.Sometime form) same busy = absurd same
-  looks env (modal.SometimeBefore f g) (made.AtMostOnce form) same busy = absurd same
-  looks env (modal.SometimeBefore f g) (made.SometimeAfter form other) same busy = absurd same
-  looks env (modal.SometimeBefore f g) (made.SometimeBefore form other) same busy = (refl, busy)
+  looks : (env : Environment) (modal : Modal) (gm : GroundModal) → ModalStands T atoms env modal gm → is_busy changes gm ≡ true → (is_at_end modal ≡ false) × (touches gm changes ≡ true)
+  looks env modal gm same busy = by (is_at_end gm) (pairs_at_end (FormStands T atoms env) modal gm same) busy
+    where
+      by : (b : Bool) → is_at_end modal ≡ b → (if b then false else touches gm changes) ≡ true → (is_at_end modal ≡ false) × (touches gm changes ≡ true)
+      by true ends none = absurd (true≢false (sym none))
+      by false ends some = (ends, some)
 
   abbrev IsBoth : HardModal → GroundModal → Type 0
   IsBoth operator gm = HasOwnAtoms T atoms operator gm × HardStands T atoms operator gm
 
   can_be_touched : (operator : HardModal) (gm : GroundModal) → IsBoth operator gm → is_busy changes gm ≡ true → can_touch T step operator ≡ true
   can_be_touched operator gm is busy =
-      let l = looks operator.env operator.modal gm is.1 busy in ap (λ b. if b then has_literal_of T step operator else false) l.0 ∙ touched operator gm is.0 l.1
+      let l = looks operator.env operator.modal gm is.1 busy in ap (λ b. if b then false else has_literal_of T step operator) l.0 ∙ touched operator gm is.0 l.1
 
   module _ (G : GroundTask) (hard : AllZip IsBoth (hard_list T) G.hard) (soft : AllZip (λ (instance : Instance) (soft : GroundSoft). AllZip IsBoth (operators T instance.env instance.body) soft.parts) (instances T) G.soft) where
     -- no more operators are busy at the changes than the step can touch

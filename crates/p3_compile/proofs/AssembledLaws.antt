@@ -11,7 +11,7 @@ use Rattle.p3_formula.specs.Forms.{State}
 use Rattle.p3_formula.specs.Kept.{atom_count}
 use Rattle.p3_formula.specs.Tidy.{is_tidy, look}
 use Rattle.p3_formula.specs.declared.form.Form.TheVariants.{Atom}
-use Rattle.p3_formula.specs.declared.modal.GroundModal.{GroundModal}
+use Rattle.p3_formula.specs.GroundModal.{GroundModal}
 use Rattle.p3_formula.specs.declared.target.TargetAction.{TargetAction}
 use Rattle.p3_formula.specs.declared.target.Weights.{Weights}
 use Rattle.p3_formula.specs.declared.task.GroundStep.{GroundStep}

@@ -9,11 +9,11 @@ use Rattle.std.proofs.lemmas.List.Folds.{list_all-append, list_all-map}
 use Rattle.p3_formula.specs.Conditions.{is_tidy_action}
 use Rattle.p3_formula.specs.Forms.{State, has_atoms, is_below, truth}
 use Rattle.p3_formula.specs.Kept.{atom_count}
-use Rattle.p3_formula.specs.Modals.{forms_of}
+use Rattle.p3_base.specs.Operators.{formulas_of}
 use Rattle.p3_formula.specs.Tidy.{is_tidy}
 use Rattle.p3_formula.specs.declared.form.Change.{Change}
 use Rattle.p3_formula.specs.declared.form.Form.{Form}
-use Rattle.p3_formula.specs.declared.modal.GroundModal.{GroundModal}
+use Rattle.p3_formula.specs.GroundModal.{GroundModal}
 use Rattle.p3_formula.specs.declared.modal.GroundSoft.{GroundSoft}
 use Rattle.p3_formula.specs.declared.target.TargetAction.{TargetAction}
 use Rattle.p3_formula.specs.declared.task.GroundTask.{GroundTask}
@@ -65,7 +65,7 @@ finish_truth state goal monitors = accepting_truth state (goal ∷ []) monitors 
     and_last false = refl
 
 module _ (go : ℕ) where
-  accept_below : (monitor : Monitor) → list_all (has_atoms (λ atom. nat_lt atom go)) (forms_of monitor.modal) ≡ true → monitor.base + atom_count monitor.modal ≤ go → is_below go monitor.accept ≡ true
+  accept_below : (monitor : Monitor) → list_all (has_atoms (λ atom. nat_lt atom go)) (formulas_of monitor.modal) ≡ true → monitor.base + atom_count monitor.modal ≤ go → is_below go monitor.accept ≡ true
   accept_below monitor below end = ∥∥₁_elim monitor.atoms (Bool-set _ _)
       (λ has. has (λ atom. nat_lt atom go) below (λ atom own. let less = ltb-true atom (monitor.base + atom_count monitor.modal) (and_parts (nat_le monitor.base atom) _ own).1 in lt-ltb atom go (omega (arith, less, end))))
 

@@ -11,8 +11,9 @@ use Rattle.p3_base.specs.Words.{Name}
 use Rattle.p3_formula.specs.Conditions.{HasAtomsBelow}
 use Rattle.p3_formula.specs.Forms.{State}
 use Rattle.p3_formula.specs.Kept.{atom_count}
-use Rattle.p3_formula.specs.Modals.{forms_of, is_modal_below}
-use Rattle.p3_formula.specs.declared.modal.GroundModal.{GroundModal}
+use Rattle.p3_formula.specs.Modals.{is_modal_below}
+use Rattle.p3_base.specs.Operators.{formulas_of}
+use Rattle.p3_formula.specs.GroundModal.{GroundModal}
 use Rattle.p3_formula.specs.declared.modal.GroundSoft.{GroundSoft}
 use Rattle.p3_formula.specs.declared.task.GroundStep.{GroundStep}
 use Rattle.p3_formula.specs.declared.task.GroundTask.{GroundTask}
@@ -99,7 +100,7 @@ softs_below bound (soft ∷ softs) below =
     list_all-append (is_modal_below bound) soft.parts (soft_modals softs) ∙ (λ i. parts.0 i && softs_below bound softs parts.1 i)
 
 modal_more : (low high : ℕ) → low ≤ high → (modal : GroundModal) → is_modal_below low modal ≡ true → is_modal_below high modal ≡ true
-modal_more low high wider modal = all_have_more_of (λ atom. nat_lt atom low) (λ atom. nat_lt atom high) (λ atom less. let l = ltb-true atom low less in lt-ltb atom high (omega (arith, l, wider))) (forms_of modal)
+modal_more low high wider modal = all_have_more_of (λ atom. nat_lt atom low) (λ atom. nat_lt atom high) (λ atom less. let l = ltb-true atom low less in lt-ltb atom high (omega (arith, l, wider))) (formulas_of modal)
 
 bases : (start : State) (low from to : ℕ) (modals : List GroundModal) (monitors : List Monitor) → AreMonitors start from to modals monitors → low ≤ from → All (λ (monitor : Monitor). low ≤ monitor.base) monitors
 bases start low from to [] [] are le = All-nil (λ (monitor : Monitor). low ≤ monitor.base)

@@ -9,11 +9,12 @@ use Rattle.std.proofs.lemmas.List.Folds.{list_all-append}
 use Rattle.std.proofs.lemmas.List.Sums.{sum_by-cons, sum_by-append}
 use Rattle.p3_formula.specs.Forms.{has_atoms}
 use Rattle.p3_formula.specs.Kept.{atom_count, is_own}
-use Rattle.p3_formula.specs.Modals.{forms_of, touches}
+use Rattle.p3_formula.specs.Modals.{touches}
+use Rattle.p3_base.specs.Operators.{formulas_of}
 use Rattle.p3_formula.specs.Targets.{is_sized_change}
 use Rattle.p3_formula.specs.declared.form.Change.{Change}
-use Rattle.p3_formula.specs.declared.modal.GroundModal.{GroundModal}
-use Rattle.p3_formula.specs.declared.modal.GroundModal.TheVariants.{AtEnd, Always, Sometime, AtMostOnce, SometimeAfter, SometimeBefore}
+use Rattle.p3_formula.specs.GroundModal.{GroundModal}
+use Rattle.p3_base.specs.declared.operator.Operator.TheVariants.{AtEnd, Always, Sometime, AtMostOnce, SometimeAfter, SometimeBefore}
 use Rattle.p3_formula.proofs.ReadAtoms.{all_have_more_of}
 use Rattle.p3_monitors.specs.KeepsOn.{AreOwn, HasConditions, HasNone, KeepsOn}
 use Rattle.p3_monitors.specs.declared.watching.Monitor.{Monitor}
@@ -70,7 +71,7 @@ module _ (step : List Change) where
         where
           keeps : KeepsOn monitor.base monitor.modal step []
           keeps = subst (λ modal. KeepsOn monitor.base modal step []) (sym same)
-              ((at_end_update monitor.base step f (subst (λ modal. list_all (has_atoms (λ atom. nat_lt atom monitor.base)) (forms_of modal) ≡ true) same monitor.below)).kept (subst (λ modal. HasNone (is_own monitor.base modal) step) same apart))
+              ((at_end_update monitor.base step f (subst (λ modal. list_all (has_atoms (λ atom. nat_lt atom monitor.base)) (formulas_of modal) ≡ true) same monitor.below)).kept (subst (λ modal. HasNone (is_own monitor.base modal) step) same apart))
 
           at_end : (b : Bool) → touches monitor.modal step ≡ b → AreUpdates step (monitor ∷ []) []
           at_end false e = Untouched monitor [] [] e NoMore
@@ -96,13 +97,13 @@ module _ (step : List Change) where
   -- the monitor's own atoms, those of its constraint and those of the step's conditions are below a number
   pub record IsInside (monitor : Monitor) (bound : ℕ) : Type 0 where
     pub own : (atom : ℕ) → is_own monitor.base monitor.modal atom ≡ true → nat_lt atom bound ≡ true
-    pub modal : list_all (has_atoms (λ atom. nat_lt atom bound)) (forms_of monitor.modal) ≡ true
+    pub modal : list_all (has_atoms (λ atom. nat_lt atom bound)) (formulas_of monitor.modal) ≡ true
     pub conds : list_all (λ (change : Change). has_atoms (λ atom. nat_lt atom bound) change.cond) step ≡ true
 
   pub parts_inside : (monitor : Monitor) (others : List Monitor) (sources bound : ℕ) → sources ≤ bound → AreBefore sources bound (monitor ∷ others) → list_all (is_sized_change sources) step ≡ true → IsInside monitor bound
   parts_inside monitor others sources bound wider before sized = record {
     own = λ atom is. let end = ltb-true atom (monitor.base + atom_count monitor.modal) (and_parts (nat_le monitor.base atom) _ is).1 in let most = before.1 in lt-ltb atom bound (omega (arith, end, most));
-    modal = all_have_more_of (λ atom. nat_lt atom sources) (λ atom. nat_lt atom bound) (λ atom low. let l = ltb-true atom sources low in lt-ltb atom bound (omega (arith, l, wider))) (forms_of monitor.modal) before.0;
+    modal = all_have_more_of (λ atom. nat_lt atom sources) (λ atom. nat_lt atom bound) (λ atom low. let l = ltb-true atom sources low in lt-ltb atom bound (omega (arith, l, wider))) (formulas_of monitor.modal) before.0;
     conds = all_weaker (is_sized_change sources) (λ (change : Change). has_atoms (λ atom. nat_lt atom bound) change.cond) (λ change is. below_more sources bound wider change.cond (and_parts (nat_lt change.atom sources) _ is).1) step sized;
   }
 

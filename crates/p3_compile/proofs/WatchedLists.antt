@@ -8,8 +8,9 @@ use Rattle.std.proofs.lemmas.List.Sums.{sum_by-cons, sum_by-append}
 use Rattle.p3_base.specs.Words.{Name}
 use Rattle.p3_formula.specs.Forms.{State}
 use Rattle.p3_formula.specs.Kept.{atom_count}
-use Rattle.p3_formula.specs.Modals.{IsModalBelow, forms_of}
-use Rattle.p3_formula.specs.declared.modal.GroundModal.{GroundModal}
+use Rattle.p3_formula.specs.Modals.{IsModalBelow}
+use Rattle.p3_base.specs.Operators.{formulas_of}
+use Rattle.p3_formula.specs.GroundModal.{GroundModal}
 use Rattle.p3_formula.specs.declared.modal.GroundSoft.{GroundSoft}
 use Rattle.p3_formula.proofs.ReadAtoms.{all_have_more_of}
 use Rattle.p3_monitors.specs.declared.watching.Monitor.{Monitor}
@@ -19,7 +20,7 @@ use Rattle.p3_compile.proofs.NumberedNames.{length-named, named-join}
 
 -- what is below a count is below a greater one
 pub below_greater : (count greater : ℕ) (modal : GroundModal) → count ≤ greater → IsModalBelow count modal → IsModalBelow greater modal
-below_greater count greater modal le below = all_have_more_of (λ atom. nat_lt atom count) (λ atom. nat_lt atom greater) (λ atom low. grind (arith, nat_tests)) (forms_of modal) below
+below_greater count greater modal le below = all_have_more_of (λ atom. nat_lt atom count) (λ atom. nat_lt atom greater) (λ atom low. grind (arith, nat_tests)) (formulas_of modal) below
 
 pub monitors-append : (start : State) (from to end : ℕ) (first second : List GroundModal) (made more : List Monitor) → AreMonitors start from to first made → AreMonitors start to end second more → AreMonitors start from end (first ++ second) (made ++ more)
 monitors-append start from to end [] second [] more are later = subst (λ n. AreMonitors start n end second more) (sym are) later

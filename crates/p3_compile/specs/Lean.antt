@@ -9,8 +9,8 @@ use Rattle.p3_formula.specs.Targets.{lifted_number}
 use Rattle.p3_formula.specs.Weighted.{width_of}
 use Rattle.p3_formula.specs.declared.form.Change.{Change}
 use Rattle.p3_formula.specs.declared.form.Form.TheVariants.{True}
-use Rattle.p3_formula.specs.declared.modal.GroundModal.{GroundModal}
-use Rattle.p3_formula.specs.declared.modal.GroundModal.TheVariants.{AtEnd, Always, Sometime, AtMostOnce, SometimeAfter, SometimeBefore}
+use Rattle.p3_formula.specs.GroundModal.{GroundModal}
+use Rattle.p3_base.specs.Operators.{is_at_end}
 use Rattle.p3_formula.specs.declared.target.Target.{Target}
 use Rattle.p3_formula.specs.declared.target.TargetAction.{TargetAction}
 use Rattle.p3_formula.specs.declared.target.Weights.{Weights}
@@ -20,12 +20,7 @@ use Rattle.p3_simulation.specs.Watching.{all_modals}
 
 -- a constraint on more than the last state, of which the step may change an atom
 abbrev pub is_busy : List Change → GroundModal → Bool
-is_busy step (AtEnd f) = false
-is_busy step (Always f) = touches (Always f) step
-is_busy step (Sometime f) = touches (Sometime f) step
-is_busy step (AtMostOnce f) = touches (AtMostOnce f) step
-is_busy step (SometimeAfter f g) = touches (SometimeAfter f g) step
-is_busy step (SometimeBefore f g) = touches (SometimeBefore f g) step
+is_busy step modal = if is_at_end modal then false else touches modal step
 
 abbrev pub busy_modals : List Change → List GroundModal → ℕ
 busy_modals step modals = count_by (is_busy step) modals

@@ -1,8 +1,8 @@
 -- Which monitors read an atom, and where in their constraints.
-use Rattle.std.specs.Prelude.{ℕ, ◌≤◌, ◌<◌, List, [], ◌++◌, length, map, slice_index_or}
+use Rattle.std.specs.Prelude.{ℕ, ◌≤◌, ◌<◌, if◌then◌else◌, List, [], length, map, slice_index_or}
 use Rattle.p3_formula.specs.AtomLists.{atoms_of}
-use Rattle.p3_formula.specs.declared.modal.GroundModal.{GroundModal}
-use Rattle.p3_formula.specs.declared.modal.GroundModal.TheVariants.{AtEnd, Always, Sometime, AtMostOnce, SometimeAfter, SometimeBefore}
+use Rattle.p3_formula.specs.GroundModal.{GroundModal}
+use Rattle.p3_base.specs.Operators.{each, is_at_end}
 use Rattle.p3_regress.specs.Readers.{readers_from}
 use Rattle.p3_regress.specs.declared.readers.Reader.{Reader}
 use Rattle.p3_monitors.specs.FormIndex.{IndexesForms}
@@ -11,12 +11,7 @@ use Rattle.p3_monitors.specs.declared.watching.Monitor.{Monitor}
 
 -- the atoms whose changes a monitor follows: none where only the last state counts
 abbrev pub read_atoms : GroundModal → List ℕ
-read_atoms (AtEnd f) = []
-read_atoms (Always f) = atoms_of f
-read_atoms (Sometime f) = atoms_of f
-read_atoms (AtMostOnce f) = atoms_of f
-read_atoms (SometimeAfter f g) = atoms_of f ++ atoms_of g
-read_atoms (SometimeBefore f g) = atoms_of f ++ atoms_of g
+read_atoms modal = if is_at_end modal then [] else each atoms_of modal
 
 abbrev pub followed : Monitor → List ℕ
 followed monitor = read_atoms monitor.modal

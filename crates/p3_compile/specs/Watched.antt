@@ -5,7 +5,7 @@ use Rattle.p3_base.specs.Words.{Name}
 use Rattle.p3_formula.specs.Forms.{State}
 use Rattle.p3_formula.specs.Kept.{atom_count}
 use Rattle.p3_formula.specs.Modals.{IsModalBelow}
-use Rattle.p3_formula.specs.declared.modal.GroundModal.{GroundModal}
+use Rattle.p3_formula.specs.GroundModal.{GroundModal}
 use Rattle.p3_formula.specs.declared.modal.GroundSoft.{GroundSoft}
 use Rattle.p3_formula.specs.declared.task.GroundTask.{GroundTask}
 use Rattle.p3_monitors.specs.declared.watching.Monitor.{Monitor}

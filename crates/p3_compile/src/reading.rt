@@ -5,7 +5,7 @@ ghost use Rattle.std.specs.List.Sorted.{IsPermutation};
 ghost use Rattle.p3_regress.specs.Readers.{AreRising, reader};
 ghost use Rattle.p3_compile.specs.Readers.{AreByAtom, read_atoms, readers_of};
 
-use p3_base::NoMemory;
+use p3_base::{NoMemory, Operands};
 use p3_formula::GroundModal;
 use p3_monitors::{FormsByAtom, Monitor};
 use p3_regress::{Reader, by_rising_atom, push_readers};
@@ -13,15 +13,17 @@ use std::alloc::Global;
 
 /// The monitor at the place reads the atoms of its constraint, where it has atoms of its own that
 /// say something of the states before the last one.
+#[tactic(auto, using(p3_base::proofs::OperatorLaws::joined_unary, p3_base::proofs::OperatorLaws::joined_binary))]
 fn push_modal(readers: &mut Vec<Reader>, modal: &GroundModal, place: usize) -> Result<(), NoMemory>
     ensures { OnOk result (readers.new.items
         ≡ readers.old.items ++ map (reader place) (read_atoms modal.now)) }
 {
-    match modal {
-        GroundModal::AtEnd(_) => Ok(()),
-        GroundModal::Always(form) | GroundModal::Sometime(form) | GroundModal::AtMostOnce(form) =>
-            push_readers(readers, form, place),
-        GroundModal::SometimeAfter(first, second) | GroundModal::SometimeBefore(first, second) => {
+    if modal.is_at_end() {
+        return Ok(());
+    }
+    match modal.operands() {
+        Operands::One(_, form) => push_readers(readers, form, place),
+        Operands::Two(_, first, second) => {
             push_readers(readers, first, place)?;
             push_readers(readers, second, place)
         }

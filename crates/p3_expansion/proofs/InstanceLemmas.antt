@@ -2,7 +2,7 @@
 use Rattle.std.proofs.Common.{◌≡◌, ◌∙◌, ℕ, List, [], ◌∷◌, ◌++◌, map, refl, sym, ap, subst}
 use Rattle.std.specs.Prelude.{flat_map}
 use Rattle.std.proofs.lemmas.List.{append-nil}
-use Rattle.p3_formula.specs.declared.modal.GroundModal.{GroundModal}
+use Rattle.p3_formula.specs.GroundModal.{GroundModal}
 use Rattle.p3_formula.specs.declared.modal.GroundPref.{GroundPref}
 use Rattle.p3_formula.specs.declared.modal.GroundSoft.{GroundSoft}
 use Rattle.p3_numbers.specs.Constraints.{PlacedInstance, all_operators, soft_instances}
@@ -10,7 +10,7 @@ use Rattle.p3_numbers.specs.Goals.{PlacedPreference, preferences}
 use Rattle.p3_numbers.specs.Slots.{Slots, bound}
 use Rattle.p3_numbers.specs.declared.constraint.NumberedConstraint.{NumberedConstraint}
 use Rattle.p3_numbers.specs.declared.constraint.NumberedConstraint.TheVariants.{Both, Each, Single}
-use Rattle.p3_numbers.specs.declared.constraint.NumberedModal.{NumberedModal}
+use Rattle.p3_numbers.specs.NumberedModal.{NumberedModal}
 use Rattle.p3_numbers.specs.declared.goal.Goal.{Goal}
 use Rattle.p3_numbers.specs.declared.numbers.Numbers.{Numbers}
 use Rattle.p3_numbers.proofs.ConstraintLemmas.{soft_instances-Both, soft_instances-Each}

@@ -7,27 +7,28 @@ use Rattle.std.proofs.lemmas.List.{append-nil}
 use Rattle.std.proofs.lemmas.List.Folds.{list_all-append}
 use Rattle.p3_tree.specs.States.{State}
 use Rattle.p3_formula.specs.Forms.{has_atoms}
-use Rattle.p3_formula.specs.Modals.{forms_of}
+use Rattle.p3_base.proofs.OperatorLaws.{formulas_binary, formulas_unary, over_binary, over_unary, pairs_binary, pairs_unary, pairs_weaker}
+use Rattle.p3_base.specs.Operators.{binary, formulas_of, unary}
+use Rattle.p3_base.specs.declared.operator.Binary.{Binary}
+use Rattle.p3_base.specs.declared.operator.Unary.{Unary}
 use Rattle.p3_formula.specs.Tidy.{is_tidy}
 use Rattle.p3_formula.specs.declared.form.Form.{Form}
-use Rattle.p3_formula.specs.declared.modal.GroundModal.{GroundModal}
-use Rattle.p3_formula.specs.declared.modal.GroundModal.TheVariants as ground_modal
+use Rattle.p3_formula.specs.GroundModal.{GroundModal}
 use Rattle.p3_numbers.specs.Conditions.{met}
-use Rattle.p3_numbers.specs.Constraints as meaning
-use Rattle.p3_numbers.specs.Constraints.{PlacedModal, ModalMeaning, numbered_modal_meaning, placed_modal_meaning, hard_operators, all_operators}
+use Rattle.p3_numbers.specs.Constraints.{PlacedModal, ModalMeaning, numbered_modal_meaning, test_at, placed_modal_meaning, hard_operators, all_operators}
 use Rattle.p3_numbers.specs.Slots.{Slots, bound}
 use Rattle.p3_numbers.specs.declared.condition.Condition.{Condition}
 use Rattle.p3_numbers.specs.declared.constraint.NumberedConstraint.{NumberedConstraint}
 use Rattle.p3_numbers.specs.declared.constraint.NumberedConstraint.TheVariants.{Both, Each, Single, Soft}
-use Rattle.p3_numbers.specs.declared.constraint.NumberedModal.{NumberedModal}
-use Rattle.p3_numbers.specs.declared.constraint.NumberedModal.TheVariants as modal
+use Rattle.p3_numbers.specs.NumberedModal.{NumberedModal}
+use Rattle.p3_base.specs.declared.operator.Operator.TheVariants as modal
 use Rattle.p3_numbers.specs.declared.numbers.Numbers.{Numbers}
 use Rattle.p3_numbers.proofs.ConstraintLemmas.{hard_operators-Both, hard_operators-Each, all_operators-Both, all_operators-Each, all_operators-Soft}
 use Rattle.p3_expansion.specs.Atoms.{GroundAtom, Keeps}
 use Rattle.p3_expansion.specs.Expansions.{Stands, Allows, Grows}
 use Rattle.p3_expansion.specs.Forms.{Makes}
 use Rattle.p3_expansion.specs.Meanings.{condition_atoms, condition_meaning}
-use Rattle.p3_expansion.specs.Operators.{conditions_of, operator_atoms, HasTruth, HasTruths, OperatorStands, OperatorsStand, MakesOperator, operators_of, PushesOperators}
+use Rattle.p3_expansion.specs.Operators.{operator_atoms, HasTruth, HasTruths, OperatorStands, OperatorsStand, MakesOperator, operators_of, PushesOperators}
 use Rattle.p3_expansion.specs.Walks.{Pushes}
 use Rattle.p3_expansion.specs.declared.statics.Statics.{Statics}
 use Rattle.p3_expansion.specs.declared.work.Work.{Work}
@@ -64,11 +65,11 @@ module _ (N : Numbers) (S : Statics) where
   -- ---- one operator
 
   module _ (slots : Slots) (f : Condition) where
-    one-condition : (operator : NumberedModal) → conditions_of operator ≡ f ∷ [] → flat_map (condition_atoms N slots) (conditions_of operator) ≡ condition_atoms N slots f
+    one-condition : (operator : NumberedModal) → formulas_of operator ≡ f ∷ [] → flat_map (condition_atoms N slots) (formulas_of operator) ≡ condition_atoms N slots f
     one-condition operator is = ap (flat_map (condition_atoms N slots)) is ∙ append-nil (condition_atoms N slots f)
 
     one-stands : (atoms : List GroundAtom) (form : Form) → Stands N S atoms (condition_meaning N slots f) form → is_tidy form ≡ true
-        → (operator : NumberedModal) (modal : GroundModal) → conditions_of operator ≡ f ∷ [] → forms_of modal ≡ form ∷ [] → HasTruths N S atoms (numbered_modal_meaning N slots operator) modal → OperatorStands N S atoms (record { modal = operator; slots = slots }) modal
+        → (operator : NumberedModal) (modal : GroundModal) → formulas_of operator ≡ f ∷ [] → formulas_of modal ≡ form ∷ [] → HasTruths N S atoms (numbered_modal_meaning N slots operator) modal → OperatorStands N S atoms (record { modal = operator; slots = slots }) modal
     one-stands atoms form stands tidy operator modal conditions forms truths = record {
       truths = truths;
       reads = λ passes allowed allows those.
@@ -76,30 +77,22 @@ module _ (N : Numbers) (S : Statics) where
       tidy = ap (list_all is_tidy) forms ∙ and_from (is_tidy form) true tidy refl;
     }
 
-    pub stands-AtEnd : (atoms : List GroundAtom) (form : Form) → Stands N S atoms (condition_meaning N slots f) form → is_tidy form ≡ true → OperatorStands N S atoms (record { modal = modal.AtEnd f; slots = slots }) (ground_modal.AtEnd form)
-    stands-AtEnd atoms form stands tidy = one-stands atoms form stands tidy (modal.AtEnd f) (ground_modal.AtEnd form) refl refl stands.truth
+    pub stands-AtEnd : (atoms : List GroundAtom) (form : Form) → Stands N S atoms (condition_meaning N slots f) form → is_tidy form ≡ true → OperatorStands N S atoms (record { modal = modal.AtEnd f; slots = slots }) (modal.AtEnd form)
+    stands-AtEnd atoms form stands tidy = one-stands atoms form stands tidy (modal.AtEnd f) (modal.AtEnd form) refl refl stands.truth
 
   module _ (slots : Slots) (f : Condition) (old new : Work) (form : Form) (makes : Makes N S old new (condition_meaning N slots f) form) where
-    one_form : (operator : NumberedModal) (modal : GroundModal) → conditions_of operator ≡ f ∷ [] → forms_of modal ≡ form ∷ [] → HasTruths N S new.atoms (numbered_modal_meaning N slots operator) modal → MakesOperator N S (record { modal = operator; slots = slots }) old new modal
+    one_form : (operator : NumberedModal) (modal : GroundModal) → formulas_of operator ≡ f ∷ [] → formulas_of modal ≡ form ∷ [] → HasTruths N S new.atoms (numbered_modal_meaning N slots operator) modal → MakesOperator N S (record { modal = operator; slots = slots }) old new modal
     one_form operator modal conditions forms truths = record {
       grows = subst (λ atoms. Grows atoms old new) (sym (one-condition slots f operator conditions)) makes.grows;
       stands = one-stands slots f new.atoms form makes.stands makes.tidy operator modal conditions forms truths;
     }
 
-    pub makes-AtEnd : MakesOperator N S (record { modal = modal.AtEnd f; slots = slots }) old new (ground_modal.AtEnd form)
-    makes-AtEnd = one_form (modal.AtEnd f) (ground_modal.AtEnd form) refl refl makes.stands.truth
-
-    pub makes-Always : MakesOperator N S (record { modal = modal.Always f; slots = slots }) old new (ground_modal.Always form)
-    makes-Always = one_form (modal.Always f) (ground_modal.Always form) refl refl makes.stands.truth
-
-    pub makes-Sometime : MakesOperator N S (record { modal = modal.Sometime f; slots = slots }) old new (ground_modal.Sometime form)
-    makes-Sometime = one_form (modal.Sometime f) (ground_modal.Sometime form) refl refl makes.stands.truth
-
-    pub makes-AtMostOnce : MakesOperator N S (record { modal = modal.AtMostOnce f; slots = slots }) old new (ground_modal.AtMostOnce form)
-    makes-AtMostOnce = one_form (modal.AtMostOnce f) (ground_modal.AtMostOnce form) refl refl makes.stands.truth
+    pub makes-unary : (kind : Unary) → MakesOperator N S (record { modal = unary kind f; slots = slots }) old new (unary kind form)
+    makes-unary kind = one_form (unary kind f) (unary kind form) (formulas_unary kind f) (formulas_unary kind form)
+        (subst (λ (meaning : ModalMeaning). HasTruths N S new.atoms meaning (unary kind form)) (sym (over_unary (test_at N slots) kind f)) (pairs_unary (HasTruth N S new.atoms) kind (test_at N slots f) form makes.stands.truth))
 
   module _ (slots : Slots) (f g : Condition) (old mid new : Work) (form other : Form) (first : Makes N S old mid (condition_meaning N slots f) form) (second : Makes N S mid new (condition_meaning N slots g) other) where
-    two_forms : (operator : NumberedModal) (modal : GroundModal) → conditions_of operator ≡ f ∷ g ∷ [] → forms_of modal ≡ form ∷ other ∷ [] → HasTruths N S new.atoms (numbered_modal_meaning N slots operator) modal → MakesOperator N S (record { modal = operator; slots = slots }) old new modal
+    two_forms : (operator : NumberedModal) (modal : GroundModal) → formulas_of operator ≡ f ∷ g ∷ [] → formulas_of modal ≡ form ∷ other ∷ [] → HasTruths N S new.atoms (numbered_modal_meaning N slots operator) modal → MakesOperator N S (record { modal = operator; slots = slots }) old new modal
     two_forms operator modal reads forms truths = record {
       grows = grows-trans all old mid new (grows-wider all (condition_atoms N slots f) old mid (λ passes those. (split passes those).0) first.grows) (grows-wider all (condition_atoms N slots g) mid new (λ passes those. (split passes those).1) second.grows);
       stands = record {
@@ -114,7 +107,7 @@ module _ (N : Numbers) (S : Statics) where
     }
       where
         all : List GroundAtom
-        all = flat_map (condition_atoms N slots) (conditions_of operator)
+        all = flat_map (condition_atoms N slots) (formulas_of operator)
 
         is : all ≡ condition_atoms N slots f ++ condition_atoms N slots g
         is = ap (flat_map (condition_atoms N slots)) reads ∙ ap (λ rest. condition_atoms N slots f ++ rest) (append-nil (condition_atoms N slots g))
@@ -125,32 +118,21 @@ module _ (N : Numbers) (S : Statics) where
     kept : HasTruth N S new.atoms (λ s. met N s slots f) form
     kept = (stands-grows N S mid.atoms new.atoms (condition_meaning N slots f) form second.grows.atoms first.stands).truth
 
-    pub makes-SometimeAfter : MakesOperator N S (record { modal = modal.SometimeAfter f g; slots = slots }) old new (ground_modal.SometimeAfter form other)
-    makes-SometimeAfter = two_forms (modal.SometimeAfter f g) (ground_modal.SometimeAfter form other) refl refl (kept, second.stands.truth)
-
-    pub makes-SometimeBefore : MakesOperator N S (record { modal = modal.SometimeBefore f g; slots = slots }) old new (ground_modal.SometimeBefore form other)
-    makes-SometimeBefore = two_forms (modal.SometimeBefore f g) (ground_modal.SometimeBefore form other) refl refl (kept, second.stands.truth)
+    pub makes-binary : (kind : Binary) → MakesOperator N S (record { modal = binary kind f g; slots = slots }) old new (binary kind form other)
+    makes-binary kind = two_forms (binary kind f g) (binary kind form other) (formulas_binary kind f g) (formulas_binary kind form other)
+        (subst (λ (meaning : ModalMeaning). HasTruths N S new.atoms meaning (binary kind form other)) (sym (over_binary (test_at N slots) kind f g)) (pairs_binary (HasTruth N S new.atoms) kind (test_at N slots f) (test_at N slots g) form other kept second.stands.truth))
 
   -- ---- lists of operators
 
   operator-keeps : (old new : List GroundAtom) → Keeps old new → (meant : PlacedModal) (made : GroundModal) → OperatorStands N S old meant made → OperatorStands N S new meant made
   operator-keeps old new keeps meant made stands = record {
-    truths = truths-keep (placed_modal_meaning N meant) made stands.truths;
+    truths = pairs_weaker (HasTruth N S old) (HasTruth N S new) truth-keeps (placed_modal_meaning N meant) made stands.truths;
     reads = λ passes allowed allows those. stands.reads passes allowed (record { number = λ k atom here ok. allows.number k atom (keeps.kept k atom here) ok }) those;
     tidy = stands.tidy;
   }
     where
       truth-keeps : (test : State → Bool) (form : Form) → HasTruth N S old test form → HasTruth N S new test form
       truth-keeps test form truth s b settled tells = truth s b settled (record { bit = λ k atom here. tells.bit k atom (keeps.kept k atom here) })
-
-      truths-keep : (meaning : ModalMeaning) (made : GroundModal) → HasTruths N S old meaning made → HasTruths N S new meaning made
-      truths-keep (meaning.AtEnd f) (ground_modal.AtEnd form) truths = truth-keeps f form truths
-      truths-keep (meaning.Always f) (ground_modal.Always form) truths = truth-keeps f form truths
-      truths-keep (meaning.Sometime f) (ground_modal.Sometime form) truths = truth-keeps f form truths
-      truths-keep (meaning.AtMostOnce f) (ground_modal.AtMostOnce form) truths = truth-keeps f form truths
-      truths-keep (meaning.SometimeAfter f g) (ground_modal.SometimeAfter form other) truths = (truth-keeps f form truths.0, truth-keeps g other truths.1)
-      truths-keep (meaning.SometimeBefore f g) (ground_modal.SometimeBefore form other) truths = (truth-keeps f form truths.0, truth-keeps g other truths.1)
-      truths-keep _ _ truths = absurd truths
 
   pub operators-keep : (old new : List GroundAtom) → Keeps old new → (meant : List PlacedModal) (made : List GroundModal) → OperatorsStand N S old meant made → OperatorsStand N S new meant made
   operators-keep old new keeps meant made stand = zip-weaker (OperatorStands N S old) (OperatorStands N S new) (operator-keeps old new keeps) meant made stand

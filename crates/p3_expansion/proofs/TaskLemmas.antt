@@ -8,9 +8,10 @@ use Rattle.p3_tree.specs.Constraints.{hard_list, hard_modals, instances, instanc
 use Rattle.p3_tree.specs.Goals.{StatePref, prefs}
 use Rattle.p3_tree.specs.Offences.{WellFormed}
 use Rattle.p3_tree.specs.declared.task.Task.{Task}
-use Rattle.p3_formula.specs.declared.modal.GroundModal.{GroundModal}
+use Rattle.p3_base.specs.declared.operator.Operator.TheVariants.{AtEnd}
+use Rattle.p3_formula.specs.GroundModal.{GroundModal}
 use Rattle.p3_formula.specs.declared.modal.GroundSoft.{GroundSoft}
-use Rattle.p3_numbers.specs.Constraints.{PlacedModal, PlacedInstance, InstanceMeaning, AtEnd, hard_operators, all_operators, soft_instances, placed_modal_meaning, hard_modal_meaning, placed_instance_meaning, instance_meaning}
+use Rattle.p3_numbers.specs.Constraints.{PlacedModal, PlacedInstance, InstanceMeaning, hard_operators, all_operators, soft_instances, placed_modal_meaning, hard_modal_meaning, placed_instance_meaning, instance_meaning}
 use Rattle.p3_numbers.specs.Goals.{PlacedPreference, PreferenceMeaning, preferences, placed_preference_meaning, preference_meaning}
 use Rattle.p3_numbers.specs.Known.{IsKnownTask}
 use Rattle.p3_numbers.specs.Places.{Fills}

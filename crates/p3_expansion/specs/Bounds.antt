@@ -6,7 +6,7 @@ use Rattle.p3_formula.specs.Modals.{is_modal_below}
 use Rattle.p3_formula.specs.Targets.{is_sized_change}
 use Rattle.p3_formula.specs.declared.form.Change.{Change}
 use Rattle.p3_formula.specs.declared.form.Form.{Form}
-use Rattle.p3_formula.specs.declared.modal.GroundModal.{GroundModal}
+use Rattle.p3_formula.specs.GroundModal.{GroundModal}
 use Rattle.p3_formula.specs.declared.modal.GroundPref.{GroundPref}
 use Rattle.p3_formula.specs.declared.modal.GroundSoft.{GroundSoft}
 use Rattle.p3_numbers.specs.Constraints.{PlacedModal, PlacedInstance}

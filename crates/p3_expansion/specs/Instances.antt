@@ -1,13 +1,13 @@
 -- The preferences of constraints and goals at objects, as instances over the visited states.
 use Rattle.std.specs.Prelude.{◌≡◌, List, [], ◌∷◌, flat_map}
 use Rattle.std.specs.List.{AllZip}
-use Rattle.p3_formula.specs.declared.modal.GroundModal.TheVariants as ground_modal
+use Rattle.p3_base.specs.declared.operator.Operator.TheVariants as ground_modal
 use Rattle.p3_formula.specs.declared.modal.GroundPref.{GroundPref}
 use Rattle.p3_formula.specs.declared.modal.GroundSoft.{GroundSoft}
 use Rattle.p3_numbers.specs.Constraints.{PlacedInstance, all_operators}
 use Rattle.p3_numbers.specs.Goals.{PlacedPreference}
 use Rattle.p3_numbers.specs.declared.constraint.NumberedConstraint.TheVariants.{Single}
-use Rattle.p3_numbers.specs.declared.constraint.NumberedModal.TheVariants.{AtEnd}
+use Rattle.p3_base.specs.declared.operator.Operator.TheVariants.{AtEnd}
 use Rattle.p3_numbers.specs.declared.numbers.Numbers.{Numbers}
 use Rattle.p3_expansion.specs.Atoms.{GroundAtom}
 use Rattle.p3_expansion.specs.Operators.{operator_atoms, OperatorsStand}

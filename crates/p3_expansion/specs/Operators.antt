@@ -1,20 +1,16 @@
 -- The operators of a constraint at objects, as ground operators.
-use Rattle.std.specs.Prelude.{◌≡◌, ℕ, Bool, true, false, List, [], ◌∷◌, flat_map, IsTrue}
+use Rattle.std.specs.Prelude.{◌≡◌, ℕ, Bool, true, false, List, flat_map, IsTrue}
 use Rattle.std.specs.List.{list_all, AllZip}
 use Rattle.p3_tree.specs.States.{State}
 use Rattle.p3_formula.specs.Forms.{truth}
-use Rattle.p3_formula.specs.Modals.{forms_of, modal_has}
+use Rattle.p3_formula.specs.Modals.{modal_has}
+use Rattle.p3_base.specs.Operators.{formulas_of, Pairs}
 use Rattle.p3_formula.specs.Tidy.{is_tidy}
 use Rattle.p3_formula.specs.declared.form.Form.{Form}
-use Rattle.p3_formula.specs.declared.modal.GroundModal.{GroundModal}
-use Rattle.p3_formula.specs.declared.modal.GroundModal.TheVariants as ground_modal
-use Rattle.p3_numbers.specs.Constraints as meaning
+use Rattle.p3_formula.specs.GroundModal.{GroundModal}
 use Rattle.p3_numbers.specs.Constraints.{PlacedModal, ModalMeaning, placed_modal_meaning, hard_operators, all_operators}
 use Rattle.p3_numbers.specs.Slots.{Slots}
-use Rattle.p3_numbers.specs.declared.condition.Condition.{Condition}
 use Rattle.p3_numbers.specs.declared.constraint.NumberedConstraint.{NumberedConstraint}
-use Rattle.p3_numbers.specs.declared.constraint.NumberedModal.{NumberedModal}
-use Rattle.p3_numbers.specs.declared.constraint.NumberedModal.TheVariants as modal
 use Rattle.p3_numbers.specs.declared.numbers.Numbers.{Numbers}
 use Rattle.p3_expansion.specs.Atoms.{GroundAtom}
 use Rattle.p3_expansion.specs.Expansions.{Allows, Grows, Tells}
@@ -26,17 +22,9 @@ use Rattle.p3_expansion.specs.declared.work.Work.{Work}
 
 -- ---- atoms
 
-abbrev pub conditions_of : NumberedModal → List Condition
-conditions_of (modal.AtEnd f) = f ∷ []
-conditions_of (modal.Always f) = f ∷ []
-conditions_of (modal.Sometime f) = f ∷ []
-conditions_of (modal.AtMostOnce f) = f ∷ []
-conditions_of (modal.SometimeAfter f g) = f ∷ g ∷ []
-conditions_of (modal.SometimeBefore f g) = f ∷ g ∷ []
-
 -- the atoms of an operator
 abbrev pub operator_atoms : Numbers → PlacedModal → List GroundAtom
-operator_atoms N placed = flat_map (condition_atoms N placed.slots) (conditions_of placed.modal)
+operator_atoms N placed = flat_map (condition_atoms N placed.slots) (formulas_of placed.modal)
 
 -- ---- operators
 
@@ -46,19 +34,13 @@ HasTruth N S atoms test form = (s : State) (b : List Bool) → IsSettled N S s �
 
 -- the same operator, whose forms hold where its tests say so
 abbrev pub HasTruths : Numbers → Statics → List GroundAtom → ModalMeaning → GroundModal → Type 0
-HasTruths N S atoms (meaning.AtEnd f) (ground_modal.AtEnd form) = HasTruth N S atoms f form
-HasTruths N S atoms (meaning.Always f) (ground_modal.Always form) = HasTruth N S atoms f form
-HasTruths N S atoms (meaning.Sometime f) (ground_modal.Sometime form) = HasTruth N S atoms f form
-HasTruths N S atoms (meaning.AtMostOnce f) (ground_modal.AtMostOnce form) = HasTruth N S atoms f form
-HasTruths N S atoms (meaning.SometimeAfter f g) (ground_modal.SometimeAfter form other) = HasTruth N S atoms f form × HasTruth N S atoms g other
-HasTruths N S atoms (meaning.SometimeBefore f g) (ground_modal.SometimeBefore form other) = HasTruth N S atoms f form × HasTruth N S atoms g other
-HasTruths N S atoms _ _ = ⊥
+HasTruths N S atoms meaning modal = Pairs (HasTruth N S atoms) meaning modal
 
 -- its tidy forms hold where the conditions do, and read no other atoms
 pub record OperatorStands (N : Numbers) (S : Statics) (atoms : List GroundAtom) (meant : PlacedModal) (made : GroundModal) : Type 0 where
   pub truths : HasTruths N S atoms (placed_modal_meaning N meant) made
   pub reads : (passes : GroundAtom → Bool) (allowed : ℕ → Bool) → Allows atoms passes allowed → list_all passes (operator_atoms N meant) ≡ true → modal_has allowed made ≡ true
-  pub tidy : IsTrue (list_all is_tidy (forms_of made))
+  pub tidy : IsTrue (list_all is_tidy (formulas_of made))
 
 -- entry by entry
 abbrev pub OperatorsStand : Numbers → Statics → List GroundAtom → List PlacedModal → List GroundModal → Type 0

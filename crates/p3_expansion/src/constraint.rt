@@ -14,7 +14,7 @@ ghost use Rattle.p3_expansion.specs.Walks.{Pushes};
 use crate::choices::{choice_count, place_choice};
 use crate::condition::condition_form;
 use crate::{Statics, Work};
-use p3_base::{List, NoMemory};
+use p3_base::{List, NoMemory, Operands};
 use p3_formula::GroundModal;
 use p3_numbers::{NumberedConstraint, NumberedModal, Numbers};
 
@@ -29,32 +29,15 @@ fn ground_operator(
     ensures { IfOk result (MakesOperator numbers.now statics.now
         (record { modal = modal.now; slots = slots.now }) work.old work.new) }
 {
-    match modal {
-        NumberedModal::AtEnd(body) => {
+    match modal.operands() {
+        Operands::One(kind, body) => {
             let form = condition_form(numbers, statics, work, slots, body)?;
-            Ok(GroundModal::AtEnd(form))
+            Ok(kind.over(form))
         }
-        NumberedModal::Always(body) => {
-            let form = condition_form(numbers, statics, work, slots, body)?;
-            Ok(GroundModal::Always(form))
-        }
-        NumberedModal::Sometime(body) => {
-            let form = condition_form(numbers, statics, work, slots, body)?;
-            Ok(GroundModal::Sometime(form))
-        }
-        NumberedModal::AtMostOnce(body) => {
-            let form = condition_form(numbers, statics, work, slots, body)?;
-            Ok(GroundModal::AtMostOnce(form))
-        }
-        NumberedModal::SometimeAfter(first, second) => {
+        Operands::Two(kind, first, second) => {
             let first = condition_form(numbers, statics, work, slots, first)?;
             let second = condition_form(numbers, statics, work, slots, second)?;
-            Ok(GroundModal::SometimeAfter(first, second))
-        }
-        NumberedModal::SometimeBefore(first, second) => {
-            let first = condition_form(numbers, statics, work, slots, first)?;
-            let second = condition_form(numbers, statics, work, slots, second)?;
-            Ok(GroundModal::SometimeBefore(first, second))
+            Ok(kind.over(first, second))
         }
     }
 }

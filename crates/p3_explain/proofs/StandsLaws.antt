@@ -22,16 +22,15 @@ use Rattle.p3_tree.specs.StepNumbers.{HasStepNumbers}
 use Rattle.p3_tree.proofs.PlanLemmas.{fit_from, steps_fit-walk}
 use Rattle.p3_tree.specs.declared.state.Fact.{Fact}
 use Rattle.p3_tree.specs.declared.formula.Formula.{Formula}
-use Rattle.p3_tree.specs.declared.constraint.Modal.{Modal}
-use Rattle.p3_tree.specs.declared.constraint.Modal.TheVariants as modal
+use Rattle.p3_tree.specs.Modal.{Modal}
+use Rattle.p3_base.specs.declared.operator.Operator.TheVariants as modal
 use Rattle.p3_tree.specs.declared.task.Task.{Task}
 use Rattle.p3_formula.specs.Forms.{State, truth}
 use Rattle.p3_formula.specs.GroundSat as sat_of
 use Rattle.p3_formula.specs.GroundSat.{ground_sat}
 use Rattle.p3_formula.specs.GroundPlans.{GroundPlan, ground_visited, state_by, step_of, visited_from}
 use Rattle.p3_formula.specs.declared.form.Form.{Form}
-use Rattle.p3_formula.specs.declared.modal.GroundModal.{GroundModal}
-use Rattle.p3_formula.specs.declared.modal.GroundModal.TheVariants as ground_modal
+use Rattle.p3_formula.specs.GroundModal.{GroundModal}
 use Rattle.p3_formula.specs.declared.modal.GroundPref.{GroundPref}
 use Rattle.p3_formula.specs.declared.modal.GroundSoft.{GroundSoft}
 use Rattle.p3_formula.specs.declared.task.GroundTask.{GroundTask}
@@ -68,34 +67,34 @@ module _ (T : Task) (atoms : List Fact) (G : GroundTask) (S : StandsBy T atoms G
 
     pub same_shown : (env : Environment) (x : Modal) (y : GroundModal) → ModalStands T atoms env x y → shown T W env x ≡ ground_shown V y
     unfolding shown ground_shown satisfies ground_sat
-    same_shown env (modal.AtEnd f) (ground_modal.AtEnd form) stands =
-        λ i. if same_modal T atoms G S K W V m some_state env (modal.AtEnd f) (ground_modal.AtEnd form) stands i then HoldsAt (long i - 1) else FailsAt (long i - 1)
-    same_shown env (modal.Always f) (ground_modal.Always form) stands =
+    same_shown env (modal.AtEnd f) (modal.AtEnd form) stands =
+        λ i. if same_modal T atoms G S K W V m some_state env (modal.AtEnd f) (modal.AtEnd form) stands i then HoldsAt (long i - 1) else FailsAt (long i - 1)
+    same_shown env (modal.Always f) (modal.Always form) stands =
         let h = same_holds env f form stands in
         let at = place (λ k. not (tree.holds_at T W env f k)) (λ k. not (sat_of.holds_at V form k)) (λ k lt. ap not (h k lt)) in
-        λ i. if same_modal T atoms G S K W V m some_state env (modal.Always f) (ground_modal.Always form) stands i then Holds else FailsAt (at i)
-    same_shown env (modal.Sometime f) (ground_modal.Sometime form) stands =
+        λ i. if same_modal T atoms G S K W V m some_state env (modal.Always f) (modal.Always form) stands i then Holds else FailsAt (at i)
+    same_shown env (modal.Sometime f) (modal.Sometime form) stands =
         let h = same_holds env f form stands in
         let at = place (tree.holds_at T W env f) (sat_of.holds_at V form) h in
-        λ i. if same_modal T atoms G S K W V m some_state env (modal.Sometime f) (ground_modal.Sometime form) stands i then HoldsAt (at i) else HoldsNowhere
-    same_shown env (modal.AtMostOnce f) (ground_modal.AtMostOnce form) stands =
+        λ i. if same_modal T atoms G S K W V m some_state env (modal.Sometime f) (modal.Sometime form) stands i then HoldsAt (at i) else HoldsNowhere
+    same_shown env (modal.AtMostOnce f) (modal.AtMostOnce form) stands =
         let h = same_holds env f form stands in
         let first = place (tree.holds_at T W env f) (sat_of.holds_at V form) h in
         let gap : gap_place n (tree.holds_at T W env f) ≡ gap_place (length V) (sat_of.holds_at V form) = (λ i. unwrap_or (gap-same n h i) n) ∙ ap (λ count. gap_place count (sat_of.holds_at V form)) long in
         let again : again_place n (tree.holds_at T W env f) ≡ again_place (length V) (sat_of.holds_at V form) = (λ i. unwrap_or (again-same n h i) n) ∙ ap (λ count. again_place count (sat_of.holds_at V form)) long in
-        λ i. if same_modal T atoms G S K W V m some_state env (modal.AtMostOnce f) (ground_modal.AtMostOnce form) stands i then Holds else Again (first i) (gap i) (again i)
-    same_shown env (modal.SometimeAfter f g) (ground_modal.SometimeAfter form other) stands =
+        λ i. if same_modal T atoms G S K W V m some_state env (modal.AtMostOnce f) (modal.AtMostOnce form) stands i then Holds else Again (first i) (gap i) (again i)
+    same_shown env (modal.SometimeAfter f g) (modal.SometimeAfter form other) stands =
         let h = same_holds env f form stands.0 in
         let k = same_holds env g other stands.1 in
         let at : least n (is_unanswered n (tree.holds_at T W env f) (tree.holds_at T W env g)) ≡ least (length V) (is_unanswered (length V) (sat_of.holds_at V form) (sat_of.holds_at V other)) =
         (λ i. unwrap_or (unanswered-same n h k i) n) ∙ ap (λ count. least count (is_unanswered count (sat_of.holds_at V form) (sat_of.holds_at V other))) long in
-        λ i. if same_modal T atoms G S K W V m some_state env (modal.SometimeAfter f g) (ground_modal.SometimeAfter form other) stands i then Holds else FailsAt (at i)
-    same_shown env (modal.SometimeBefore f g) (ground_modal.SometimeBefore form other) stands =
+        λ i. if same_modal T atoms G S K W V m some_state env (modal.SometimeAfter f g) (modal.SometimeAfter form other) stands i then Holds else FailsAt (at i)
+    same_shown env (modal.SometimeBefore f g) (modal.SometimeBefore form other) stands =
         let h = same_holds env f form stands.0 in
         let k = same_holds env g other stands.1 in
         let at : least n (is_unprepared n (tree.holds_at T W env f) (tree.holds_at T W env g)) ≡ least (length V) (is_unprepared (length V) (sat_of.holds_at V form) (sat_of.holds_at V other)) =
         (λ i. unwrap_or (unprepared-same n h k i) n) ∙ ap (λ count. least count (is_unprepared count (sat_of.holds_at V form) (sat_of.holds_at V other))) long in
-        λ i. if same_modal T atoms G S K W V m some_state env (modal.SometimeBefore f g) (ground_modal.SometimeBefore form other) stands i then Holds else FailsAt (at i)
+        λ i. if same_modal T atoms G S K W V m some_state env (modal.SometimeBefore f g) (modal.SometimeBefore form other) stands i then Holds else FailsAt (at i)
     same_shown env _ _ stands = absurd stands
 
     same_reasons : (subject : ℕ → Subject) (from : ℕ) (hards : List HardModal) (made : List GroundModal) → AllZip (HardStands T atoms) hards made

@@ -6,13 +6,14 @@ use mathlib.Core.Former.{Count}
 use denote.Hole.Carrier.{hidden}
 use Rattle.p3_formula.specs.Folds.{fold_form, fold_forms}
 use Rattle.p3_formula.specs.Forms.{has_atoms, is_other, within_layer}
-use Rattle.p3_formula.specs.Modals.{forms_of, is_read}
+use Rattle.p3_formula.specs.Modals.{is_read}
+use Rattle.p3_base.specs.Operators.{formulas_of}
 use Rattle.p3_formula.specs.declared.form.Form.{Form, Row_of-Form, end_of-Form, more_of-Form}
 use Rattle.p3_formula.specs.declared.form.Form.TheBlock.{hidden-the_row-Form-0}
 use Rattle.p3_formula.specs.declared.form.Form.TheVariants.{True, False, Atom, Not, And, Or, Not', And', Or'}
 use Rattle.p3_formula.proofs.FormLemmas.{fold_parts}
 use Rattle.p3_formula.specs.AtomLists.{atoms_of, atoms_layer, modal_atoms}
-use Rattle.p3_formula.specs.declared.modal.GroundModal.{GroundModal}
+use Rattle.p3_formula.specs.GroundModal.{GroundModal}
 
 pub atoms_of-True : atoms_of True ≡ []
 unfolding atoms_of
@@ -80,6 +81,6 @@ some_not one (atom ∷ atoms) = outside (atom == one) (list_all (is_other one) a
 -- it is read where it is one of the list
 pub read_named : (modal : GroundModal) (atom : ℕ) → is_read modal atom ≡ list_any (λ one. one == atom) (modal_atoms modal)
 read_named modal atom =
-    (λ i. not (list_all (λ form. has_listed (is_other atom) form i) (forms_of modal)))
-    ∙ ap not (all_flat (is_other atom) atoms_of (forms_of modal))
+    (λ i. not (list_all (λ form. has_listed (is_other atom) form i) (formulas_of modal)))
+    ∙ ap not (all_flat (is_other atom) atoms_of (formulas_of modal))
     ∙ some_not atom (modal_atoms modal)

@@ -6,8 +6,8 @@ use Rattle.p3_formula.specs.GroundPlans.{last_of}
 use Rattle.p3_formula.specs.GroundSat.{ground_sat}
 use Rattle.p3_formula.specs.Kept.{accepts, Kept}
 use Rattle.p3_formula.specs.Modals.{is_read}
-use Rattle.p3_formula.specs.declared.modal.GroundModal.{GroundModal}
-use Rattle.p3_formula.specs.declared.modal.GroundModal.TheVariants.{AtEnd, Always, Sometime, AtMostOnce, SometimeAfter, SometimeBefore}
+use Rattle.p3_formula.specs.GroundModal.{GroundModal}
+use Rattle.p3_base.specs.declared.operator.Operator.TheVariants.{AtEnd, Always, Sometime, AtMostOnce, SometimeAfter, SometimeBefore}
 use Rattle.p3_formula.proofs.NextLaws.{truth-agree}
 use Rattle.p3_formula.proofs.ReadAtoms.{reads}
 use Rattle.p3_formula.proofs.WatchedLaws.{sat-AtMostOnce, sat-SometimeAfter, sat-SometimeBefore}

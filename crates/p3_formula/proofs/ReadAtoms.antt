@@ -8,8 +8,9 @@ use Rattle.p3_formula.specs.Folds.{fold_forms}
 use Rattle.p3_formula.specs.Forms.{has_atoms, is_other, within_layer}
 use Rattle.p3_formula.specs.declared.form.Form.{Form, Row_of-Form, end_of-Form, more_of-Form}
 use Rattle.p3_formula.specs.declared.form.Form.TheVariants.{True, False, Atom, Not', And', Or'}
-use Rattle.p3_formula.specs.declared.modal.GroundModal.{GroundModal}
-use Rattle.p3_formula.specs.Modals.{forms_of, is_read, IsModalBelow}
+use Rattle.p3_formula.specs.GroundModal.{GroundModal}
+use Rattle.p3_formula.specs.Modals.{is_read, IsModalBelow}
+use Rattle.p3_base.specs.Operators.{formulas_of}
 
 pub same_number : (a : ℕ) → (a == a) ≡ true
 same_number a = grind (arith, nat_tests)
@@ -72,8 +73,8 @@ module _ (allowed : ℕ → Bool) where
       (all_those forms (λ atom at. h atom (not-right (has_atoms (is_other atom) form) _ at)))
 
 -- the forms of a constraint have just the atoms that stand in it
-pub reads : (modal : GroundModal) → list_all (has_atoms (is_read modal)) (forms_of modal) ≡ true
-reads modal = all_those (is_read modal) (forms_of modal) (λ atom at. at)
+pub reads : (modal : GroundModal) → list_all (has_atoms (is_read modal)) (formulas_of modal) ≡ true
+reads modal = all_those (is_read modal) (formulas_of modal) (λ atom at. at)
 
 -- an atom that stands in a constraint below a count is below it
 module _ (count : ℕ) (modal : GroundModal) (below : IsModalBelow count modal) (atom : ℕ) where
@@ -86,4 +87,4 @@ module _ (count : ℕ) (modal : GroundModal) (below : IsModalBelow count modal) 
     by true lt = grind (arith, nat_tests)
     by false ge =
         let past : count ≤ atom = grind (arith, nat_tests) in
-        absurd (true≢false (sym read ∙ ap not (all_have_more_of (λ one. nat_lt one count) (is_other atom) (differs past) (forms_of modal) below)))
+        absurd (true≢false (sym read ∙ ap not (all_have_more_of (λ one. nat_lt one count) (is_other atom) (differs past) (formulas_of modal) below)))

@@ -10,8 +10,8 @@ use Rattle.p3_base.specs.Trajectories.{each, some, came_back, is_awaited, came_e
 use Rattle.p3_base.proofs.TrajectoryLemmas.{each-more, some-more, came-more, awaited-more, early-more, each-same, some-same, not-came, not-awaited, not-early}
 use Rattle.p3_formula.specs.GroundSat.{holds_at, ground_sat}
 use Rattle.p3_formula.specs.declared.form.Form.{Form}
-use Rattle.p3_formula.specs.declared.modal.GroundModal.{GroundModal}
-use Rattle.p3_formula.specs.declared.modal.GroundModal.TheVariants.{AtEnd, AtMostOnce, SometimeAfter, SometimeBefore}
+use Rattle.p3_formula.specs.GroundModal.{GroundModal}
+use Rattle.p3_base.specs.declared.operator.Operator.TheVariants.{AtEnd, AtMostOnce, SometimeAfter, SometimeBefore}
 use Rattle.p3_formula.specs.Kept.{watched, atom_count}
 
 pub length-watched : (W : List State) (modal : GroundModal) → length (watched W modal) ≡ atom_count modal

@@ -16,7 +16,7 @@ use Rattle.p3_formula.specs.Weighted.{ground_extra}
 use Rattle.p3_formula.specs.Targets.{IsNamed, IsSized, reaches_goal, target_cost, ground_lift}
 use Rattle.p3_formula.specs.declared.form.Form.TheBlock.{hidden-the_row-Form-0, hidden-the_row-Form-1, shape-the_row-Form-0, shape-the_row-Form-1}
 use Rattle.p3_formula.specs.declared.form.Form.TheVariants.{True, Atom, Not, And}
-use Rattle.p3_formula.specs.declared.modal.GroundModal.TheVariants.{AtEnd}
+use Rattle.p3_base.specs.declared.operator.Operator.TheVariants.{AtEnd}
 use Rattle.p3_formula.specs.declared.target.Target.{Target}
 use Rattle.p3_formula.specs.declared.target.TargetAction.{TargetAction}
 use Rattle.p3_formula.specs.declared.target.Weights.{Weights}

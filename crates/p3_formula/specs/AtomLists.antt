@@ -2,10 +2,10 @@
 use Rattle.std.specs.Prelude.{ℕ, List, [], ◌∷◌}
 use Rattle.std.specs.List.{flat_map}
 use Rattle.p3_formula.specs.Folds.{fold_form}
-use Rattle.p3_formula.specs.Modals.{forms_of}
+use Rattle.p3_base.specs.Operators.{formulas_of}
 use Rattle.p3_formula.specs.declared.form.Form.{Form}
 use Rattle.p3_formula.specs.declared.form.Form.TheOpen.{Form-F, True, False, Atom, Not, And, Or}
-use Rattle.p3_formula.specs.declared.modal.GroundModal.{GroundModal}
+use Rattle.p3_formula.specs.GroundModal.{GroundModal}
 
 abbrev pub atoms_layer : Form-F (List ℕ) → List ℕ
 atoms_layer True = []
@@ -21,4 +21,4 @@ atoms_of form = fold_form atoms_layer form
 
 -- those of the formulas of an operator
 abbrev pub modal_atoms : GroundModal → List ℕ
-modal_atoms modal = flat_map atoms_of (forms_of modal)
+modal_atoms modal = flat_map atoms_of (formulas_of modal)

@@ -5,8 +5,8 @@ use Rattle.p3_formula.specs.Forms.{State, is_set, truth}
 use Rattle.p3_formula.specs.GroundPlans.{last_of}
 use Rattle.p3_formula.specs.GroundSat.{holds_at}
 use Rattle.p3_formula.specs.Modals.{Agree}
-use Rattle.p3_formula.specs.declared.modal.GroundModal.{GroundModal}
-use Rattle.p3_formula.specs.declared.modal.GroundModal.TheVariants.{AtEnd, Always, Sometime, AtMostOnce, SometimeAfter, SometimeBefore}
+use Rattle.p3_formula.specs.GroundModal.{GroundModal}
+use Rattle.p3_base.specs.declared.operator.Operator.TheVariants.{AtEnd, Always, Sometime, AtMostOnce, SometimeAfter, SometimeBefore}
 
 -- how many atoms the monitor of a constraint has
 abbrev pub atom_count : GroundModal → ℕ

@@ -1,7 +1,7 @@
 -- Constraints that stay broken once they are.
 use Rattle.std.specs.Prelude.{Bool, true, false}
-use Rattle.p3_formula.specs.declared.modal.GroundModal.{GroundModal}
-use Rattle.p3_formula.specs.declared.modal.GroundModal.TheVariants.{AtEnd, Always, Sometime, AtMostOnce, SometimeAfter, SometimeBefore}
+use Rattle.p3_formula.specs.GroundModal.{GroundModal}
+use Rattle.p3_base.specs.declared.operator.Operator.TheVariants.{AtEnd, Always, Sometime, AtMostOnce, SometimeAfter, SometimeBefore}
 
 -- a further state mends nothing: what breaks the constraint is a state, or some in a row, and not that one is still to come
 abbrev pub stays_broken : GroundModal → Bool

@@ -21,3 +21,4 @@ pub mod Literals
 pub mod Settled
 pub mod Trimmed
 pub mod Unconditional
+pub mod GroundModal

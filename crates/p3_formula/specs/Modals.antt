@@ -1,34 +1,14 @@
 -- The forms of a trajectory constraint, and the atoms that stand in them.
-use Rattle.std.specs.Prelude.{◌≡◌, ℕ, nat_lt, Bool, true, false, not, List, [], ◌∷◌, Option, None, Some, sum_by, IsTrue}
+use Rattle.std.specs.Prelude.{◌≡◌, ℕ, nat_lt, Bool, true, not, List, sum_by, IsTrue}
 use Rattle.std.specs.List.{list_any, list_all}
-use denote.Ref.{Bor}
 use Rattle.p3_formula.specs.Forms.{State, is_set, has_atoms, is_other, nodes}
 use Rattle.p3_formula.specs.declared.form.Change.{Change}
-use Rattle.p3_formula.specs.declared.form.Form.{Form}
-use Rattle.p3_formula.specs.declared.modal.GroundModal.{GroundModal}
-use Rattle.p3_formula.specs.declared.modal.GroundModal.TheVariants.{AtEnd, Always, Sometime, AtMostOnce, SometimeAfter, SometimeBefore}
-
-abbrev pub forms_of : GroundModal → List Form
-forms_of (AtEnd f) = f ∷ []
-forms_of (Always f) = f ∷ []
-forms_of (Sometime f) = f ∷ []
-forms_of (AtMostOnce f) = f ∷ []
-forms_of (SometimeAfter f g) = f ∷ g ∷ []
-forms_of (SometimeBefore f g) = f ∷ g ∷ []
-
--- the formulas behind the first, as they are lent
-abbrev pub seconds : Option (Bor Form) → List Form
-seconds None = []
-seconds (Some form) = form.now ∷ []
-
--- the last state alone counts
-abbrev pub is_at_end : GroundModal → Bool
-is_at_end (AtEnd f) = true
-is_at_end _ = false
+use Rattle.p3_formula.specs.GroundModal.{GroundModal}
+use Rattle.p3_base.specs.Operators.{formulas_of}
 
 -- each atom of its forms is one of those
 abbrev pub modal_has : (ℕ → Bool) → GroundModal → Bool
-modal_has allowed modal = list_all (has_atoms allowed) (forms_of modal)
+modal_has allowed modal = list_all (has_atoms allowed) (formulas_of modal)
 
 -- each atom of its forms is below the count
 abbrev pub is_modal_below : ℕ → GroundModal → Bool
@@ -51,4 +31,4 @@ Agree modal first second = (atom : ℕ) → is_read modal atom ≡ true → is_s
 
 -- how many nodes its forms have
 abbrev pub modal_nodes : GroundModal → ℕ
-modal_nodes modal = sum_by nodes (forms_of modal)
+modal_nodes modal = sum_by nodes (formulas_of modal)

@@ -11,7 +11,7 @@ ghost use Rattle.p3_formula.specs.Lasting.{stays_broken};
 ghost use Rattle.p3_formula.specs.Next.{after};
 ghost use Rattle.p3_formula.specs.Targets.{lifted_number};
 ghost use Rattle.p3_formula.specs.declared.form.Change.{Change};
-ghost use Rattle.p3_formula.specs.declared.modal.GroundModal.{GroundModal};
+ghost use Rattle.p3_formula.specs.GroundModal.{GroundModal};
 ghost use Rattle.p3_formula.specs.declared.task.GroundTask.{GroundTask};
 
 /// Changes of the same atoms, under conditions of the same truth, make the same state.

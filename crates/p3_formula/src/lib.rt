@@ -35,7 +35,7 @@ pub use laws::{
     states_agree_after_changes,
 };
 pub use literals::{Literal, fixed_by};
-pub use modal::{Forms, GroundModal, GroundPref, GroundSoft};
+pub use modal::{GroundModal, GroundPref, GroundSoft};
 pub use node::Node;
 pub use same::same_form;
 pub use settled::{simplified_under, simplify_under};

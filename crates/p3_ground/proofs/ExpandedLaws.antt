@@ -12,8 +12,8 @@ use Rattle.p3_tree.specs.Literals.{Literal, literals}
 use Rattle.p3_tree.specs.Metrics.{prefs_by, step_prefs}
 use Rattle.p3_tree.specs.Plans.{arguments, state_by, state_after}
 use Rattle.p3_tree.specs.States.{State, Environment, has_fact}
-use Rattle.p3_tree.specs.declared.constraint.Modal.{Modal}
-use Rattle.p3_tree.specs.declared.constraint.Modal.TheVariants as modal
+use Rattle.p3_tree.specs.Modal.{Modal}
+use Rattle.p3_base.specs.declared.operator.Operator.TheVariants as modal
 use Rattle.p3_tree.specs.declared.state.Fact.{Fact}
 use Rattle.p3_tree.specs.declared.task.Action.{Action}
 use Rattle.p3_tree.specs.declared.task.Step.{Step}
@@ -22,8 +22,7 @@ use Rattle.p3_tree.proofs.OnceLemmas.{in_map, map_at}
 use Rattle.p3_formula.specs.Forms as forms
 use Rattle.p3_formula.specs.declared.form.Change.{Change}
 use Rattle.p3_formula.specs.declared.form.Form.{Form}
-use Rattle.p3_formula.specs.declared.modal.GroundModal.{GroundModal}
-use Rattle.p3_formula.specs.declared.modal.GroundModal.TheVariants as ground_modal
+use Rattle.p3_formula.specs.GroundModal.{GroundModal}
 use Rattle.p3_formula.specs.declared.modal.GroundPref.{GroundPref}
 use Rattle.p3_formula.specs.declared.modal.GroundSoft.{GroundSoft}
 use Rattle.p3_formula.specs.declared.task.GroundStep.{GroundStep}
@@ -84,12 +83,12 @@ module _ (T : Task) (X : NumberedTask) (S : Statics) (atoms : List GroundAtom) (
   -- ---- operators
 
   modal-stands : (env : Environment) (operator : Modal) (made : GroundModal) → HasTruths N S atoms (modal_meaning T env operator) made → ModalStands T facts env operator made
-  modal-stands env (modal.AtEnd f) (ground_modal.AtEnd form) truths = truth-of (λ s. holds T s env f) form truths
-  modal-stands env (modal.Always f) (ground_modal.Always form) truths = truth-of (λ s. holds T s env f) form truths
-  modal-stands env (modal.Sometime f) (ground_modal.Sometime form) truths = truth-of (λ s. holds T s env f) form truths
-  modal-stands env (modal.AtMostOnce f) (ground_modal.AtMostOnce form) truths = truth-of (λ s. holds T s env f) form truths
-  modal-stands env (modal.SometimeAfter f g) (ground_modal.SometimeAfter form other) truths = (truth-of (λ s. holds T s env f) form truths.0, truth-of (λ s. holds T s env g) other truths.1)
-  modal-stands env (modal.SometimeBefore f g) (ground_modal.SometimeBefore form other) truths = (truth-of (λ s. holds T s env f) form truths.0, truth-of (λ s. holds T s env g) other truths.1)
+  modal-stands env (modal.AtEnd f) (modal.AtEnd form) truths = truth-of (λ s. holds T s env f) form truths
+  modal-stands env (modal.Always f) (modal.Always form) truths = truth-of (λ s. holds T s env f) form truths
+  modal-stands env (modal.Sometime f) (modal.Sometime form) truths = truth-of (λ s. holds T s env f) form truths
+  modal-stands env (modal.AtMostOnce f) (modal.AtMostOnce form) truths = truth-of (λ s. holds T s env f) form truths
+  modal-stands env (modal.SometimeAfter f g) (modal.SometimeAfter form other) truths = (truth-of (λ s. holds T s env f) form truths.0, truth-of (λ s. holds T s env g) other truths.1)
+  modal-stands env (modal.SometimeBefore f g) (modal.SometimeBefore form other) truths = (truth-of (λ s. holds T s env f) form truths.0, truth-of (λ s. holds T s env g) other truths.1)
   modal-stands env _ _ truths = absurd truths
 
   operators-stand : (meant : List HardModal) (made : List GroundModal) → AllZip (HasTruths N S atoms) (map (hard_modal_meaning T) meant) made → AllZip (HardStands T facts) meant made

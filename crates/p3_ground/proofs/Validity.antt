@@ -16,16 +16,15 @@ use Rattle.p3_tree.specs.StepNumbers.{HasStepNumbers}
 use Rattle.p3_tree.proofs.PlanLemmas.{steps_fit-walk}
 use Rattle.p3_tree.specs.declared.state.Fact.{Fact}
 use Rattle.p3_tree.specs.declared.formula.Formula.{Formula}
-use Rattle.p3_tree.specs.declared.constraint.Modal.{Modal}
-use Rattle.p3_tree.specs.declared.constraint.Modal.TheVariants as modal
+use Rattle.p3_tree.specs.Modal.{Modal}
+use Rattle.p3_base.specs.declared.operator.Operator.TheVariants as modal
 use Rattle.p3_tree.specs.declared.task.Task.{Task}
 use Rattle.p3_formula.specs.Forms.{State, truth}
 use Rattle.p3_formula.specs.GroundSat as sat_of
 use Rattle.p3_formula.specs.GroundSat.{ground_sat}
 use Rattle.p3_formula.specs.GroundPlans.{GroundPlan, step_of, ground_fits, state_by, visited_from, ground_visited, is_ground_valid}
 use Rattle.p3_formula.specs.declared.form.Form.{Form}
-use Rattle.p3_formula.specs.declared.modal.GroundModal.{GroundModal}
-use Rattle.p3_formula.specs.declared.modal.GroundModal.TheVariants as ground_modal
+use Rattle.p3_formula.specs.GroundModal.{GroundModal}
 use Rattle.p3_formula.specs.declared.task.GroundTask.{GroundTask}
 use Rattle.p3_ground.specs.StandsFor.{StandsBy, FormStands, ModalStands, HardStands}
 use Rattle.p3_ground.specs.PlansByNumber.{AreAsked}
@@ -60,21 +59,21 @@ module _ (T : Task) (atoms : List Fact) (G : GroundTask) (S : StandsBy T atoms G
 
     pub same_modal : (env : Environment) (x : Modal) (y : GroundModal) → ModalStands T atoms env x y → satisfies T W env x ≡ ground_sat V y
     unfolding satisfies ground_sat
-    same_modal env (modal.AtEnd f) (ground_modal.AtEnd form) stands =
+    same_modal env (modal.AtEnd f) (modal.AtEnd form) stands =
         same_holds env f form stands (length W - 1) (omega (arith, some_state)) ∙ ap (λ n. operator.at_end n (sat_of.holds_at V form)) (same_length W V m)
-    same_modal env (modal.Always f) (ground_modal.Always form) stands =
+    same_modal env (modal.Always f) (modal.Always form) stands =
         each-same (length W) (same_holds env f form stands) ∙ ap (λ n. operator.always n (sat_of.holds_at V form)) (same_length W V m)
-    same_modal env (modal.Sometime f) (ground_modal.Sometime form) stands =
+    same_modal env (modal.Sometime f) (modal.Sometime form) stands =
         some-same (length W) (same_holds env f form stands) ∙ ap (λ n. operator.sometime n (sat_of.holds_at V form)) (same_length W V m)
-    same_modal env (modal.AtMostOnce f) (ground_modal.AtMostOnce form) stands =
+    same_modal env (modal.AtMostOnce f) (modal.AtMostOnce form) stands =
         let n = length W in
         let h = same_holds env f form stands in
         each-same n (λ i lt j. h i lt j implies some-same n (λ k lk j. nat_le i k && each-same n (λ l ll j. (nat_le i l && nat_le l k) implies h l ll j) j && each-same n (λ l ll j. nat_lt k l implies not (h l ll j)) j) j)
         ∙ ap (λ n. operator.at_most_once n (sat_of.holds_at V form)) (same_length W V m)
-    same_modal env (modal.SometimeAfter f g) (ground_modal.SometimeAfter form other) stands =
+    same_modal env (modal.SometimeAfter f g) (modal.SometimeAfter form other) stands =
         each-same (length W) (λ i lt j. same_holds env f form stands.0 i lt j implies some-same (length W) (λ k lk j. nat_le i k && same_holds env g other stands.1 k lk j) j)
         ∙ ap (λ n. operator.sometime_after n (sat_of.holds_at V form) (sat_of.holds_at V other)) (same_length W V m)
-    same_modal env (modal.SometimeBefore f g) (ground_modal.SometimeBefore form other) stands =
+    same_modal env (modal.SometimeBefore f g) (modal.SometimeBefore form other) stands =
         each-same (length W) (λ i lt j. same_holds env f form stands.0 i lt j implies some-same (length W) (λ k lk j. nat_lt k i && same_holds env g other stands.1 k lk j) j)
         ∙ ap (λ n. operator.sometime_before n (sat_of.holds_at V form) (sat_of.holds_at V other)) (same_length W V m)
     same_modal env _ _ stands = absurd stands

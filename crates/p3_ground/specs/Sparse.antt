@@ -14,7 +14,7 @@ use Rattle.p3_formula.specs.Forms.{State}
 use Rattle.p3_formula.specs.Modals.{modal_has}
 use Rattle.p3_formula.specs.Simplified.{is_value}
 use Rattle.p3_formula.specs.declared.form.Change.{Change}
-use Rattle.p3_formula.specs.declared.modal.GroundModal.{GroundModal}
+use Rattle.p3_formula.specs.GroundModal.{GroundModal}
 use Rattle.p3_formula.specs.declared.modal.GroundSoft.{GroundSoft}
 use Rattle.p3_formula.specs.declared.task.GroundStep.{GroundStep}
 use Rattle.p3_formula.specs.declared.task.GroundTask.{GroundTask}

@@ -14,8 +14,8 @@ use Rattle.p3_tree.specs.PreferenceNames.{ordered_names}
 use Rattle.p3_tree.specs.StepNumbers.{HasNumber}
 use Rattle.p3_tree.specs.declared.state.Fact.{Fact}
 use Rattle.p3_tree.specs.declared.formula.Formula.{Formula}
-use Rattle.p3_tree.specs.declared.constraint.Modal.{Modal}
-use Rattle.p3_tree.specs.declared.constraint.Modal.TheVariants as modal
+use Rattle.p3_tree.specs.Modal.{Modal}
+use Rattle.p3_base.specs.Operators.{Pairs}
 use Rattle.p3_tree.specs.declared.task.Action.{Action}
 use Rattle.p3_tree.specs.declared.task.Step.{Step}
 use Rattle.p3_tree.specs.declared.task.Task.{Task}
@@ -26,8 +26,7 @@ use Rattle.p3_formula.specs.GroundPlans.{step_of}
 use Rattle.p3_formula.specs.Conditions.{HasAtomsBelow, rises}
 use Rattle.p3_formula.specs.declared.form.Form.{Form}
 use Rattle.p3_formula.specs.declared.form.Change.{Change}
-use Rattle.p3_formula.specs.declared.modal.GroundModal.{GroundModal}
-use Rattle.p3_formula.specs.declared.modal.GroundModal.TheVariants as ground_modal
+use Rattle.p3_formula.specs.GroundModal.{GroundModal}
 use Rattle.p3_formula.specs.declared.modal.GroundPref.{GroundPref}
 use Rattle.p3_formula.specs.declared.modal.GroundSoft.{GroundSoft}
 use Rattle.p3_formula.specs.declared.task.GroundStep.{GroundStep}
@@ -54,13 +53,7 @@ abbrev pub FormStands : Task → List Fact → Environment → Formula → Form 
 FormStands T atoms env formula form = HasTruthOf T atoms (λ s. holds T s env formula) form
 
 abbrev pub ModalStands : Task → List Fact → Environment → Modal → GroundModal → Type 0
-ModalStands T atoms env (modal.AtEnd f) (ground_modal.AtEnd form) = FormStands T atoms env f form
-ModalStands T atoms env (modal.Always f) (ground_modal.Always form) = FormStands T atoms env f form
-ModalStands T atoms env (modal.Sometime f) (ground_modal.Sometime form) = FormStands T atoms env f form
-ModalStands T atoms env (modal.AtMostOnce f) (ground_modal.AtMostOnce form) = FormStands T atoms env f form
-ModalStands T atoms env (modal.SometimeAfter f g) (ground_modal.SometimeAfter form other) = FormStands T atoms env f form × FormStands T atoms env g other
-ModalStands T atoms env (modal.SometimeBefore f g) (ground_modal.SometimeBefore form other) = FormStands T atoms env f form × FormStands T atoms env g other
-ModalStands T atoms env _ _ = ⊥
+ModalStands T atoms env modal made = Pairs (FormStands T atoms env) modal made
 
 abbrev pub HardStands : Task → List Fact → HardModal → GroundModal → Type 0
 HardStands T atoms hard made = ModalStands T atoms hard.env hard.modal made

@@ -7,7 +7,7 @@ use Rattle.p3_tree.specs.Lifting.{constrains, constrains_layer, prefers, prefers
 use Rattle.p3_tree.specs.declared.constraint.Constraint.{Constraint}
 use Rattle.p3_tree.specs.declared.constraint.Constraint.TheBlock.{hidden-the_row-Constraint-1}
 use Rattle.p3_tree.specs.declared.constraint.Constraint.TheVariants as constraint
-use Rattle.p3_tree.specs.declared.constraint.Modal.{Modal}
+use Rattle.p3_tree.specs.Modal.{Modal}
 use Rattle.p3_tree.specs.declared.formula.Formula.{Formula}
 use Rattle.p3_tree.specs.declared.goal.Pref.{Pref}
 use Rattle.p3_tree.specs.declared.goal.PreGoal.{PreGoal}

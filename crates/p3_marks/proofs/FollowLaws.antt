@@ -17,7 +17,7 @@ use Rattle.p3_formula.specs.Modals.{IsModalBelow, is_read}
 use Rattle.p3_formula.specs.Next.{after}
 use Rattle.p3_formula.specs.declared.form.Change.{Change}
 use Rattle.p3_formula.specs.declared.form.Form.TheVariants.{True}
-use Rattle.p3_formula.specs.declared.modal.GroundModal.TheVariants.{AtEnd}
+use Rattle.p3_base.specs.declared.operator.Operator.TheVariants.{AtEnd}
 use Rattle.p3_formula.specs.declared.modal.GroundSoft.{GroundSoft}
 use Rattle.p3_formula.specs.declared.task.GroundTask.{GroundTask}
 use Rattle.p3_formula.proofs.NextLaws.{is_set-unchanged}

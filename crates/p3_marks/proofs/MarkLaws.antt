@@ -11,8 +11,8 @@ use Rattle.p3_formula.specs.Forms.{State, truth, has_atoms, is_set}
 use Rattle.p3_formula.specs.GroundSat.{holds_at}
 use Rattle.p3_formula.specs.Modals.{is_read}
 use Rattle.p3_formula.specs.declared.form.Form.{Form}
-use Rattle.p3_formula.specs.declared.modal.GroundModal.{GroundModal}
-use Rattle.p3_formula.specs.declared.modal.GroundModal.TheVariants.{AtEnd, Always, Sometime, AtMostOnce, SometimeAfter, SometimeBefore}
+use Rattle.p3_formula.specs.GroundModal.{GroundModal}
+use Rattle.p3_base.specs.declared.operator.Operator.TheVariants.{AtEnd, Always, Sometime, AtMostOnce, SometimeAfter, SometimeBefore}
 use Rattle.p3_formula.proofs.NextLaws.{truth-agree}
 use Rattle.p3_formula.proofs.ReadAtoms.{reads}
 use Rattle.p3_formula.proofs.WatchedLaws.{last-next, some-next}

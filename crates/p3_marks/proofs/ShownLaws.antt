@@ -9,8 +9,8 @@ use Rattle.p3_base.specs.declared.showing.Showing.TheVariants as showing
 use Rattle.p3_base.proofs.TrajectoryLemmas.{HasGap, came_tells, not_tells, not-came, not-awaited, not-early}
 use Rattle.p3_formula.specs.Forms.{State}
 use Rattle.p3_formula.specs.GroundSat.{holds_at}
-use Rattle.p3_formula.specs.declared.modal.GroundModal.{GroundModal}
-use Rattle.p3_formula.specs.declared.modal.GroundModal.TheVariants.{AtEnd, Always, Sometime, AtMostOnce, SometimeAfter, SometimeBefore}
+use Rattle.p3_formula.specs.GroundModal.{GroundModal}
+use Rattle.p3_base.specs.declared.operator.Operator.TheVariants.{AtEnd, Always, Sometime, AtMostOnce, SometimeAfter, SometimeBefore}
 use Rattle.p3_marks.specs.Marks.{least_place, is_gap, is_again, failing, found, returned, mark_of, shown_by}
 use Rattle.p3_marks.specs.Reasons.{ground_shown}
 use Rattle.p3_marks.proofs.PlaceLaws.{IsLeast, IsUpTo, is_least, least_up_to, some_is, each_is}

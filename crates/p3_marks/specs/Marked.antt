@@ -8,7 +8,7 @@ use Rattle.p3_base.specs.declared.showing.Subject.TheVariants.{Hard, Soft}
 use Rattle.p3_formula.specs.Conditions.{HasAtomsBelow}
 use Rattle.p3_formula.specs.Forms.{State}
 use Rattle.p3_formula.specs.declared.form.Change.{Change}
-use Rattle.p3_formula.specs.declared.modal.GroundModal.{GroundModal}
+use Rattle.p3_formula.specs.GroundModal.{GroundModal}
 use Rattle.p3_formula.specs.declared.modal.GroundSoft.{GroundSoft}
 use Rattle.p3_formula.specs.declared.task.GroundTask.{GroundTask}
 use Rattle.p3_run.specs.Groups.{IsReader, modal_at, modals_at, modals_of}

@@ -1,7 +1,6 @@
 -- Why a ground plan satisfies its constraints and preferences, or does not: the PDDL3 report, over numbered steps.
 use Rattle.std.specs.Prelude.{ℕ, ◌-◌, Bool, not, List, [], ◌++◌, map, flat_map, filter, length, Option, Some, None}
 use Rattle.std.specs.List.{enumerate_from}
-use Rattle.p3_base.specs.Showings.{shown_at_end, shown_always, shown_sometime, shown_at_most_once, shown_sometime_after, shown_sometime_before}
 use Rattle.p3_base.specs.declared.showing.Reason.{Reason}
 use Rattle.p3_base.specs.declared.showing.Showing.{Showing}
 use Rattle.p3_base.specs.declared.showing.Showing.TheVariants.{FailsAt}
@@ -10,8 +9,8 @@ use Rattle.p3_base.specs.declared.showing.Subject.TheVariants.{Hard, Soft, Pre}
 use Rattle.p3_formula.specs.Forms.{State, truth}
 use Rattle.p3_formula.specs.GroundPlans.{GroundPlan, step_of, ground_visited, ground_moves}
 use Rattle.p3_formula.specs.GroundSat.{holds_at}
-use Rattle.p3_formula.specs.declared.modal.GroundModal.{GroundModal}
-use Rattle.p3_formula.specs.declared.modal.GroundModal.TheVariants.{AtEnd, Always, Sometime, AtMostOnce, SometimeAfter, SometimeBefore}
+use Rattle.p3_formula.specs.GroundModal.{GroundModal}
+use Rattle.p3_base.specs.Operators.{over, showing}
 use Rattle.p3_formula.specs.declared.modal.GroundPref.{GroundPref}
 use Rattle.p3_formula.specs.declared.modal.GroundSoft.{GroundSoft}
 use Rattle.p3_formula.specs.declared.task.GroundStep.{GroundStep}
@@ -19,12 +18,7 @@ use Rattle.p3_formula.specs.declared.task.GroundTask.{GroundTask}
 
 -- the states that show whether an operator is satisfied over the visited states
 unfoldable pub ground_shown : List State → GroundModal → Showing
-ground_shown W (AtEnd f) = shown_at_end (length W) (holds_at W f)
-ground_shown W (Always f) = shown_always (length W) (holds_at W f)
-ground_shown W (Sometime f) = shown_sometime (length W) (holds_at W f)
-ground_shown W (AtMostOnce f) = shown_at_most_once (length W) (holds_at W f)
-ground_shown W (SometimeAfter f g) = shown_sometime_after (length W) (holds_at W f) (holds_at W g)
-ground_shown W (SometimeBefore f g) = shown_sometime_before (length W) (holds_at W f) (holds_at W g)
+ground_shown W modal = showing (length W) (over (holds_at W) modal)
 
 -- ---- reasons
 

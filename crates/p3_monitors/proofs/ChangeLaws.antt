@@ -11,7 +11,7 @@ use Rattle.p3_formula.specs.GroundPlans.{last_of}
 use Rattle.p3_formula.specs.Next.{is_set_after, after}
 use Rattle.p3_formula.specs.declared.form.Change.{Change}
 use Rattle.p3_formula.specs.declared.form.Form.{Form}
-use Rattle.p3_formula.specs.declared.modal.GroundModal.{GroundModal}
+use Rattle.p3_formula.specs.GroundModal.{GroundModal}
 use Rattle.p3_formula.proofs.NextLaws.{length-after, is_set-after, is_set-beyond, is_set_after-front, is_set_after-back, truth-agree}
 use Rattle.p3_regress.specs.Regressed.{IsTrueBefore}
 use Rattle.p3_regress.specs.Turned.{IsTurnBefore}

@@ -1,8 +1,8 @@
 -- Where nothing is listed, that is right for each constraint.
 use Rattle.std.proofs.Common.{◌≡◌, ◌∙◌, false, sym, true≢false}
 use Rattle.p3_formula.specs.declared.form.Form.{Form}
-use Rattle.p3_formula.specs.declared.modal.GroundModal.{GroundModal}
-use Rattle.p3_formula.specs.declared.modal.GroundModal.TheVariants as modal
+use Rattle.p3_formula.specs.GroundModal.{GroundModal}
+use Rattle.p3_base.specs.declared.operator.Operator.TheVariants as modal
 use Rattle.p3_regress.specs.Parts.{IndexesParts}
 use Rattle.p3_regress.specs.declared.readers.PartsByAtom.{PartsByAtom}
 use Rattle.p3_monitors.specs.FormIndex.{IndexesForms}

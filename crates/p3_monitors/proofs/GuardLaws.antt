@@ -11,8 +11,8 @@ use Rattle.p3_formula.specs.Modals.{IsModalBelow}
 use Rattle.p3_formula.specs.declared.form.Change.{Change}
 use Rattle.p3_formula.specs.declared.form.Form.{Form}
 use Rattle.p3_formula.specs.declared.form.Form.TheVariants.{True}
-use Rattle.p3_formula.specs.declared.modal.GroundModal.{GroundModal}
-use Rattle.p3_formula.specs.declared.modal.GroundModal.TheVariants as modal
+use Rattle.p3_formula.specs.GroundModal.{GroundModal}
+use Rattle.p3_base.specs.declared.operator.Operator.TheVariants as modal
 use Rattle.p3_formula.proofs.FormLemmas.{has_atoms-True, nodes-True}
 use Rattle.p3_formula.proofs.WatchedLaws.{sat-AtMostOnce, sat-SometimeBefore}
 use Rattle.p3_regress.specs.Regressed.{growth}

@@ -16,7 +16,7 @@ use Rattle.p3_formula.specs.Trimmed.{unless_never}
 use Rattle.p3_formula.specs.declared.form.Change.{Change}
 use Rattle.p3_formula.specs.declared.form.Form.{Form}
 use Rattle.p3_formula.specs.declared.form.Form.TheVariants.{True, False, Atom, Not, Not', And', Or'}
-use Rattle.p3_formula.specs.declared.modal.GroundModal.{GroundModal}
+use Rattle.p3_formula.specs.GroundModal.{GroundModal}
 use Rattle.p3_formula.proofs.FormLemmas.{has_atoms-False, nodes-False}
 use Rattle.p3_regress.specs.Turned.{may_turn}
 use Rattle.p3_regress.proofs.TurnedLaws.{may_turn-And, may_turn-Not, narrowed_still, some_node, turn_before}

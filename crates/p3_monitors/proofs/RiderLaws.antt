@@ -10,7 +10,7 @@ use Rattle.std.proofs.lemmas.List.Sorted.{IsPermutation-append_comm, IsPermutati
 use Rattle.p3_formula.specs.Forms.{State, is_set}
 use Rattle.p3_formula.specs.Next.{after}
 use Rattle.p3_formula.specs.declared.form.Change.{Change}
-use Rattle.p3_formula.specs.declared.modal.GroundModal.{GroundModal}
+use Rattle.p3_formula.specs.GroundModal.{GroundModal}
 use Rattle.p3_formula.proofs.NextLaws.{after-permutation}
 use Rattle.p3_formula.specs.Kept.{is_own, atom_count, Kept}
 use Rattle.p3_formula.specs.Modals.{is_read, IsModalBelow}

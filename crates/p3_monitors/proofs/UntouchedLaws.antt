@@ -10,8 +10,8 @@ use Rattle.p3_formula.specs.GroundSat.{holds_at}
 use Rattle.p3_formula.specs.GroundPlans.{last_of}
 use Rattle.p3_formula.specs.declared.form.Change.{Change}
 use Rattle.p3_formula.specs.declared.form.Form.{Form}
-use Rattle.p3_formula.specs.declared.modal.GroundModal.{GroundModal}
-use Rattle.p3_formula.specs.declared.modal.GroundModal.TheVariants.{AtEnd, Always, Sometime, AtMostOnce, SometimeAfter, SometimeBefore}
+use Rattle.p3_formula.specs.GroundModal.{GroundModal}
+use Rattle.p3_base.specs.declared.operator.Operator.TheVariants.{AtEnd, Always, Sometime, AtMostOnce, SometimeAfter, SometimeBefore}
 use Rattle.p3_formula.proofs.NextLaws.{truth-unchanged}
 use Rattle.p3_regress.specs.Regressed.{IsTrueBefore}
 use Rattle.p3_formula.specs.Kept.{watched, AreAt, is_own}

@@ -15,14 +15,15 @@ use Rattle.p3_formula.specs.Next.{is_set_after}
 use Rattle.p3_formula.specs.declared.form.Change.{Change}
 use Rattle.p3_formula.specs.declared.form.Form.{Form}
 use Rattle.p3_formula.specs.declared.form.Form.TheVariants.{Not}
-use Rattle.p3_formula.specs.declared.modal.GroundModal.{GroundModal}
-use Rattle.p3_formula.specs.declared.modal.GroundModal.TheVariants as modal
+use Rattle.p3_formula.specs.GroundModal.{GroundModal}
+use Rattle.p3_base.specs.declared.operator.Operator.TheVariants as modal
 use Rattle.p3_formula.proofs.FormLemmas.{truth-Not, truth-both, has_atoms-Not, has_atoms-both, nodes-Not, nodes-both}
 use Rattle.p3_formula.proofs.NextLaws.{is_set_after-front, is_set_after-back}
 use Rattle.p3_regress.specs.Regressed.{growth}
 use Rattle.p3_regress.proofs.TurnedLaws.{growth-both, growth-Not}
 use Rattle.p3_formula.specs.Kept.{is_own}
-use Rattle.p3_formula.specs.Modals.{forms_of, is_read, IsModalBelow}
+use Rattle.p3_formula.specs.Modals.{is_read, IsModalBelow}
+use Rattle.p3_base.specs.Operators.{formulas_of}
 use Rattle.p3_monitors.specs.KeepsOn.{AreOwn, condition_nodes}
 use Rattle.p3_monitors.specs.Updates.{IsTurned, IsUpdate, change, awaits, back, early, always, sometime, at_most_once, sometime_after, sometime_before, possible, unless}
 use Rattle.p3_formula.proofs.ReadAtoms.{same_number, reads}
@@ -125,7 +126,7 @@ module _ (base : ℕ) (step : List Change) where
 
   module _ (f later : Form) where
     -- a constraint of one form
-    module _ (operator : GroundModal) (one : forms_of operator ≡ f ∷ []) where
+    module _ (operator : GroundModal) (one : formulas_of operator ≡ f ∷ []) where
       reads_it : has_atoms (is_read operator) f ≡ true
       reads_it = (and_parts _ _ (sym (ap (list_all (has_atoms (is_read operator))) one) ∙ reads operator)).0
 
@@ -219,7 +220,7 @@ module _ (base : ℕ) (step : List Change) where
 
   module _ (f g : Form) where
     -- a constraint of two forms
-    module _ (operator : GroundModal) (two : forms_of operator ≡ f ∷ g ∷ []) where
+    module _ (operator : GroundModal) (two : formulas_of operator ≡ f ∷ g ∷ []) where
       reads_both : (has_atoms (is_read operator) f ≡ true) × (has_atoms (is_read operator) g ≡ true)
       reads_both = let parts = and_parts _ _ (sym (ap (list_all (has_atoms (is_read operator))) two) ∙ reads operator) in (parts.0, (and_parts _ _ parts.1).0)
 

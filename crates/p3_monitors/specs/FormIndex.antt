@@ -1,6 +1,6 @@
 -- The parts of the forms of a constraint by the atoms that they read.
-use Rattle.p3_formula.specs.declared.modal.GroundModal.{GroundModal}
-use Rattle.p3_formula.specs.declared.modal.GroundModal.TheVariants as modal
+use Rattle.p3_formula.specs.GroundModal.{GroundModal}
+use Rattle.p3_base.specs.declared.operator.Operator.TheVariants as modal
 use Rattle.p3_regress.specs.Parts.{IndexesParts}
 use Rattle.p3_monitors.specs.declared.forms.FormsByAtom.{FormsByAtom}
 

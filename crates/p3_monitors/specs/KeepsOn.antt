@@ -3,11 +3,12 @@ use Rattle.std.specs.Prelude.{◌≡◌, ℕ, ◌+◌, ◌*◌, Bool, true, fals
 use Rattle.std.specs.List.{list_all}
 use Rattle.p3_formula.specs.Forms.{State, is_set, has_atoms, nodes}
 use Rattle.p3_formula.specs.Kept.{Kept, is_own}
-use Rattle.p3_formula.specs.Modals.{Agree, forms_of, is_read, modal_has, modal_nodes}
+use Rattle.p3_formula.specs.Modals.{Agree, is_read, modal_has, modal_nodes}
+use Rattle.p3_base.specs.Operators.{formulas_of}
 use Rattle.p3_formula.specs.Next.{after}
 use Rattle.p3_formula.specs.declared.form.Change.{Change}
 use Rattle.p3_formula.specs.declared.form.Form.{Form}
-use Rattle.p3_formula.specs.declared.modal.GroundModal.{GroundModal}
+use Rattle.p3_formula.specs.GroundModal.{GroundModal}
 use Rattle.p3_regress.specs.Regressed.{growth}
 
 -- no change is of one of those atoms
@@ -53,7 +54,7 @@ HasConditions base modal step effects =
 
 -- what the changes of a step may add to the nodes of a constraint's forms
 abbrev pub modal_growth : List Change → GroundModal → ℕ
-modal_growth step modal = sum_by (growth step) (forms_of modal)
+modal_growth step modal = sum_by (growth step) (formulas_of modal)
 
 -- the conditions of a monitor's changes have no more nodes
 abbrev pub most_nodes : List Change → GroundModal → ℕ

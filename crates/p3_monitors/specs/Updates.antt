@@ -7,8 +7,8 @@ use Rattle.p3_formula.specs.declared.form.Change.{Change}
 use Rattle.p3_formula.specs.declared.form.Form.{Form}
 use Rattle.p3_formula.specs.Simplified.{constant, is_value}
 use Rattle.p3_formula.specs.declared.form.Form.TheVariants.{True, False, Atom, Not, And}
-use Rattle.p3_formula.specs.declared.modal.GroundModal.{GroundModal}
-use Rattle.p3_formula.specs.declared.modal.GroundModal.TheVariants as modal
+use Rattle.p3_formula.specs.GroundModal.{GroundModal}
+use Rattle.p3_base.specs.declared.operator.Operator.TheVariants as modal
 use Rattle.p3_formula.specs.Trimmed.{unless_never}
 use Rattle.p3_regress.specs.Regressed.{HasAtomsOfBoth, growth}
 use Rattle.p3_regress.specs.Turned.{may_turn, IsTurnBefore}

@@ -2,7 +2,7 @@
 
 ghost use Rattle.std.specs.Prelude.{◌≡◌, IfOk};
 
-use p3_base::NoMemory;
+use p3_base::{NoMemory, Operands};
 use p3_formula::{GroundModal, copied};
 use std::alloc::Global;
 
@@ -10,18 +10,11 @@ use std::alloc::Global;
 pub(crate) fn modal_copied(alloc: Global, modal: &GroundModal) -> Result<GroundModal, NoMemory>
     ensures { IfOk result (λ copy. copy ≡ modal.now) }
 {
-    match modal {
-        GroundModal::AtEnd(form) => Ok(GroundModal::AtEnd(copied(alloc, form)?)),
-        GroundModal::Always(form) => Ok(GroundModal::Always(copied(alloc, form)?)),
-        GroundModal::Sometime(form) => Ok(GroundModal::Sometime(copied(alloc, form)?)),
-        GroundModal::AtMostOnce(form) => Ok(GroundModal::AtMostOnce(copied(alloc, form)?)),
-        GroundModal::SometimeAfter(first, second) => {
+    match modal.operands() {
+        Operands::One(kind, form) => Ok(kind.over(copied(alloc, form)?)),
+        Operands::Two(kind, first, second) => {
             let first = copied(alloc, first)?;
-            Ok(GroundModal::SometimeAfter(first, copied(alloc, second)?))
-        }
-        GroundModal::SometimeBefore(first, second) => {
-            let first = copied(alloc, first)?;
-            Ok(GroundModal::SometimeBefore(first, copied(alloc, second)?))
+            Ok(kind.over(first, copied(alloc, second)?))
         }
     }
 }

@@ -1,7 +1,7 @@
 //! The parts of the forms of a constraint by the atoms that they read.
 
 ghost use Rattle.std.specs.Prelude.{IfOk};
-ghost use Rattle.p3_formula.specs.declared.modal.GroundModal.{GroundModal};
+ghost use Rattle.p3_formula.specs.GroundModal.{GroundModal};
 ghost use Rattle.p3_monitors.specs.FormIndex.{IndexesForms};
 
 use p3_base::NoMemory;

@@ -25,8 +25,11 @@ use Rattle.p3_tree.specs.declared.effect.Effect.TheVariants as effect
 use Rattle.p3_tree.specs.declared.goal.Pref.{Pref}
 use Rattle.p3_tree.specs.declared.goal.PreGoal.{PreGoal}
 use Rattle.p3_tree.specs.declared.goal.PreGoal.TheVariants as goal
-use Rattle.p3_tree.specs.declared.constraint.Modal.{Modal}
-use Rattle.p3_tree.specs.declared.constraint.Modal.TheVariants as modal
+use Rattle.p3_tree.specs.Modal.{Modal}
+use Rattle.p3_base.proofs.OperatorLaws.{joined_binary, joined_unary}
+use Rattle.p3_base.specs.Operators.{binary, unary}
+use Rattle.p3_base.specs.declared.operator.Binary.{Binary}
+use Rattle.p3_base.specs.declared.operator.Unary.{Unary}
 use Rattle.p3_tree.specs.declared.constraint.Constraint.{Constraint}
 use Rattle.p3_tree.specs.declared.constraint.Constraint.TheVariants as constraint
 use Rattle.p3_tree.specs.declared.metric.Metric.{Metric}
@@ -164,23 +167,13 @@ module _ (seen : Seen) where
   unfolding goal_uses named_in_goal
   goal-Soft pref = (λ i. with_tree (formula_uses pref.body) (sym (append-nil (named_at pref.at pref.name)) i) seen) ∙ sym (tree-both (λ scope. []) (formula_uses pref.body) (named_at pref.at pref.name) [] seen)
 
-  pub modal-AtEnd : (body : Formula) → with_tree (modal_uses (modal.AtEnd body)) [] seen ≡ with_tree (formula_uses body) [] seen
-  modal-AtEnd body = refl
+  pub modal-One : (kind : Unary) (body : Formula) → with_tree (modal_uses (unary kind body)) [] seen ≡ with_tree (formula_uses body) [] seen
+  modal-One kind body = λ i. with_tree (λ scope. joined_unary ◌++◌ (λ formula. formula_uses formula scope) kind body i) [] seen
 
-  pub modal-Always : (body : Formula) → with_tree (modal_uses (modal.Always body)) [] seen ≡ with_tree (formula_uses body) [] seen
-  modal-Always body = refl
-
-  pub modal-Sometime : (body : Formula) → with_tree (modal_uses (modal.Sometime body)) [] seen ≡ with_tree (formula_uses body) [] seen
-  modal-Sometime body = refl
-
-  pub modal-AtMostOnce : (body : Formula) → with_tree (modal_uses (modal.AtMostOnce body)) [] seen ≡ with_tree (formula_uses body) [] seen
-  modal-AtMostOnce body = refl
-
-  pub modal-After : (first second : Formula) → with_tree (modal_uses (modal.SometimeAfter first second)) [] seen ≡ with_tree (formula_uses second) [] (with_tree (formula_uses first) [] seen)
-  modal-After first second = sym (tree-both (formula_uses first) (formula_uses second) [] [] seen)
-
-  pub modal-Before : (first second : Formula) → with_tree (modal_uses (modal.SometimeBefore first second)) [] seen ≡ with_tree (formula_uses second) [] (with_tree (formula_uses first) [] seen)
-  modal-Before first second = modal-After first second
+  pub modal-Two : (kind : Binary) (first second : Formula) → with_tree (modal_uses (binary kind first second)) [] seen ≡ with_tree (formula_uses second) [] (with_tree (formula_uses first) [] seen)
+  modal-Two kind first second =
+      (λ i. with_tree (λ scope. joined_binary ◌++◌ (λ formula. formula_uses formula scope) kind first second i) [] seen)
+      ∙ sym (tree-both (formula_uses first) (formula_uses second) [] [] seen)
 
   pub constraint-Both : (parts : List Constraint) → with_tree (constraint_uses (constraint.Both parts)) (named_in_constraint (constraint.Both parts)) seen ≡ with_tree (uses_of_each constraint_uses parts) (flat_map named_in_constraint parts) seen
   unfolding uses_of_each
@@ -251,7 +244,7 @@ pub ruleset amount_laws = (amount-Value)
 
 pub ruleset goal_laws = (goal-Plain, goal-Both, goal-Each, goal-Soft)
 
-pub ruleset modal_laws = (modal-AtEnd, modal-Always, modal-Sometime, modal-AtMostOnce, modal-After, modal-Before)
+pub ruleset modal_laws = (modal-One, modal-Two)
 
 pub ruleset constraint_laws = (constraint-Both, constraint-Each, constraint-Single, constraint-Soft)
 

@@ -11,7 +11,7 @@ ghost use Rattle.p3_names.specs.Uses.{uses_of_each, uses_of_action, uses_of_num,
 ghost use Rattle.p3_names.specs.Uses.{with_tree, with_variables, behind};
 ghost use Rattle.p3_names.specs.Uses.{domain_seen, problem_seen};
 
-use p3_base::{Name, NoMemory};
+use p3_base::{Name, NoMemory, Operands};
 use p3_tree::{
     Action, Amount, Constraint, Domain, Effect, Formula, Metric, Modal, Num, PreGoal, Problem, Ref,
     Term, Typed,
@@ -306,16 +306,9 @@ impl<'t> Visits<'t> {
     fn modal(&mut self, modal: &'t Modal) -> Result<(), NoMemory>
         ensures { OnOk result (self.new ≡ with_tree (modal_uses modal.now) [] self.old) }
     {
-        match modal {
-            Modal::AtEnd(formula) => self.formula(formula),
-            Modal::Always(formula) => self.formula(formula),
-            Modal::Sometime(formula) => self.formula(formula),
-            Modal::AtMostOnce(formula) => self.formula(formula),
-            Modal::SometimeAfter(first, second) => {
-                self.formula(first)?;
-                self.formula(second)
-            }
-            Modal::SometimeBefore(first, second) => {
+        match modal.operands() {
+            Operands::One(_, formula) => self.formula(formula),
+            Operands::Two(_, first, second) => {
                 self.formula(first)?;
                 self.formula(second)
             }

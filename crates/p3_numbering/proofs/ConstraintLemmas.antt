@@ -3,7 +3,7 @@ use Rattle.std.proofs.Common.{◌≡◌, ◌∙◌, ℕ, Option, List, ◌++◌,
 use Rattle.std.proofs.lemmas.Simd.{map-map}
 use Rattle.p3_tree.proofs.Computes.{trees_compute}
 use Rattle.p3_tree.proofs.FoldLemmas.{fold_constraint-Both}
-use Rattle.p3_tree.specs.declared.constraint.Modal.{Modal}
+use Rattle.p3_tree.specs.Modal.{Modal}
 use Rattle.p3_tree.specs.declared.constraint.Constraint.{Constraint}
 use Rattle.p3_tree.specs.declared.constraint.Constraint.TheVariants as constraint
 use Rattle.p3_tree.specs.declared.term.Ref.{Ref}

@@ -9,13 +9,14 @@ use crate::conditions::numbered_formula;
 use crate::goals::numbered_name;
 use crate::tables::Tables;
 use crate::terms::ranges;
-use p3_base::{Boxed, List, NoMemory};
+use p3_base::{Boxed, List, NoMemory, Operands};
 use p3_names::Scope;
 use p3_numbers::{NumberedConstraint, NumberedModal};
 use p3_tree::{Constraint, Modal, Typed};
 use std::alloc::Global;
 
 /// An operator with numbers; the scope is as before where it is answered.
+#[tactic(auto, using(p3_base::proofs::OperatorLaws::over_unary, p3_base::proofs::OperatorLaws::over_binary))]
 fn numbered_modal<'t>(
     alloc: Global,
     tables: &Tables<'t>,
@@ -26,32 +27,15 @@ fn numbered_modal<'t>(
     ensures made { IfOk result
         (λ made. made ≡ modal_of (numbers_of tables.now) modal.now (words_of scope.old)) }
 {
-    match modal {
-        Modal::AtEnd(formula) => {
+    match modal.operands() {
+        Operands::One(kind, formula) => {
             let condition = numbered_formula(alloc, tables, scope, formula)?;
-            Ok(NumberedModal::AtEnd(condition))
+            Ok(kind.over(condition))
         }
-        Modal::Always(formula) => {
-            let condition = numbered_formula(alloc, tables, scope, formula)?;
-            Ok(NumberedModal::Always(condition))
-        }
-        Modal::Sometime(formula) => {
-            let condition = numbered_formula(alloc, tables, scope, formula)?;
-            Ok(NumberedModal::Sometime(condition))
-        }
-        Modal::AtMostOnce(formula) => {
-            let condition = numbered_formula(alloc, tables, scope, formula)?;
-            Ok(NumberedModal::AtMostOnce(condition))
-        }
-        Modal::SometimeAfter(first, second) => {
+        Operands::Two(kind, first, second) => {
             let first = numbered_formula(alloc, tables, scope, first)?;
             let second = numbered_formula(alloc, tables, scope, second)?;
-            Ok(NumberedModal::SometimeAfter(first, second))
-        }
-        Modal::SometimeBefore(first, second) => {
-            let first = numbered_formula(alloc, tables, scope, first)?;
-            let second = numbered_formula(alloc, tables, scope, second)?;
-            Ok(NumberedModal::SometimeBefore(first, second))
+            Ok(kind.over(first, second))
         }
     }
 }

@@ -1,6 +1,6 @@
 -- A numbered constraint demands and prefers what the constraint does that it was made of.
-use Rattle.std.proofs.Common.{◌≡◌, ◌∙◌, true, ◌&&◌, List, [], ◌∷◌, ◌++◌, map, refl, sym, ap}
-use Rattle.std.specs.Prelude.{flat_map}
+use Rattle.std.proofs.Common.{◌≡◌, ◌∙◌, ℕ, Bool, true, ◌&&◌, List, [], ◌∷◌, ◌++◌, map, refl, sym, ap}
+use Rattle.std.specs.Prelude.{flat_map, length}
 use Rattle.std.specs.List.{list_all}
 use Rattle.std.proofs.lemmas.Bool.{and_parts}
 use Rattle.std.proofs.lemmas.List.{map-append}
@@ -12,16 +12,18 @@ use Rattle.p3_tree.specs.Folds.{fold_constraints}
 use Rattle.p3_tree.specs.States.{State, Environment}
 use Rattle.p3_tree.specs.Bindings.{bind}
 use Rattle.p3_tree.proofs.OperatorLaws.{sat-operators}
-use Rattle.p3_tree.specs.declared.constraint.Modal.{Modal}
-use Rattle.p3_tree.specs.declared.constraint.Modal.TheVariants as modal
+use Rattle.p3_tree.specs.Modal.{Modal}
+use Rattle.p3_base.proofs.OperatorLaws.{over_over, over_where}
+use Rattle.p3_base.specs.Operators as meaning_of
 use Rattle.p3_tree.specs.declared.constraint.Constraint.{Constraint, Row_of-Constraint, end_of-Constraint, more_of-Constraint}
 use Rattle.p3_tree.specs.declared.constraint.Constraint.TheVariants.{Both', Each', Single, Soft'}
 use Rattle.p3_tree.specs.declared.task.Task.{Task}
 use Rattle.p3_numbers.specs.Slots.{Slots, bound}
 use Rattle.p3_numbers.specs.Places.{Variables, ranges_of, words_of, are_known_types, IsNumbering, Fills, environment_of}
-use Rattle.p3_numbers.specs.Conditions.{is_known_formula}
+use Rattle.p3_numbers.specs.Conditions.{condition_of, is_known_formula}
+use Rattle.p3_tree.specs.Plans.{state_at}
 use Rattle.p3_numbers.specs.Goals.{numbered_name, is_known_name}
-use Rattle.p3_numbers.specs.Constraints.{hard_operators, all_operators, soft_instances, modal_of, constraint_layer, constraint_of, is_known_modal, known_constraint_layer, is_known_constraint, ModalMeaning, AtEnd, Always, Sometime, AtMostOnce, SometimeAfter, SometimeBefore, numbered_modal_meaning, placed_modal_meaning, modal_meaning, hard_modal_meaning, is_met_by, is_satisfied, InstanceMeaning, placed_instance_meaning, instance_meaning}
+use Rattle.p3_numbers.specs.Constraints.{hard_operators, all_operators, soft_instances, modal_of, constraint_layer, constraint_of, is_known_modal, known_constraint_layer, is_known_constraint, ModalMeaning, test_at, test_of, numbered_modal_meaning, placed_modal_meaning, modal_meaning, hard_modal_meaning, is_met_by, is_satisfied, InstanceMeaning, placed_instance_meaning, instance_meaning}
 use Rattle.p3_numbers.specs.declared.numbers.Numbers.{Numbers}
 use Rattle.p3_numbers.specs.declared.constraint.NumberedConstraint.{NumberedConstraint}
 use Rattle.p3_numbers.proofs.BindingLemmas.{each_binding}
@@ -33,25 +35,13 @@ use Rattle.p3_numbers.proofs.JoinLemmas.{joined}
 -- an operator is satisfied where what is seen of it is met
 satisfies-meaning : (T : Task) (W : List State) (env : Environment) (operator : Modal) → satisfies T W env operator ≡ is_met_by W (modal_meaning T env operator)
 unfolding satisfies
-satisfies-meaning T W env (modal.AtEnd f) = refl
-satisfies-meaning T W env (modal.Always f) = refl
-satisfies-meaning T W env (modal.Sometime f) = refl
-satisfies-meaning T W env (modal.AtMostOnce f) = refl
-satisfies-meaning T W env (modal.SometimeAfter f g) = refl
-satisfies-meaning T W env (modal.SometimeBefore f g) = refl
+satisfies-meaning T W env operator = ap (meaning_of.is_satisfied (length W)) (sym (over_over (test_of T env) (λ (holds : State → Bool) (i : ℕ). holds (state_at W i)) operator))
 
 module _ (T : Task) (N : Numbers) (ties : IsNumbering T N) where
   modal-means : (operator : Modal) (scope : Variables) (slots : Slots) → Fills N scope slots → is_known_modal N operator scope ≡ true → numbered_modal_meaning N slots (modal_of N operator scope) ≡ modal_meaning T (environment_of N scope slots) operator
-  modal-means (modal.AtEnd f) scope slots fills known = λ i. AtEnd (λ s. condition-means T N ties s f scope slots fills known i)
-  modal-means (modal.Always f) scope slots fills known = λ i. Always (λ s. condition-means T N ties s f scope slots fills known i)
-  modal-means (modal.Sometime f) scope slots fills known = λ i. Sometime (λ s. condition-means T N ties s f scope slots fills known i)
-  modal-means (modal.AtMostOnce f) scope slots fills known = λ i. AtMostOnce (λ s. condition-means T N ties s f scope slots fills known i)
-  modal-means (modal.SometimeAfter f g) scope slots fills known =
-      let parts = and_parts (is_known_formula N f scope) (is_known_formula N g scope) known in
-      λ i. SometimeAfter (λ s. condition-means T N ties s f scope slots fills parts.0 i) (λ s. condition-means T N ties s g scope slots fills parts.1 i)
-  modal-means (modal.SometimeBefore f g) scope slots fills known =
-      let parts = and_parts (is_known_formula N f scope) (is_known_formula N g scope) known in
-      λ i. SometimeBefore (λ s. condition-means T N ties s f scope slots fills parts.0 i) (λ s. condition-means T N ties s g scope slots fills parts.1 i)
+  modal-means operator scope slots fills known =
+      over_over (λ formula. condition_of N formula scope) (test_at N slots) operator
+      ∙ over_where (λ formula. is_known_formula N formula scope) _ (test_of T (environment_of N scope slots)) (λ formula is_known i s. condition-means T N ties s formula scope slots fills is_known i) operator known
 
   -- ---- the hard operators
 

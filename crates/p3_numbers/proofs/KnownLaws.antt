@@ -24,8 +24,8 @@ use Rattle.p3_tree.specs.declared.effect.Effect.{Effect, Row_of-Effect, end_of-E
 use Rattle.p3_tree.specs.declared.effect.Effect.TheVariants as effect
 use Rattle.p3_tree.specs.declared.goal.PreGoal.{PreGoal, Row_of-PreGoal, end_of-PreGoal, more_of-PreGoal}
 use Rattle.p3_tree.specs.declared.goal.PreGoal.TheVariants as goal
-use Rattle.p3_tree.specs.declared.constraint.Modal.{Modal}
-use Rattle.p3_tree.specs.declared.constraint.Modal.TheVariants as modal
+use Rattle.p3_tree.specs.Modal.{Modal}
+use Rattle.p3_base.proofs.OperatorLaws.{joined_image}
 use Rattle.p3_tree.specs.declared.constraint.Constraint.{Constraint, Row_of-Constraint, end_of-Constraint, more_of-Constraint}
 use Rattle.p3_tree.specs.declared.constraint.Constraint.TheVariants as constraint
 use Rattle.p3_tree.specs.declared.task.Action.{Action}
@@ -146,12 +146,7 @@ module _ (N : Numbers) where
   -- ---- constraints
 
   modal-known : (operator : Modal) (scope : Scope) (words : Variables) → Agrees scope words → all_known (modal_uses operator scope) ≡ is_known_modal N operator words
-  modal-known (modal.AtEnd f) scope words agrees = formula-known f scope words agrees
-  modal-known (modal.Always f) scope words agrees = formula-known f scope words agrees
-  modal-known (modal.Sometime f) scope words agrees = formula-known f scope words agrees
-  modal-known (modal.AtMostOnce f) scope words agrees = formula-known f scope words agrees
-  modal-known (modal.SometimeAfter f g) scope words agrees = list_all-append (knows N) (formula_uses f scope) (formula_uses g scope) ∙ (λ i. formula-known f scope words agrees i && formula-known g scope words agrees i)
-  modal-known (modal.SometimeBefore f g) scope words agrees = list_all-append (knows N) (formula_uses f scope) (formula_uses g scope) ∙ (λ i. formula-known f scope words agrees i && formula-known g scope words agrees i)
+  modal-known operator scope words agrees = sym (joined_image all_known ◌++◌ ◌&&◌ (λ first second. sym (list_all-append (knows N) first second)) (λ formula. is_known_formula N formula words) (λ formula. formula_uses formula scope) (λ formula. sym (formula-known formula scope words agrees)) operator)
 
   mutual
     unfolding constraint_uses named_in_constraint is_known_constraint

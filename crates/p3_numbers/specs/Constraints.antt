@@ -2,7 +2,6 @@
 use Rattle.std.specs.Prelude.{◌≡◌, ℕ, Bool, true, ◌&&◌, List, [], ◌∷◌, ◌++◌, map, flat_map, length, Option, option_map}
 use Rattle.std.specs.List.{list_all}
 use mathlib.Core.Former.{Count, one_more}
-use Rattle.p3_base.specs.Trajectories as operator
 use Rattle.p3_tree.specs.Constraints as named
 use Rattle.p3_tree.specs.Constraints.{HardModal, Instance}
 use Rattle.p3_tree.specs.Folds as fold
@@ -10,8 +9,10 @@ use Rattle.p3_tree.specs.Formulas.{holds}
 use Rattle.p3_tree.specs.Names.{Name}
 use Rattle.p3_tree.specs.Plans.{state_at}
 use Rattle.p3_tree.specs.States.{State, Environment}
-use Rattle.p3_tree.specs.declared.constraint.Modal.{Modal}
-use Rattle.p3_tree.specs.declared.constraint.Modal.TheVariants as modal
+use Rattle.p3_tree.specs.Modal.{Modal}
+use Rattle.p3_base.specs.Operators as operator
+use Rattle.p3_base.specs.Operators.{all, over}
+use Rattle.p3_base.specs.declared.operator.Operator.{Operator}
 use Rattle.p3_tree.specs.declared.constraint.Constraint.{Constraint}
 use Rattle.p3_tree.specs.declared.constraint.Constraint.TheOpen as constraint
 use Rattle.p3_tree.specs.declared.formula.Formula.{Formula}
@@ -22,8 +23,7 @@ use Rattle.p3_numbers.specs.Goals.{numbered_name, is_known_name}
 use Rattle.p3_numbers.specs.Places.{Variables, number_in, ranges_of, words_of, are_known_types, Fills, environment_of}
 use Rattle.p3_numbers.specs.Slots.{Slots, name_at, bound}
 use Rattle.p3_numbers.specs.declared.condition.Condition.{Condition}
-use Rattle.p3_numbers.specs.declared.constraint.NumberedModal.{NumberedModal}
-use Rattle.p3_numbers.specs.declared.constraint.NumberedModal.TheVariants as numbered_modal
+use Rattle.p3_numbers.specs.NumberedModal.{NumberedModal}
 use Rattle.p3_numbers.specs.declared.constraint.NumberedConstraint.{NumberedConstraint, NumberedConstraint-F, Row_of-NumberedConstraint, end_of-NumberedConstraint, more_of-NumberedConstraint}
 use Rattle.p3_numbers.specs.declared.constraint.NumberedConstraint.TheVariants as numbered_constraint
 use Rattle.p3_numbers.specs.declared.constraint.NumberedConstraint.TheOpen as layer
@@ -86,12 +86,7 @@ unfoldable mutual
 -- ---- what a constraint becomes under variables
 
 abbrev pub modal_of : Numbers → Modal → Variables → NumberedModal
-modal_of N (modal.AtEnd f) scope = numbered_modal.AtEnd (condition_of N f scope)
-modal_of N (modal.Always f) scope = numbered_modal.Always (condition_of N f scope)
-modal_of N (modal.Sometime f) scope = numbered_modal.Sometime (condition_of N f scope)
-modal_of N (modal.AtMostOnce f) scope = numbered_modal.AtMostOnce (condition_of N f scope)
-modal_of N (modal.SometimeAfter f g) scope = numbered_modal.SometimeAfter (condition_of N f scope) (condition_of N g scope)
-modal_of N (modal.SometimeBefore f g) scope = numbered_modal.SometimeBefore (condition_of N f scope) (condition_of N g scope)
+modal_of N modal scope = over (λ (formula : Formula). condition_of N formula scope) modal
 
 abbrev pub constraint_layer : Numbers → constraint.Constraint-F (Variables → NumberedConstraint) → Variables → NumberedConstraint
 constraint_layer N (constraint.Both parts) scope = numbered_constraint.Both (map (λ part. part scope) parts)
@@ -105,12 +100,7 @@ constraint_of N tree = fold.fold_constraint (constraint_layer N) tree
 -- ---- whether all in it is known
 
 abbrev pub is_known_modal : Numbers → Modal → Variables → Bool
-is_known_modal N (modal.AtEnd f) scope = is_known_formula N f scope
-is_known_modal N (modal.Always f) scope = is_known_formula N f scope
-is_known_modal N (modal.Sometime f) scope = is_known_formula N f scope
-is_known_modal N (modal.AtMostOnce f) scope = is_known_formula N f scope
-is_known_modal N (modal.SometimeAfter f g) scope = is_known_formula N f scope && is_known_formula N g scope
-is_known_modal N (modal.SometimeBefore f g) scope = is_known_formula N f scope && is_known_formula N g scope
+is_known_modal N modal scope = all (λ (formula : Formula). is_known_formula N formula scope) modal
 
 abbrev pub known_constraint_layer : Numbers → constraint.Constraint-F (Variables → Bool) → Variables → Bool
 known_constraint_layer N (constraint.Both parts) scope = list_all (λ part. part scope) parts
@@ -124,24 +114,14 @@ is_known_constraint N tree = fold.fold_constraint (known_constraint_layer N) tre
 -- ---- the laws
 
 -- what is seen of an operator: which one it is, and where its formulas hold
-pub data ModalMeaning : Type 0 where
-  AtEnd : (holds : State → Bool) → ModalMeaning
-  Always : (holds : State → Bool) → ModalMeaning
-  Sometime : (holds : State → Bool) → ModalMeaning
-  AtMostOnce : (holds : State → Bool) → ModalMeaning
-  SometimeAfter : (first : State → Bool) → (second : State → Bool) → ModalMeaning
-  SometimeBefore : (first : State → Bool) → (second : State → Bool) → ModalMeaning
+abbrev pub ModalMeaning : Type 0
+ModalMeaning = Operator (State → Bool)
 
 abbrev pub test_at : Numbers → Slots → Condition → State → Bool
 test_at N slots condition s = met N s slots condition
 
 abbrev pub numbered_modal_meaning : Numbers → Slots → NumberedModal → ModalMeaning
-numbered_modal_meaning N slots (numbered_modal.AtEnd f) = AtEnd (test_at N slots f)
-numbered_modal_meaning N slots (numbered_modal.Always f) = Always (test_at N slots f)
-numbered_modal_meaning N slots (numbered_modal.Sometime f) = Sometime (test_at N slots f)
-numbered_modal_meaning N slots (numbered_modal.AtMostOnce f) = AtMostOnce (test_at N slots f)
-numbered_modal_meaning N slots (numbered_modal.SometimeAfter f g) = SometimeAfter (test_at N slots f) (test_at N slots g)
-numbered_modal_meaning N slots (numbered_modal.SometimeBefore f g) = SometimeBefore (test_at N slots f) (test_at N slots g)
+numbered_modal_meaning N slots modal = over (test_at N slots) modal
 
 abbrev pub placed_modal_meaning : Numbers → PlacedModal → ModalMeaning
 placed_modal_meaning N placed = numbered_modal_meaning N placed.slots placed.modal
@@ -150,12 +130,7 @@ abbrev pub test_of : Task → Environment → Formula → State → Bool
 test_of T env formula s = holds T s env formula
 
 abbrev pub modal_meaning : Task → Environment → Modal → ModalMeaning
-modal_meaning T env (modal.AtEnd f) = AtEnd (test_of T env f)
-modal_meaning T env (modal.Always f) = Always (test_of T env f)
-modal_meaning T env (modal.Sometime f) = Sometime (test_of T env f)
-modal_meaning T env (modal.AtMostOnce f) = AtMostOnce (test_of T env f)
-modal_meaning T env (modal.SometimeAfter f g) = SometimeAfter (test_of T env f) (test_of T env g)
-modal_meaning T env (modal.SometimeBefore f g) = SometimeBefore (test_of T env f) (test_of T env g)
+modal_meaning T env modal = over (test_of T env) modal
 
 abbrev pub hard_modal_meaning : Task → HardModal → ModalMeaning
 hard_modal_meaning T hard = modal_meaning T hard.env hard.modal
@@ -172,12 +147,7 @@ OperatorsAreKept T N = (tree : Constraint) (scope : Variables) (slots : Slots) �
 
 -- whether the states meet it
 abbrev pub is_met_by : List State → ModalMeaning → Bool
-is_met_by W (AtEnd f) = operator.at_end (length W) (λ i. f (state_at W i))
-is_met_by W (Always f) = operator.always (length W) (λ i. f (state_at W i))
-is_met_by W (Sometime f) = operator.sometime (length W) (λ i. f (state_at W i))
-is_met_by W (AtMostOnce f) = operator.at_most_once (length W) (λ i. f (state_at W i))
-is_met_by W (SometimeAfter f g) = operator.sometime_after (length W) (λ i. f (state_at W i)) (λ i. g (state_at W i))
-is_met_by W (SometimeBefore f g) = operator.sometime_before (length W) (λ i. f (state_at W i)) (λ i. g (state_at W i))
+is_met_by W meaning = operator.is_satisfied (length W) (over (λ (holds : State → Bool) (i : ℕ). holds (state_at W i)) meaning)
 
 -- a constraint is satisfied where all its operators are
 abbrev pub is_satisfied : Numbers → List State → Slots → NumberedConstraint → Bool

@@ -10,3 +10,4 @@ pub mod Slots
 pub mod Starts
 pub mod Tasks
 pub mod Worked
+pub mod NumberedModal

@@ -1,24 +1,10 @@
 //! Trajectory constraints over numbers.
 
 use crate::Condition;
-use p3_base::{Boxed, List};
+use p3_base::{Boxed, List, Operator};
 
 /// A modal operator over the visited states.
-#[derive(Debug, Drop)]
-pub enum NumberedModal {
-    /// It holds in the last state.
-    AtEnd(Condition),
-    /// It holds in every state.
-    Always(Condition),
-    /// It holds in some state.
-    Sometime(Condition),
-    /// Once it has held and ceased to, it does not hold again.
-    AtMostOnce(Condition),
-    /// Where the first holds, the second holds then or later.
-    SometimeAfter(Condition, Condition),
-    /// Where the first holds, the second held before.
-    SometimeBefore(Condition, Condition),
-}
+pub type NumberedModal = Operator<Condition>;
 
 /// Constraints and preferences over the visited states, over numbers.
 #[derive(Debug, Drop)]

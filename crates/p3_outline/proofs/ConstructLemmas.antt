@@ -1,13 +1,9 @@
 -- Constructs that are left out, and the first of them.
-use Rattle.std.proofs.Common.{◌≡◌, ◌∙◌, refl, sym, ap, ℕ, Bool, true, false, IsTrue, ◌↔◌, ◌||◌, ◌&&◌, not, List, [], ◌∷◌, ◌++◌, map, fold, Option, Some, None, append_assoc}
+use Rattle.std.proofs.Common.{◌≡◌, ◌∙◌, refl, sym, ap, Bool, true, false, ◌||◌, ◌&&◌, not, List, [], ◌∷◌, ◌++◌, fold, Option, Some, None, append_assoc}
 use Rattle.std.specs.Prelude.{nat_lt, if◌then◌else◌, codes, option_map}
-use Rattle.std.specs.Bool.{one_answer}
 use Rattle.std.specs.List.{list_all, list_any}
-use Rattle.std.proofs.lemmas.Bool.{and_parts}
-use Rattle.std.specs.Char.{to_ascii_lowercase}
-use Rattle.std.specs.Str.{bytes_eq}
-use Rattle.std.proofs.lemmas.Slice.Eq.{bytes_eq-Decides}
 use mathlib.Core.Former.{Count}
+use Rattle.p3_lexer.proofs.ClassLemmas.{same_name_sym, differs, none_passed, test_first}
 use Rattle.p3_base.specs.Words.{is_name}
 use Rattle.p3_base.specs.declared.refusal.Code.TheVariants.{Construct}
 use Rattle.p3_base.specs.declared.refusal.Role.{Role}
@@ -23,47 +19,17 @@ use Rattle.p3_tree.specs.declared.term.Ref.{Ref}
 use Rattle.p3_outline.specs.declared.constructs.Around.{Around}
 use Rattle.p3_outline.specs.declared.constructs.Found.{Found}
 use Rattle.p3_outline.specs.Nodes.{elements}
-use Rattle.p3_outline.specs.Constructs.{the_found, sooner, least_with, is_some_of, begins_as_left_out, may_tell, is_plain, declaring, conditions, the_around, with_head, with_no_head, Finds, either_shown, increase_shown, other_shown, number_shown, timed_shown, compared_shown, metric_shown, head_shown, behind_shown, place_shown, constructs_in, total_time, behind_head, constructs_below}
+use Rattle.p3_outline.specs.Constructs.{the_found, sooner, least_with, is_left_out, begins_as_left_out, may_tell, is_plain, declaring, conditions, the_around, with_head, with_no_head, Finds, either_shown, increase_shown, other_shown, number_shown, timed_shown, compared_shown, metric_shown, head_shown, behind_shown, place_shown, constructs_in, total_time, behind_head, constructs_below}
 
 -- ---- words
 
-pub same_lowered : (b : Bool) (word text : List ℕ) → IsTrue b ↔ (map to_ascii_lowercase word ≡ map to_ascii_lowercase text) → map to_ascii_lowercase text ≡ text
-    → b ≡ bytes_eq (map to_ascii_lowercase word) text
-same_lowered b word text is lowered =
-    one_answer {P = map to_ascii_lowercase word ≡ text} b (bytes_eq (map to_ascii_lowercase word) text) ((λ yes. is.0 yes ∙ lowered), (λ same. is.1 (same ∙ sym lowered))) (bytes_eq-Decides (map to_ascii_lowercase word) text)
-
-same_name_sym : (a b : Name) → same_name a b ≡ same_name b a
-same_name_sym a b = one_answer {P = a ≡ b} (same_name a b) (same_name b a) (bytes_eq-Decides a b) ((λ yes. sym ((bytes_eq-Decides b a).0 yes)), (λ same. (bytes_eq-Decides b a).1 (sym same)))
-
-some_of : (names : List Name) (word : Name) → is_some_of names word ≡ has_name names word
-some_of [] word = refl
-some_of (name ∷ names) word = λ i. same_name_sym word name i || some_of names word i
-
--- a word that fails a test is none of the words that pass it
-none_of : (test : Name → Bool) (word : Name) → test word ≡ false → (names : List Name) → list_all test names ≡ true → is_some_of names word ≡ false
-none_of test word fails [] all = refl
-none_of test word fails (name ∷ names) all =
-    let both = and_parts (test name) (list_all test names) all in
-    ap (λ b. b || is_some_of names word) (by (same_name word name) refl both.0) ∙ none_of test word fails names both.1
-  where
-    by : (b : Bool) → same_name word name ≡ b → test name ≡ true → b ≡ false
-    by true same passes = absurd (let is = ap test ((bytes_eq-Decides word name).0 same) in cc)
-    by false same passes = refl
-
--- nor is it any one of them
+-- a word that fails a test is not called by one that passes it
 pub not_called : (test : Name → Bool) (word : Name) → test word ≡ false → (name : Name) → test name ≡ true → same_name word name ≡ false
-not_called test word fails name passes = by (same_name word name) refl
-  where
-    by : (b : Bool) → same_name word name ≡ b → b ≡ false
-    by true same = absurd (let is = ap test ((bytes_eq-Decides word name).0 same) in cc)
-    by false same = refl
+not_called test word fails name passes = same_name_sym word name ∙ differs test word fails name passes
 
-pub left_out_first : (word : Name) → (begins_as_left_out word && is_some_of left_out word) ≡ is_some_of left_out word
-left_out_first word = by (begins_as_left_out word) refl
-  where
-    by : (b : Bool) → begins_as_left_out word ≡ b → (b && is_some_of left_out word) ≡ is_some_of left_out word
-    by true is = refl
-    by false is = sym (none_of begins_as_left_out word is left_out refl)
+pub left_out_first : (word : Name) → is_left_out word ≡ (begins_as_left_out word && has_name left_out word)
+unfolding is_left_out
+left_out_first word = sym (test_first begins_as_left_out left_out refl word)
 
 -- ---- the first word
 
@@ -95,19 +61,20 @@ or_swap false true false d = refl
 or_swap false false true d = refl
 or_swap false false false d = refl
 
-some_more : (names wanted : List Name) (word : Name) → has_some (word ∷ names) wanted ≡ (is_some_of wanted word || has_some names wanted)
+some_more : (names wanted : List Name) (word : Name) → has_some (word ∷ names) wanted ≡ (has_name wanted word || has_some names wanted)
 some_more names [] word = refl
 some_more names (first ∷ wanted) word =
     ap (λ b. (same_name word first || has_name names first) || b) (some_more names wanted word)
-    ∙ or_swap (same_name word first) (has_name names first) (is_some_of wanted word) (has_some names wanted)
+    ∙ or_swap (same_name word first) (has_name names first) (has_name wanted word) (has_some names wanted)
+    ∙ ap (λ b. (b || has_name wanted word) || (has_name names first || has_some names wanted)) (same_name_sym word first)
 
 pub head_around : (names : List Name) (innermost : Option Name) (word : Name) → with_head word (the_around names innermost) ≡ the_around (word ∷ names) (Some word)
 head_around names innermost word = λ i. record {
   declares = sym (some_more names declaring word) i;
   conditional = sym (some_more names conditions word) i;
-  initial = same_name word (codes ":init") || has_name names (codes ":init");
-  metric = same_name word (codes ":metric") || has_name names (codes ":metric");
-  is_right_in_init = same_name_sym word (codes ":init") i;
+  initial = same_name_sym (codes ":init") word i || has_name names (codes ":init");
+  metric = same_name_sym (codes ":metric") word i || has_name names (codes ":metric");
+  is_right_in_init = same_name (codes ":init") word;
 }
 
 pub no_head_around : (names : List Name) (innermost : Option Name) → with_no_head (the_around names innermost) ≡ the_around names None
@@ -121,12 +88,11 @@ regroup a b c d e f g h = simp append_assoc
 pub shown_as : (names : List Name) (innermost : Option Name) (head : Ref) (behind : List Expression)
     → shown_by names innermost head behind
     ≡ head_shown (the_around names innermost) head ++ behind_shown head behind ++ place_shown (the_around names innermost) head behind
+unfolding is_left_out
 shown_as names innermost head behind =
     regroup
     (word_when (has_name left_out head.name) head) (either_shown (the_around names innermost) head) (increase_shown (the_around names innermost) head) (other_shown head behind) (number_shown head behind)
     (timed_shown (the_around names innermost) head behind) (compared_shown (the_around names innermost) head behind) (metric_shown (the_around names innermost) head)
-    ∙ ap (λ b. (word_when b head ++ either_shown (the_around names innermost) head ++ increase_shown (the_around names innermost) head) ++ behind_shown head behind ++ place_shown (the_around names innermost) head behind)
-    (sym (some_of left_out head.name))
 
 pub shown_finds : (around : Around) (least first second last : Option Found) (head : Ref) (behind : List Expression)
     → first ≡ least_with least (head_shown around head) → second ≡ least_with first (behind_shown head behind) → last ≡ least_with second (place_shown around head behind)
@@ -148,8 +114,9 @@ module _ (test : Name → Bool) (around : Around) (head : Ref) (no_metric : arou
   is_no name passes = not_called test head.name fails name passes
 
   none_by_head : head_shown around head ≡ []
+  unfolding is_left_out
   none_by_head =
-      ap (λ b. word_when b head ++ either_shown around head ++ increase_shown around head) (none_of test head.name fails left_out left)
+      ap (λ b. word_when b head ++ either_shown around head ++ increase_shown around head) (none_passed test head.name fails left_out left)
       ∙ ap (λ b. word_when (b && around.declares) head ++ increase_shown around head) (is_no (codes "either") either)
       ∙ ap (λ b. word_when (b && around.conditional) head) (is_no (codes "increase") increase)
 
@@ -184,8 +151,8 @@ module _ (around : Around) (head : Ref) (plain : is_plain around head ≡ true) 
   is_not : (name : Name) → may_tell name ≡ true → same_name head.name name ≡ false
   is_not name tells = not_called may_tell head.name tells_nothing name tells
 
-  is_none : (names : List Name) → list_all may_tell names ≡ true → is_some_of names head.name ≡ false
-  is_none names all = none_of may_tell head.name tells_nothing names all
+  is_none : (names : List Name) → list_all may_tell names ≡ true → has_name names head.name ≡ false
+  is_none names all = none_passed may_tell head.name tells_nothing names all
 
   nothing_shown : (least : Option Found) (behind : List Expression) → Finds around least (λ names innermost. shown_by names innermost head behind) least
   nothing_shown least behind names innermost place =
@@ -199,9 +166,9 @@ module _ (around : Around) (head : Ref) (plain : is_plain around head ≡ true) 
   same_around = λ i. record {
     declares = sym (is_none declaring refl) i || around.declares;
     conditional = sym (is_none conditions refl) i || around.conditional;
-    initial = sym (is_not (codes ":init") refl) i || around.initial;
-    metric = sym (is_not (codes ":metric") refl) i || around.metric;
-    is_right_in_init = sym (is_not (codes ":init") refl) i;
+    initial = sym (differs may_tell head.name tells_nothing (codes ":init") refl) i || around.initial;
+    metric = sym (differs may_tell head.name tells_nothing (codes ":metric") refl) i || around.metric;
+    is_right_in_init = sym (differs may_tell head.name tells_nothing (codes ":init") refl) i;
   }
 
 pub number_word : (is_behind : Bool) (e : Expression) (rest : List Expression) (word : Ref) → word_place e ≡ Some word

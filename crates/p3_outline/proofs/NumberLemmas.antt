@@ -1,5 +1,5 @@
 -- A word and its first point.
-use Rattle.std.proofs.Common.{◌≡◌, ◌∙◌, refl, ap, ℕ, suc, ◌+◌, ◌<◌, ◌≤◌, Bool, true, false, not, ◌&&◌, ◌||◌, nat_lt, sym, map, cond, List, [], ◌∷◌, take, drop, length, codes, Option, Some, None, arith}
+use Rattle.std.proofs.Common.{◌≡◌, ◌∙◌, refl, ap, ℕ, suc, ◌+◌, ◌<◌, ◌≤◌, Bool, true, false, not, sym, map, cond, List, [], ◌∷◌, take, drop, length, codes, Option, Some, None, arith}
 use Rattle.std.proofs.lemmas.List.{take_rest}
 use Rattle.std.specs.Prelude.{◌-◌, ◌==◌, if◌then◌else◌}
 use Rattle.std.specs.Char.{to_ascii_lowercase}
@@ -8,19 +8,15 @@ use Rattle.std.specs.Str.{bytes_eq, str_to_ascii_lowercase}
 use Rattle.std.proofs.lemmas.Bool.Decides.{nat_tests}
 use Rattle.p3_tree.specs.Names.{Name}
 use Rattle.p3_tree.specs.Decimals.{at_point}
-use Rattle.std.specs.List.{list_all}
-use Rattle.std.specs.Option.{option_or, option_map_or}
-use Rattle.p3_base.specs.Words.{is_digit}
+use Rattle.std.specs.Option.{option_or}
 use Rattle.p3_base.specs.declared.refusal.Refusal.{Refusal}
 use Rattle.p3_base.specs.declared.refusal.Role.{Role}
 use Rattle.p3_base.specs.declared.refusal.Side.{Side}
-use Rattle.p3_tree.specs.Decimals.{are_digits, is_decimal, digits_of}
 use Rattle.p3_tree.specs.Refusals.Places.{first_some}
-use Rattle.p3_tree.specs.Refusals.Texts.{is_too_long, has_places_above, long_number}
-use Rattle.p3_tree.specs.Sides.{digit_limit, place_limit}
+use Rattle.p3_tree.specs.Refusals.Texts.{long_number}
 use Rattle.p3_tree.specs.Tokens.{Token, Open, Close, Word, Tokens, before}
 use Rattle.p3_lexer.specs.Lexing.{token_of}
-use Rattle.p3_outline.specs.Numbers.{is_no_point, begins_with_digit}
+use Rattle.p3_outline.specs.Numbers.{is_no_point}
 
 lowered_point : (byte : ℕ) → (byte == 46) ≡ (to_ascii_lowercase byte == 46)
 lowered_point byte = grind (arith, nat_tests)
@@ -91,25 +87,6 @@ parted word place is within =
     ∙ (λ i. (front word i, behind word (omega (arith, is, within)) i))
 
 -- ---- numbers too long
-
-are_by : (is_point : Bool) (byte : ℕ) (rest : Name) → is_digit byte ≡ false → are_digits (split is_point byte rest).0 ≡ false
-are_by true byte rest none = refl
-are_by false byte rest none = ap (λ b. b && list_all is_digit (at_point rest).0) none
-
-no_decimal : (word : Name) → begins_with_digit word ≡ false → is_decimal word ≡ false
-no_decimal [] none = refl
-no_decimal (byte ∷ rest) none = ap (λ b. b && option_map_or are_digits (split (byte == 46) byte rest).1 true) (are_by (byte == 46) byte rest none)
-
--- each number begins with a digit
-pub digit_first : (side : Side) (word : Name) → (begins_with_digit word && is_too_long side word) ≡ is_too_long side word
-digit_first side word = by (begins_with_digit word) refl
-  where
-    long : Bool
-    long = nat_lt (digit_limit side) (length (digits_of word)) || has_places_above (place_limit side) word
-
-    by : (b : Bool) → begins_with_digit word ≡ b → (b && is_too_long side word) ≡ is_too_long side word
-    by true is = refl
-    by false is = sym (ap (λ b. b && long) (no_decimal word is))
 
 or_more : (a b c : Option Refusal) → option_or (option_or a b) c ≡ option_or a (option_or b c)
 or_more (Some found) b c = refl

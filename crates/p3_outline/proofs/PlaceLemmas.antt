@@ -17,7 +17,7 @@ use Rattle.p3_tree.specs.Sides.{Half, InDomain, InProblem, role_of, level_limit}
 use Rattle.p3_tree.specs.Tokens.{Token, Open, Close, Word, Tokens, is_blank, is_of_word, is_comment_after, before, prefixed, with_byte, tokens_from, tokens_of}
 use Rattle.p3_tree.specs.Grammar.Words.{Place, expressions}
 use Rattle.p3_tree.specs.Grammar.Halves.{domain_place, problem_place}
-use Rattle.p3_tree.specs.Refusals.Constructs.{left_out, word_when, head_of, first_word, unless_total_cost, other_increase, not_a_number, shown_by, constructs, constructs_of, constructs_all}
+use Rattle.p3_tree.specs.Refusals.Constructs.{word_when, head_of, first_word, unless_total_cost, other_increase, not_a_number, shown_by, constructs, constructs_of, constructs_all}
 use Rattle.p3_tree.specs.Refusals.Malformed.{IsMalformedAt, IsMalformed}
 use Rattle.p3_tree.specs.Refusals.Places.{refusal_at, refusal_at_word, refusal_at_token, first_some}
 use Rattle.p3_tree.specs.Refusals.Texts.{Before, Inside, Behind, after_token, construct_in, is_too_long, long_number, refusal_of_tokens, refusal_of_bytes, text_refusal, unbalanced_end, unbalanced_from, too_deep_from}
@@ -29,7 +29,7 @@ use Rattle.p3_places.specs.Found.{side_of, half_of}
 use Rattle.p3_outline.specs.First.{IsWithin}
 use Rattle.p3_outline.proofs.SoundLemmas.{same_role}
 use Rattle.p3_base.specs.declared.refusal.Role.TheVariants as role
-use Rattle.p3_outline.specs.Constructs.{is_some_of, the_around, either_shown, increase_shown, head_shown, other_shown, number_shown, behind_shown, timed_shown, compared_shown, metric_shown, place_shown}
+use Rattle.p3_outline.specs.Constructs.{is_left_out, the_around, either_shown, increase_shown, head_shown, other_shown, number_shown, behind_shown, timed_shown, compared_shown, metric_shown, place_shown}
 use Rattle.p3_outline.proofs.ConstructLemmas.{shown_as}
 
 -- ---- lists
@@ -229,7 +229,7 @@ module _ (role : Role) (size : ℕ) where
       let around = the_around names innermost in
       subst WordsEnd (sym (shown_as names innermost head behind))
       (three_end (head_shown around head) (behind_shown head behind) (place_shown around head behind)
-      (three_end (word_when (is_some_of left_out head.name) head) (either_shown around head) (increase_shown around head) (when_ends _ head first) (when_ends _ head first) (when_ends _ head first))
+      (three_end (word_when (is_left_out head.name) head) (either_shown around head) (increase_shown around head) (when_ends _ head first) (when_ends _ head first) (when_ends _ head first))
       (all_append WordEnds (other_shown head behind) (number_shown head behind) (if_words _ (other_increase behind) (other_ends behind others)) (if_words _ (not_a_number false behind) (not_number_ends false behind others)))
       (three_end (timed_shown around head behind) (compared_shown around head behind) (metric_shown around head) (when_ends _ head first) (when_ends _ head first) (when_ends _ head first)))
 

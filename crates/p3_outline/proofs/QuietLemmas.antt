@@ -35,7 +35,7 @@ no_length (suc (suc (suc (suc (suc n))))) is = absurd (grind arith)
 dull_by : (word : Name) (len : ℕ) → length word ≡ len → is_dull_length len ≡ true → is_dull word ≡ true
 dull_by [] len has is = absurd (let none = ap is_dull_length has ∙ is in cc)
 dull_by (byte ∷ bytes) len has is =
-    ap (λ b. not (b && is_showing byte (length bytes)) || same_name (byte ∷ bytes) total_cost) (no_length (length bytes) (ap is_dull_length has ∙ is))
+    ap (λ b. not (b && is_showing byte (length bytes)) || same_name total_cost (byte ∷ bytes)) (no_length (length bytes) (ap is_dull_length has ∙ is))
 
 pub inside_dull : (text : List ℕ) (at len : ℕ) → is_dull_length len ≡ true → at + len ≤ length text → is_dull (str_to_ascii_lowercase (slice_of text at len)) ≡ true
 inside_dull text at len is inside =

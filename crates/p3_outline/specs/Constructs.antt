@@ -74,7 +74,7 @@ may_show [] = false
 may_show (byte ∷ bytes) = is_showing_length (length bytes) && is_showing byte (length bytes)
 
 abbrev pub is_dull : Name → Bool
-is_dull word = not (may_show word) || same_name word total_cost
+is_dull word = not (may_show word) || same_name total_cost word
 
 -- a word of so many bytes is dull
 abbrev pub is_dull_length : ℕ → Bool
@@ -92,10 +92,11 @@ declaring = map codes (":types" ∷ ":constants" ∷ ":objects" ∷ [])
 abbrev pub conditions : List Name
 conditions = map codes ("when" ∷ "forall" ∷ [])
 
-abbrev pub is_some_of : List Name → Name → Bool
-is_some_of names word = list_any (same_name word) names
+-- whether a list with this word at its head is left out
+unfoldable pub is_left_out : Name → Bool
+is_left_out word = has_name left_out word
 
--- how each word begins that is left out
+-- how each such word begins
 abbrev pub begins_as_left_out : Name → Bool
 begins_as_left_out [] = false
 begins_as_left_out (byte ∷ bytes) = byte == 58 || byte == 119 || byte == 97 || byte == 104 || byte == 100 || byte == 115 || byte == 47 || byte == 60 || byte == 62
@@ -113,11 +114,11 @@ the_around around innermost = record {
 -- behind a head
 abbrev pub with_head : Name → Around → Around
 with_head word around = record {
-  declares = is_some_of declaring word || around.declares;
-  conditional = is_some_of conditions word || around.conditional;
-  initial = same_name word (codes ":init") || around.initial;
-  metric = same_name word (codes ":metric") || around.metric;
-  is_right_in_init = same_name word (codes ":init");
+  declares = has_name declaring word || around.declares;
+  conditional = has_name conditions word || around.conditional;
+  initial = same_name (codes ":init") word || around.initial;
+  metric = same_name (codes ":metric") word || around.metric;
+  is_right_in_init = same_name (codes ":init") word;
 }
 
 -- in a list that begins with a list
@@ -139,7 +140,7 @@ increase_shown around head = word_when (is_word_called head (codes "increase") &
 -- by its head alone
 abbrev pub head_shown : Around → Ref → List Ref
 head_shown around head =
-    word_when (is_some_of left_out head.name) head
+    word_when (is_left_out head.name) head
     ++ either_shown around head ++ increase_shown around head
 
 abbrev pub other_shown : Ref → List Expression → List Ref

@@ -1,8 +1,7 @@
 -- A word parted at its first point.
-use Rattle.std.specs.Prelude.{List, map, nat_lt, ◌==◌, Bool, true, false, not, ◌&&◌, ℕ, [], ◌∷◌, ◌++◌, length, Option, Some, None, is_some, unwrap_or}
+use Rattle.std.specs.Prelude.{List, map, nat_lt, ◌==◌, Bool, not, ℕ, [], ◌++◌, length, Option, Some, None, is_some, unwrap_or}
 use Rattle.std.specs.Option.{option_map, option_map_or}
 use Rattle.std.specs.Str.{str_to_ascii_lowercase}
-use Rattle.p3_base.specs.Words.{is_digit}
 use Rattle.p3_base.specs.declared.refusal.Refusal.{Refusal}
 use Rattle.p3_base.specs.declared.refusal.Role.{Role}
 use Rattle.p3_tree.specs.Refusals.Places.{first_some}
@@ -10,7 +9,6 @@ use Rattle.p3_tree.specs.Refusals.Texts.{long_number}
 use Rattle.p3_tree.specs.Tokens.{tokens_of}
 use Rattle.p3_places.specs.Found.{side_of}
 use Rattle.p3_tree.specs.Names.{Name}
-use Rattle.p3_tree.specs.Decimals.{are_digits}
 use Rattle.p3_outline.specs.declared.numbers.AtPoint.{AtPoint}
 
 abbrev pub is_no_point : ℕ → Bool
@@ -20,20 +18,12 @@ is_no_point byte = not (byte == 46)
 abbrev pub the_parts : AtPoint → Name × Option Name
 the_parts parts = (str_to_ascii_lowercase parts.front.now, option_map (λ bytes. str_to_ascii_lowercase bytes.now) parts.behind)
 
-abbrev pub are_decimal : Name × Option Name → Bool
-are_decimal parts = are_digits parts.0 && option_map_or are_digits parts.1 true
-
 abbrev pub digit_count : Name × Option Name → ℕ
 digit_count parts = length (parts.0 ++ unwrap_or parts.1 [])
 
 abbrev pub has_places_above : Option ℕ → Option Name → Bool
 has_places_above None behind = is_some behind
 has_places_above (Some limit) behind = nat_lt limit (option_map_or length behind 0)
-
--- a digit comes first, as in each number
-abbrev pub begins_with_digit : Name → Bool
-begins_with_digit [] = false
-begins_with_digit (byte ∷ bytes) = is_digit byte
 
 -- the first number of a text that is too long
 abbrev pub number_refusal : Role → List ℕ → Option Refusal

@@ -4,17 +4,16 @@ ghost use Rattle.std.specs.Prelude.{◌≡◌, ◌<◌, ◌^◌, ◌&&◌, lengt
 ghost use Rattle.std.specs.List.{list_all, list_any};
 ghost use Rattle.std.specs.Option.{option_map};
 ghost use Rattle.std.specs.Str.{str_to_ascii_lowercase};
-ghost use Rattle.p3_base.specs.Words.{is_name};
-ghost use Rattle.p3_tree.specs.Names.{same_name};
+ghost use Rattle.p3_tree.specs.Names.{has_name};
 ghost use Rattle.p3_tree.specs.Grammar.Words.{word_place};
-ghost use Rattle.p3_tree.specs.Refusals.Constructs.{left_out, word_when, head_of, is_number_or_list, second_is_number, other_increase, not_a_number, constructs};
+ghost use Rattle.p3_tree.specs.Refusals.Constructs.{left_out, is_word_called, word_when, head_of, is_number_or_list, second_is_number, other_increase, not_a_number, constructs};
 ghost use Rattle.p3_tree.specs.Refusals.Texts.{construct_in};
 ghost use Rattle.p3_outline.specs.Nodes.{slice_of, expression_of, expressions_of, elements};
-ghost use Rattle.p3_outline.specs.Constructs.{the_word, least_with, declaring, conditions, is_some_of, begins_as_left_out, is_telling_byte, is_telling_length, may_tell, is_plain, is_showing_length, is_showing, may_show, is_dull, is_dull_length, is_dull_node, the_around, with_head, with_no_head, IsQuiet, FindsShown, FindsBelow, FindsIn, head_shown, behind_shown, place_shown};
+ghost use Rattle.p3_outline.specs.Constructs.{the_word, least_with, declaring, conditions, is_left_out, begins_as_left_out, is_telling_byte, is_telling_length, may_tell, is_plain, is_showing_length, is_showing, may_show, is_dull, is_dull_length, is_dull_node, the_around, with_head, with_no_head, IsQuiet, FindsShown, FindsBelow, FindsIn, head_shown, behind_shown, place_shown};
 
-use crate::numbers::is_decimal;
 use crate::view::{Node, Parts, View, slice_of};
 use p3_base::{Code, Pos, Refusal, Role};
+use p3_lexer::{is, is_decimal, is_name};
 
 /// How many nodes a list may have that is looked at in one pass of them, so that no node is looked at
 /// more often.
@@ -52,21 +51,12 @@ struct Around {
 // ---- words
 
 /// Whether a word is the text, which has no capital letter.
-#[tactic(auto, using(crate::proofs::ConstructLemmas::same_lowered))]
-fn is(word: &[u8], text: &[u8]) -> bool
+#[tactic(auto, using(p3_lexer::proofs::ClassLemmas::same_name_sym))]
+fn is_called(word: TextWord<'_>, text: &[u8]) -> bool
     requires { str_to_ascii_lowercase text.now ≡ text.now }
-    ensures { result ≡ same_name (str_to_ascii_lowercase word.now) text.now }
+    ensures { result ≡ is_word_called (the_word word.entry) text.now }
 {
-    word.eq_ignore_ascii_case(text)
-}
-
-fn is_name(word: &[u8]) -> bool
-    ensures { result ≡ is_name (str_to_ascii_lowercase word.now) }
-{
-    match word {
-        [] => false,
-        [first, ..] => first.to_ascii_lowercase() >= b'a' && first.to_ascii_lowercase() <= b'z',
-    }
+    is(word.text, text)
 }
 
 fn begins_as_left_out(word: &[u8]) -> bool
@@ -84,13 +74,13 @@ fn begins_as_left_out(word: &[u8]) -> bool
 /// Whether a word is left out. The first byte tells of many words that they are not.
 #[tactic(auto, using(crate::proofs::ConstructLemmas::left_out_first))]
 fn is_left_out(word: &[u8]) -> bool
-    ensures { result ≡ is_some_of left_out (str_to_ascii_lowercase word.now) }
+    ensures { result ≡ is_left_out (str_to_ascii_lowercase word.now) }
 {
     begins_as_left_out(word) && is_listed_as_left_out(word)
 }
 
 fn is_listed_as_left_out(word: &[u8]) -> bool
-    ensures { result ≡ is_some_of left_out (str_to_ascii_lowercase word.now) }
+    ensures { result ≡ has_name left_out (str_to_ascii_lowercase word.now) }
 {
     is(word, b":durative-action")
         || is(word, b":derived")
@@ -112,13 +102,13 @@ fn is_listed_as_left_out(word: &[u8]) -> bool
 }
 
 fn is_declaring(word: &[u8]) -> bool
-    ensures { result ≡ is_some_of declaring (str_to_ascii_lowercase word.now) }
+    ensures { result ≡ has_name declaring (str_to_ascii_lowercase word.now) }
 {
     is(word, b":types") || is(word, b":constants") || is(word, b":objects")
 }
 
 fn is_condition(word: &[u8]) -> bool
-    ensures { result ≡ is_some_of conditions (str_to_ascii_lowercase word.now) }
+    ensures { result ≡ has_name conditions (str_to_ascii_lowercase word.now) }
 {
     is(word, b"when") || is(word, b"forall")
 }
@@ -191,10 +181,13 @@ fn head_shown(around: Around, head: TextWord<'_>, least: Option<Found>) -> Optio
     requires short { length head.text.now < 2 ^ 32 }
     ensures { result ≡ least_with least (head_shown around (the_word head.entry)) }
 {
-    let text = head.text;
-    let least = least_if(is_left_out(text), least, head);
-    let least = least_if(around.declares && is(text, b"either"), least, head);
-    least_if(around.conditional && is(text, b"increase"), least, head)
+    let least = least_if(is_left_out(head.text), least, head);
+    let least = least_if(around.declares && is_called(head, b"either"), least, head);
+    least_if(
+        around.conditional && is_called(head, b"increase"),
+        least,
+        head,
+    )
 }
 
 /// An increase of something else than the total cost.
@@ -211,7 +204,7 @@ fn other_increase(is_increase: bool, behind: Parts<'_, '_>, least: Option<Found>
         return least;
     };
     match head_of(second) {
-        Some(word) => least_if(!is(word.text, b"total-cost"), least, word),
+        Some(word) => least_if(!is_called(word, b"total-cost"), least, word),
         None => least,
     }
 }
@@ -226,8 +219,8 @@ fn not_a_number(behind: Parts<'_, '_>, least: Option<Found>) -> Option<Found>
     while let Some(part) = left.next() {
         match word_of(part) {
             Some(word) => {
-                least = least_if(is_behind && !is(word.text, b"number"), least, word);
-                is_behind = is(word.text, b"-");
+                least = least_if(is_behind && !is_called(word, b"number"), least, word);
+                is_behind = is_called(word, b"-");
             }
             None => is_behind = false,
         }
@@ -252,8 +245,8 @@ fn behind_shown(head: TextWord<'_>, behind: Parts<'_, '_>, least: Option<Found>)
     ensures { result
         ≡ least_with least (behind_shown (the_word head.entry) (expressions_of behind.entry)) }
 {
-    let least = other_increase(is(head.text, b"increase"), behind, least);
-    number_shown(is(head.text, b":functions"), behind, least)
+    let least = other_increase(is_called(head, b"increase"), behind, least);
+    number_shown(is_called(head, b":functions"), behind, least)
 }
 
 fn is_number_or_list(view: View<'_, '_>) -> bool
@@ -303,13 +296,12 @@ fn place_shown(
         ≡ least_with least
         (place_shown around (the_word head.entry) (expressions_of behind.entry)) }
 {
-    let text = head.text;
-    let is_timed = around.is_right_in_init && is(text, b"at") && second_is_number(behind);
-    let is_compared = is(text, b"=") && !around.initial && has_number_or_list(behind);
+    let is_timed = around.is_right_in_init && is_called(head, b"at") && second_is_number(behind);
+    let is_compared = is_called(head, b"=") && !around.initial && has_number_or_list(behind);
     let is_other = around.metric
-        && is_name(text)
-        && !is(text, b"is-violated")
-        && !is(text, b"total-cost");
+        && is_name(head.text)
+        && !is_called(head, b"is-violated")
+        && !is_called(head, b"total-cost");
     let least = least_if(is_timed, least, head);
     let least = least_if(is_compared, least, head);
     least_if(is_other, least, head)
@@ -477,7 +469,7 @@ fn below(around: Around, parts: Parts<'_, '_>, least: Option<Found>) -> Option<F
                 return all_in(with_no_head(around), behind, least);
             }
             let least = shown(around, head, behind, least);
-            let least = least_if(is(head.text, b"total-time"), least, head);
+            let least = least_if(is_called(head, b"total-time"), least, head);
             all_in(with_head(around, head.text), behind, least)
         }
         None => all_in(with_no_head(around), parts, least),
@@ -493,7 +485,7 @@ fn all_in(around: Around, parts: Parts<'_, '_>, least: Option<Found>) -> Option<
     let mut least = least;
     while let Some(part) = left.next() {
         match word_of(part) {
-            Some(word) => least = least_if(is(word.text, b"total-time"), least, word),
+            Some(word) => least = least_if(is_called(word, b"total-time"), least, word),
             None => {
                 if !is_quiet(around, part) {
                     least = below(around, part.parts(), least);
@@ -520,7 +512,7 @@ fn whole(root: View<'_, '_>) -> Option<Found>
     ensures { result ≡ least_with None (constructs [] None (expression_of root.entry)) }
 {
     match word_of(root) {
-        Some(word) => least_if(is(word.text, b"total-time"), None, word),
+        Some(word) => least_if(is_called(word, b"total-time"), None, word),
         None => below(nothing_around(), root.parts(), None),
     }
 }

@@ -1,23 +1,21 @@
 //! Numbers with too many digits.
 
 ghost use Rattle.std.specs.Prelude.{◌≡◌, ◌≤◌, length};
-ghost use Rattle.std.specs.Char.{to_ascii_lowercase};
-ghost use Rattle.std.specs.List.{list_all, prefix_len};
+ghost use Rattle.std.specs.List.{prefix_len};
 ghost use Rattle.std.specs.Option.{option_or};
 ghost use Rattle.std.specs.Str.{str_to_ascii_lowercase};
-ghost use Rattle.p3_base.specs.Words.{is_digit};
 ghost use Rattle.p3_base.specs.declared.refusal.Code.TheVariants.{NumberTooLong};
 ghost use Rattle.p3_base.specs.declared.refusal.Side.TheVariants.{Written};
-ghost use Rattle.p3_tree.specs.Decimals.{are_digits, at_point, is_decimal};
+ghost use Rattle.p3_tree.specs.Decimals.{at_point};
 ghost use Rattle.p3_tree.specs.Refusals.Places.{refusal_at};
 ghost use Rattle.p3_tree.specs.Refusals.Texts.{is_too_long, long_number};
 ghost use Rattle.p3_tree.specs.Sides.{digit_limit, place_limit, byte_limit};
 ghost use Rattle.p3_lexer.specs.Lexing.{token_of};
 ghost use Rattle.p3_places.specs.Found.{side_of};
-ghost use Rattle.p3_outline.specs.Numbers.{is_no_point, the_parts, are_decimal, digit_count, has_places_above, begins_with_digit};
+ghost use Rattle.p3_outline.specs.Numbers.{is_no_point, the_parts, digit_count, has_places_above};
 
 use p3_base::{Code, Pos, Refusal, Role};
-use p3_lexer::{is_close, is_open};
+use p3_lexer::{is_close, is_decimal, is_open};
 
 /// How many digits a number may have; its point counts as none.
 fn digit_limit(role: Role) -> usize
@@ -36,33 +34,6 @@ fn place_limit(role: Role) -> Option<usize>
     match role {
         Role::Domain | Role::Problem | Role::Plan => Some(6),
         Role::WrittenDomain | Role::WrittenProblem => None,
-    }
-}
-
-fn is_digit_byte(byte: &u8) -> bool
-    ensures { result ≡ is_digit (to_ascii_lowercase byte.now) }
-{
-    let byte = byte.to_ascii_lowercase();
-    byte >= b'0' && byte <= b'9'
-}
-
-fn are_all_digits(bytes: &[u8]) -> bool
-    ensures { result ≡ list_all is_digit (str_to_ascii_lowercase bytes.now) }
-{
-    for byte in bytes {
-        if !is_digit_byte(byte) {
-            return false;
-        }
-    }
-    true
-}
-
-fn are_digits(bytes: &[u8]) -> bool
-    ensures { result ≡ are_digits (str_to_ascii_lowercase bytes.now) }
-{
-    match bytes {
-        [] => false,
-        [_, ..] => are_all_digits(bytes),
     }
 }
 
@@ -111,16 +82,6 @@ fn at_point(word: &[u8]) -> AtPoint<'_>
     }
 }
 
-/// Whether digits stand before the point, and behind it where there is one.
-fn are_decimal(parts: AtPoint<'_>) -> bool
-    ensures { result ≡ are_decimal (the_parts parts.entry) }
-{
-    match parts.behind {
-        Some(behind) => are_digits(parts.front) && are_digits(behind),
-        None => are_digits(parts.front),
-    }
-}
-
 /// How many bytes stand before the point and behind it.
 fn digit_count(parts: AtPoint<'_>) -> usize
     requires { digit_count (the_parts parts) ≤ usize.MAX }
@@ -143,37 +104,15 @@ fn has_places_above(limit: Option<usize>, parts: AtPoint<'_>) -> bool
     }
 }
 
-/// Whether a word is digits, or digits with one point that is neither first nor last.
-pub(crate) fn is_decimal(word: &[u8]) -> bool
-    ensures { result ≡ is_decimal (str_to_ascii_lowercase word.now) }
-{
-    are_decimal(at_point(word))
-}
-
-fn begins_with_digit(word: &[u8]) -> bool
-    ensures { result ≡ begins_with_digit (str_to_ascii_lowercase word.now) }
-{
-    match word {
-        [] => false,
-        [first, ..] => is_digit_byte(first),
-    }
-}
-
 /// Whether a word is a number with more digits than it may have, or a point where none may stand.
-/// The first byte tells of most words that they are no number.
-#[tactic(auto, using(crate::proofs::NumberLemmas::digit_first))]
 fn is_too_long(role: Role, word: &[u8]) -> bool
     ensures { result ≡ is_too_long (side_of role) (str_to_ascii_lowercase word.now) }
 {
-    begins_with_digit(word) && has_too_many_digits(role, word)
-}
-
-fn has_too_many_digits(role: Role, word: &[u8]) -> bool
-    ensures { result ≡ is_too_long (side_of role) (str_to_ascii_lowercase word.now) }
-{
+    if !is_decimal(word) {
+        return false;
+    }
     let parts = at_point(word);
-    are_decimal(parts)
-        && (digit_count(parts) > digit_limit(role) || has_places_above(place_limit(role), parts))
+    digit_count(parts) > digit_limit(role) || has_places_above(place_limit(role), parts)
 }
 
 /// The refusal of a token that is too long a number.

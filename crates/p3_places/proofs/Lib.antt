@@ -19,7 +19,5 @@ pub mod DomainLemmas
 pub mod DomainAgrees
 pub mod Complete
 pub mod Faults
-pub mod WordLemmas
-pub mod DecimalWords
 pub mod StackLemmas
 pub mod WalkLemmas

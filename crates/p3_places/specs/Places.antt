@@ -1,10 +1,8 @@
 -- The table of places.
 use Rattle.std.specs.Prelude.{Bool, true, false, ◌&&◌, ◌||◌, if◌then◌else◌, List, [], ◌∷◌, codes, Option, Some, None}
-use Rattle.std.specs.List.{list_all}
-use Rattle.std.specs.Option.{option_map_or}
-use Rattle.p3_base.specs.Words.{is_digit, is_letter, is_name, is_variable, is_function_name, is_predicate_name}
+use Rattle.p3_base.specs.Words.{is_name, is_variable, is_function_name, is_predicate_name}
 use Rattle.p3_tree.specs.Names.{Name, same_name, total_cost}
-use Rattle.p3_tree.specs.Decimals.{at_point, are_digits, is_decimal}
+use Rattle.p3_tree.specs.Decimals.{is_decimal}
 use Rattle.p3_tree.specs.Grammar.Words.{◌>>=◌, choose}
 use Rattle.p3_tree.specs.Grammar.Halves.{begins_with_colon}
 use Rattle.p3_places.specs.Machine.{Table}
@@ -31,15 +29,6 @@ use Rattle.p3_places.specs.declared.state.State.{State}
 use Rattle.p3_places.specs.declared.state.State.TheVariants as state
 
 -- ---- words
-
--- what stands behind the first digit of a number
-abbrev pub goes_on_as_decimal : Name → Bool
-goes_on_as_decimal word = list_all is_digit (at_point word).0 && option_map_or are_digits (at_point word).1 true
-
--- two letters come first, as in each reserved word
-abbrev pub begins_with_letters : Name → Bool
-begins_with_letters (first ∷ second ∷ bytes) = is_letter first && is_letter second
-begins_with_letters _ = false
 
 abbrev pub is_word_of : Class → Name → Bool
 is_word_of class.Name text = is_name text

@@ -5,7 +5,7 @@ ghost use Rattle.std.specs.Str.{str_to_ascii_lowercase};
 ghost use Rattle.p3_places.specs.Places.{no_domain_section, with_domain_section, domain_rest, domain_once, domain_word};
 
 use crate::state::{Class, DomainKeyword, DomainSeen, Items, Place, Progress, Rest, Slot, State};
-use crate::word::is;
+use p3_lexer::is;
 
 pub(crate) fn no_domain_section() -> DomainSeen
     ensures { result ≡ no_domain_section }

@@ -7,7 +7,7 @@ ghost use Rattle.p3_places.specs.Walks.{only_if};
 
 use crate::rests::pass_word;
 use crate::state::{Class, Items, Place, Progress, Rest, Slot, State};
-use crate::word::{is, is_function_word, is_predicate_word};
+use p3_lexer::{is, is_function_name, is_predicate_name};
 
 fn terms() -> Rest
     ensures { result ≡ terms }
@@ -69,7 +69,7 @@ pub(crate) fn formula_head(word: &[u8]) -> Option<Rest>
     } else if is(word, b"=") {
         Some(Rest::Two(Slot::Word(Class::Term), Slot::Word(Class::Term)))
     } else {
-        rest_if(is_predicate_word(word), terms())
+        rest_if(is_predicate_name(word), terms())
     }
 }
 
@@ -165,7 +165,7 @@ fn init_head(word: &[u8]) -> Option<Rest>
     } else if is(word, b"=") {
         Some(Rest::Two(Slot::List(Place::InitFunction), Slot::Word(Class::Number)))
     } else {
-        rest_if(is_predicate_word(word), names())
+        rest_if(is_predicate_name(word), names())
     }
 }
 
@@ -201,7 +201,7 @@ fn effect_head(free: bool, word: &[u8]) -> Option<Rest>
     } else if is(word, b"increase") {
         increase_rest(free)
     } else {
-        rest_if(is_predicate_word(word), terms())
+        rest_if(is_predicate_name(word), terms())
     }
 }
 
@@ -263,13 +263,13 @@ pub(crate) fn begin(state: &mut State, place: Place, word: &[u8]) -> bool
         Place::Inner => begin_with(state, inner_head(word)),
         Place::Num => begin_with(state, num_head(word)),
         Place::Init => begin_with(state, init_head(word)),
-        Place::InitAtom => begin_with(state, rest_if(is_predicate_word(word), names())),
-        Place::InitFunction => begin_with(state, rest_if(is_function_word(word), names())),
-        Place::Atom => begin_with(state, rest_if(is_predicate_word(word), terms())),
+        Place::InitAtom => begin_with(state, rest_if(is_predicate_name(word), names())),
+        Place::InitFunction => begin_with(state, rest_if(is_function_name(word), names())),
+        Place::Atom => begin_with(state, rest_if(is_predicate_name(word), terms())),
         Place::Effect(free) => begin_with(state, effect_head(free, word)),
         Place::EffectOrEmpty => begin_with(state, effect_head(true, word)),
         Place::TotalCost => begin_with(state, rest_if(is(word, b"total-cost"), Rest::Nothing)),
-        Place::PredicateHeader => begin_with(state, rest_if(is_predicate_word(word), variables())),
-        Place::FunctionHeader => begin_with(state, rest_if(is_function_word(word), variables())),
+        Place::PredicateHeader => begin_with(state, rest_if(is_predicate_name(word), variables())),
+        Place::FunctionHeader => begin_with(state, rest_if(is_function_name(word), variables())),
     }
 }

@@ -9,6 +9,5 @@ mod sections;
 mod state;
 mod step;
 mod walk;
-mod word;
 
 pub use walk::FaultSearch;

@@ -2,11 +2,28 @@
 
 ghost use Rattle.std.specs.Prelude.{◌≡◌};
 ghost use Rattle.std.specs.Str.{str_to_ascii_lowercase};
-ghost use Rattle.p3_places.specs.Places.{takes_word, takes, list_of, item_slot, type_slot, next_slot, behind, behind_item, may_end, ordinary, rest_word, rest_list};
+ghost use Rattle.p3_places.specs.Places.{is_word_of, takes_word, takes, list_of, item_slot, type_slot, next_slot, behind, behind_item, may_end, ordinary, rest_word, rest_list};
 ghost use Rattle.p3_places.specs.Walks.{only_if};
 
 use crate::state::{Class, Items, Place, Progress, Rest, Slot};
-use crate::word::{is, is_name_word, is_word_of};
+use p3_lexer::{begins_with_colon, is, is_decimal, is_name, is_variable};
+
+/// Whether a word is of the class.
+fn is_word_of(class: Class, word: &[u8]) -> bool
+    ensures { result ≡ is_word_of class (str_to_ascii_lowercase word.now) }
+{
+    match class {
+        Class::Name => is_name(word),
+        Class::Variable => is_variable(word),
+        Class::Term => is_name(word) || is_variable(word),
+        Class::Number => is_decimal(word),
+        Class::Keyword => begins_with_colon(word),
+        Class::Direction => is(word, b"minimize") || is(word, b"maximize"),
+        Class::End => is(word, b"end"),
+        Class::Numeric => is_decimal(word) || is(word, b"total-cost"),
+        Class::NumberType => is(word, b"number"),
+    }
+}
 
 fn takes_word(slot: &Slot, word: &[u8]) -> bool
     ensures { result ≡ takes_word slot.now (str_to_ascii_lowercase word.now) }
@@ -121,7 +138,7 @@ pub(crate) fn pass_word(rest: &mut Rest, word: &[u8]) -> bool
         Rest::Named(place) => {
             let place = *place;
             *rest = Rest::One(Slot::List(place));
-            is_name_word(word)
+            is_name(word)
         }
         Rest::Typed(items, Progress::Waiting) if is(word, b"-") => {
             *rest = Rest::Typed(*items, Progress::Type);

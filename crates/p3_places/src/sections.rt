@@ -5,7 +5,7 @@ ghost use Rattle.std.specs.Str.{str_to_ascii_lowercase};
 ghost use Rattle.p3_places.specs.Places.{has_all, has_needed, no_section, with_section, once, section_word};
 
 use crate::state::{Class, Items, Keyword, Place, Progress, Rest, Seen, Slot, State};
-use crate::word::is;
+use p3_lexer::is;
 
 pub(crate) fn has_all(seen: Seen) -> bool
     ensures { result ≡ has_all seen }

@@ -11,7 +11,7 @@ use crate::rests;
 use crate::rests::{may_end, pass_one, rest_list};
 use crate::sections::{has_all, has_needed, no_section, section_word, with_section};
 use crate::state::{DomainSeen, PartsSeen, Place, Seen, State};
-use crate::word::{is, is_name_word};
+use p3_lexer::{is, is_name};
 
 fn may_be_empty(place: Place) -> bool
     ensures { result ≡ may_be_empty place }
@@ -36,7 +36,7 @@ fn no_part() -> PartsSeen
 fn action_name(word: &[u8]) -> Option<State>
     ensures { result ≡ action_name (str_to_ascii_lowercase word.now) }
 {
-    if is_name_word(word) {
+    if is_name(word) {
         Some(State::Parts(no_part()))
     } else {
         None

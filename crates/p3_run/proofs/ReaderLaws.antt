@@ -12,7 +12,7 @@ use mathlib.Core.Logic.{inl, inr, ⊎_elim}
 use Rattle.p3_formula.specs.Conditions.{HasAtomsBelow}
 use Rattle.p3_formula.specs.Modals.{is_modal_below, IsModalBelow}
 use Rattle.p3_formula.specs.declared.form.Form.TheVariants.{True}
-use Rattle.p3_formula.specs.declared.modal.GroundModal.TheVariants.{AtEnd}
+use Rattle.p3_base.specs.declared.operator.Operator.TheVariants.{AtEnd}
 use Rattle.p3_formula.specs.declared.modal.GroundSoft.{GroundSoft}
 use Rattle.p3_formula.specs.declared.task.GroundTask.{GroundTask}
 use Rattle.p3_formula.proofs.ReadAtoms.{read_below, same_number}

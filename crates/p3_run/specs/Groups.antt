@@ -8,8 +8,8 @@ use Rattle.p3_formula.specs.GroundPlans.{is_numbered}
 use Rattle.p3_formula.specs.Modals.{is_modal_below}
 use Rattle.p3_formula.specs.Weighted.{HasNameBelow, named_weight}
 use Rattle.p3_formula.specs.declared.form.Form.TheVariants.{True}
-use Rattle.p3_formula.specs.declared.modal.GroundModal.{GroundModal}
-use Rattle.p3_formula.specs.declared.modal.GroundModal.TheVariants.{AtEnd}
+use Rattle.p3_formula.specs.GroundModal.{GroundModal}
+use Rattle.p3_base.specs.declared.operator.Operator.TheVariants.{AtEnd}
 use Rattle.p3_formula.specs.declared.modal.GroundSoft.{GroundSoft}
 use Rattle.p3_formula.specs.declared.task.GroundTask.{GroundTask}
 use Rattle.p3_run.specs.Stages.{stage_of, next_stage, accepting}

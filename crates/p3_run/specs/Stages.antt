@@ -4,8 +4,8 @@ use Rattle.p3_base.specs.Trajectories.{some}
 use Rattle.p3_formula.specs.Forms.{State, truth}
 use Rattle.p3_formula.specs.GroundPlans.{last_of}
 use Rattle.p3_formula.specs.GroundSat.{holds_at, ground_sat}
-use Rattle.p3_formula.specs.declared.modal.GroundModal.{GroundModal}
-use Rattle.p3_formula.specs.declared.modal.GroundModal.TheVariants.{AtEnd, Always, Sometime, AtMostOnce, SometimeAfter, SometimeBefore}
+use Rattle.p3_formula.specs.GroundModal.{GroundModal}
+use Rattle.p3_base.specs.declared.operator.Operator.TheVariants.{AtEnd, Always, Sometime, AtMostOnce, SometimeAfter, SometimeBefore}
 use Rattle.p3_run.specs.declared.stages.Stage.{Stage}
 
 -- ---- what a stage says

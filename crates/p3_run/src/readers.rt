@@ -9,7 +9,7 @@ ghost use Rattle.p3_run.specs.Readers.{ends, with_reader, filed, filed_all, AreF
 ghost use Rattle.std.specs.List.{flat_map};
 
 use crate::modals::{group_count, modals_at};
-use p3_base::{List, NoMemory};
+use p3_base::{List, NoMemory, Operands};
 use p3_formula::{Form, GroundModal, GroundTask};
 use std::alloc::Global;
 
@@ -86,6 +86,7 @@ fn push_forms(
 }
 
 /// The operator reads the atoms of its formulas.
+#[tactic(auto, using(p3_base::proofs::OperatorLaws::formulas_unary, p3_base::proofs::OperatorLaws::formulas_binary))]
 fn push_modal(
     readers: &mut Vec<List<Reader>>,
     modal: &GroundModal,
@@ -94,11 +95,12 @@ fn push_modal(
     ensures { OnOk result
         (readers.new.items ≡ filed_all reader readers.old.items (modal_atoms modal.now)) }
 {
-    let forms = modal.forms();
-    push_form(readers, forms.first, reader)?;
-    match forms.second {
-        Some(form) => push_form(readers, form, reader),
-        None => Ok(()),
+    match modal.operands() {
+        Operands::One(_, form) => push_form(readers, form, reader),
+        Operands::Two(_, first, second) => {
+            push_form(readers, first, reader)?;
+            push_form(readers, second, reader)
+        }
     }
 }
 

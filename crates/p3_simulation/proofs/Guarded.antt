@@ -13,7 +13,7 @@ use Rattle.p3_formula.specs.Next.{after}
 use Rattle.p3_formula.specs.declared.form.Change.{Change}
 use Rattle.p3_formula.specs.declared.form.Form.{Form}
 use Rattle.p3_formula.specs.declared.form.Form.TheVariants.{True}
-use Rattle.p3_formula.specs.declared.modal.GroundModal.{GroundModal}
+use Rattle.p3_formula.specs.GroundModal.{GroundModal}
 use Rattle.p3_formula.specs.declared.task.GroundStep.{GroundStep}
 use Rattle.p3_formula.proofs.FormLemmas.{truth-True}
 use Rattle.p3_formula.proofs.LastingLaws.{satisfied_before}

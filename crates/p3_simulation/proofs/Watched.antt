@@ -11,7 +11,7 @@ use Rattle.p3_formula.specs.Kept.{AreAt, Carries, Kept, atom_count, is_own}
 use Rattle.p3_formula.specs.Modals.{is_modal_below}
 use Rattle.p3_formula.specs.Targets.{is_sized_change}
 use Rattle.p3_formula.specs.declared.form.Change.{Change}
-use Rattle.p3_formula.specs.declared.modal.GroundModal.{GroundModal}
+use Rattle.p3_formula.specs.GroundModal.{GroundModal}
 use Rattle.p3_formula.proofs.ReadAtoms.{read_below}
 use Rattle.p3_monitors.specs.KeepsOn.{HasNone}
 use Rattle.p3_monitors.specs.Riders.{AreKept, AreRiders}

@@ -12,7 +12,7 @@ use Rattle.p3_formula.specs.Constructors.{sets}
 use Rattle.p3_formula.specs.declared.task.GroundStep.{GroundStep}
 use Rattle.p3_formula.specs.Tidy.{look}
 use Rattle.p3_formula.specs.declared.form.Form.TheVariants.{True, Atom}
-use Rattle.p3_formula.specs.declared.modal.GroundModal.TheVariants.{AtEnd}
+use Rattle.p3_base.specs.declared.operator.Operator.TheVariants.{AtEnd}
 use Rattle.p3_formula.proofs.Worked.{task, weights, target, step, finish, collect, forgo, computes}
 use Rattle.p3_endphase.specs.Ends.{IsMove}
 use Rattle.p3_endphase.specs.declared.phase.SoftEnd.{SoftEnd}

@@ -1,6 +1,7 @@
 -- An action by its parts.
-use Rattle.std.proofs.Common.{◌≡◌, refl, List, ◌∷◌, Option, Some, None}
-use Rattle.p3_tree.specs.Grammar.Words.{◌>>=◌, name_place}
+use Rattle.std.proofs.Common.{◌≡◌, ◌∙◌, refl, subst, List, [], ◌∷◌, Option, Some, None}
+use Rattle.std.specs.Prelude.{IsSome}
+use Rattle.p3_tree.specs.Grammar.Words.{◌>>=◌, headed, is_name, name_place}
 use Rattle.p3_tree.specs.Grammar.Halves.{Section, sections_among, action_keywords, keyword_parts, action_in}
 use Rattle.p3_tree.specs.declared.expression.Expression.{Expression}
 use Rattle.p3_tree.specs.declared.term.Ref.{Ref}
@@ -10,6 +11,8 @@ use Rattle.p3_tree.specs.declared.task.Action.{Action}
 use Rattle.p3_tree.specs.declared.goal.PreGoal.{PreGoal}
 use Rattle.p3_tree.specs.declared.effect.Effect.{Effect}
 use Rattle.p3_syntax.specs.declared.tree.actions.ActionBody.{ActionBody}
+use Rattle.p3_syntax.proofs.HeadLemmas.{tested_known}
+use Rattle.p3_syntax.proofs.SectionLemmas.{among_known}
 use Rattle.p3_syntax.specs.Actions.{action_parts_in, parameters_among, precondition_among, effect_among, body_among, action_of}
 
 abbrev body_of : List Typed → Part PreGoal → Part Effect → ActionBody
@@ -26,7 +29,7 @@ body_first name (Some params) (Some pre) None = refl
 body_first name (Some params) (Some pre) (Some change) = refl
 
 -- what is made of the parts of an action with a name
-abbrev from_parts : Ref → List Section → Option Action
+abbrev pub from_parts : Ref → List Section → Option Action
 from_parts name parts = body_among name.at parts >>= λ body. Some (action_of name body)
 
 module _ (name : Ref) where
@@ -43,7 +46,7 @@ module _ (name : Ref) where
   by_list None = refl
   by_list (Some list) = by_parts (sections_among action_keywords list)
 
-pub action_by_body : (first : Expression) (behind : List Expression)
+action_by_body : (first : Expression) (behind : List Expression)
     → action_in (first ∷ behind) ≡ name_place first >>= λ name. action_parts_in behind >>= λ parts. body_among name.at parts >>= λ body. Some (action_of name body)
 action_by_body first behind = by (name_place first)
   where
@@ -53,3 +56,18 @@ action_by_body first behind = by (name_place first)
         ≡ name >>= λ name. action_parts_in behind >>= from_parts name
     by None = refl
     by (Some name) = by_list name (keyword_parts behind)
+
+-- behind its name, whatever that and the keywords are
+pub action_known : (es : List Expression) → IsSome (action_in es) → action_in es ≡ headed (λ (e : Expression). e) es >>= λ list. keyword_parts list.1 >>= from_parts list.0
+action_known [] has = refl
+action_known (first ∷ behind) has =
+    let named = subst IsSome (action_by_body first behind) has in
+    let known = tested_known is_name made (first ∷ behind) named in
+    action_by_body first behind ∙ known ∙ by (headed (λ (e : Expression). e) (first ∷ behind)) (subst IsSome known named)
+  where
+    made : Ref → List Expression → Option Action
+    made name behind = action_parts_in behind >>= from_parts name
+
+    by : (list : Option (Ref × List Expression)) → IsSome (list >>= λ list. made list.0 list.1) → (list >>= λ list. made list.0 list.1) ≡ list >>= λ list. keyword_parts list.1 >>= from_parts list.0
+    by None has = refl
+    by (Some list) has = among_known action_keywords (keyword_parts list.1) (from_parts list.0) has

@@ -1,5 +1,6 @@
 -- Types and functions of a domain, item by item.
-use Rattle.std.proofs.Common.{◌≡◌, ◌∙◌, refl, ap, List, codes, Option, Some, None}
+use Rattle.std.proofs.Common.{◌≡◌, ◌∙◌, refl, ap, subst, List, codes, Option, Some, None}
+use Rattle.std.specs.Prelude.{IsSome}
 use Rattle.p3_tree.specs.Grammar.Words.{◌>>=◌, name_place, function_place, is_word}
 use Rattle.p3_tree.specs.Grammar.Halves.{Section, header_place, kind_item, half_at, domain_keywords, domain_place}
 use Rattle.p3_tree.specs.Grammar.Halves as halves
@@ -14,7 +15,9 @@ use Rattle.p3_tree.specs.declared.task.Action.{Action}
 use Rattle.p3_tree.specs.declared.task.Domain.{Domain}
 use Rattle.p3_syntax.specs.declared.tree.domains.Declarations.{Declarations}
 use Rattle.p3_syntax.specs.declared.tree.domains.DomainContents.{DomainContents}
-use Rattle.p3_syntax.specs.Sections.{requirements_among, constraints_among}
+use Rattle.p3_syntax.proofs.HeadLemmas.{some_first}
+use Rattle.p3_syntax.proofs.SectionLemmas.{half_known}
+use Rattle.p3_syntax.specs.Sections.{half_place, requirements_among, constraints_among}
 use Rattle.p3_syntax.specs.Groups.{all_grouped, each_item}
 use Rattle.p3_syntax.specs.Domains.{kind_at, function_at, kinds_of, functions_of, header_of, kinds_among, constants_among, predicates_among, functions_among, actions_among, declarations_among, contents_among, domain_of}
 use Rattle.p3_syntax.proofs.GroupLemmas.{grouped_each}
@@ -60,7 +63,7 @@ rest_of name sections declarations = do
   actions ← actions_among sections
   Some (domain_of name (contents_of declarations constraints actions))
 
-abbrev domain_in : halves.NamedSections → Option Domain
+abbrev pub domain_in : halves.NamedSections → Option Domain
 domain_in half = contents_among half.sections >>= λ contents. Some (domain_of half.name contents)
 
 by_sections : (name : Ref) (sections : List Section)
@@ -72,7 +75,7 @@ by_sections name sections =
     (declared_first declarations_of (rest_of name sections) (kinds_among sections) (constants_among sections) (predicates_among sections) (functions_among sections))
     ∙ contents_first contents_of (domain_of name) (requirements_among sections) (declarations_among sections) (constraints_among sections) (actions_among sections)
 
-pub by_contents : (e : Expression) → domain_place e ≡ half_at (codes "domain") domain_keywords e >>= domain_in
+by_contents : (e : Expression) → domain_place e ≡ half_at (codes "domain") domain_keywords e >>= domain_in
 unfolding domain_place
 by_contents e = by (half_at (codes "domain") domain_keywords e)
   where
@@ -80,3 +83,9 @@ by_contents e = by (half_at (codes "domain") domain_keywords e)
         predicates_among half.sections >>= λ predicates. functions_among half.sections >>= λ functions. rest_of half.name half.sections (declarations_of kinds constants predicates functions)) ≡ half >>= domain_in
     by None = refl
     by (Some half) = by_sections half.name half.sections
+
+pub domain_known : (e : Expression) → IsSome (domain_place e) → domain_place e ≡ half_place e >>= domain_in
+domain_known e has =
+    by_contents e
+    ∙ ap (λ (half : Option halves.NamedSections). half >>= domain_in)
+    (half_known (codes "domain") domain_keywords e (some_first (half_at (codes "domain") domain_keywords e) domain_in (subst IsSome (by_contents e) has)))

@@ -1,11 +1,15 @@
 -- One layer of an effect.
-use Rattle.std.proofs.Common.{◌≡◌, ◌∙◌, refl, ap, Bool, true, false, List, [], ◌∷◌, Option, Some, None}
-use Rattle.p3_tree.specs.Grammar.Words.{◌>>=◌, pair, parts_place, expressions, headed}
+use Rattle.std.proofs.Common.{◌≡◌, ◌∙◌, refl, ap, ℕ, Bool, true, false, List, [], ◌∷◌, Option, Some, None}
+use Rattle.std.specs.Option.{option_or}
+use Rattle.p3_tree.specs.Grammar.Words.{◌>>=◌, numeral_place, pair, parts_place, expressions, headed}
 use Rattle.p3_tree.specs.Grammar.Formulas.{formula_place}
-use Rattle.p3_tree.specs.Grammar.Effects.{effect_place, effect_in, when_form}
+use Rattle.p3_tree.specs.Grammar.Effects.{amount_place, function_value_in, effect_place, effect_in, when_form}
+use Rattle.p3_tree.specs.declared.effect.Amount.{Amount}
+use Rattle.p3_tree.specs.declared.effect.Amount.TheVariants as amount
 use Rattle.p3_tree.specs.declared.effect.Effect.TheVariants as effect
 use Rattle.p3_tree.specs.declared.expression.Expression.{Expression, Group'}
 use Rattle.p3_tree.specs.declared.expression.Expression.TheVariants as expression
+use Rattle.p3_outline.specs.Nodes.{IsWordOf, IsList}
 use Rattle.p3_syntax.specs.Trees.{listed}
 use Rattle.p3_syntax.specs.Effects.{effect_found, effect_of}
 use Rattle.p3_syntax.proofs.TreeLemmas.{row_listed}
@@ -39,3 +43,17 @@ when_listed [] free = refl
 when_listed (e ∷ []) free = refl
 when_listed (e ∷ d ∷ []) free = swapped (formula_place e) (effect_found d false) effect.If
 when_listed (e ∷ d ∷ c ∷ list) free = refl
+
+-- ---- amounts
+
+number_only : (read : Option Amount) → option_or read None ≡ read
+number_only None = refl
+number_only (Some found) = refl
+
+pub amount_word : (e : Expression) (bytes : List ℕ) → IsWordOf e bytes → amount_place e ≡ numeral_place e >>= λ numeral. Some (amount.Number numeral)
+amount_word (expression.Word at text) bytes is = number_only (numeral_place (expression.Word at text) >>= λ numeral. Some (amount.Number numeral))
+amount_word (Group' at shape parts) bytes is = absurd cc
+
+pub amount_list : (e : Expression) → IsList e → amount_place e ≡ parts_place e >>= function_value_in
+amount_list (expression.Word at text) is = absurd cc
+amount_list (Group' at shape parts) is = refl

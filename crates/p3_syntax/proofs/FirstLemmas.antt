@@ -1,12 +1,14 @@
 -- Texts that show no refusal, and what is malformed.
 use Rattle.std.proofs.Common.{◌≡◌, ◌≢◌, ◌∙◌, sym, ap, subst, ℕ, List, [], ◌∷◌, ◌++◌, map, Option, Some, None, append_assoc}
+use Rattle.std.specs.Prelude.{is_some, IsSome}
 use Rattle.std.proofs.lemmas.List.{map-append}
 use Rattle.p3_base.specs.declared.refusal.Refusal.{Refusal}
 use Rattle.p3_base.specs.declared.refusal.Role.{Role}
 use Rattle.p3_base.specs.declared.refusal.Role.TheVariants as role
 use Rattle.p3_base.specs.declared.refusal.Side.{Side}
+use Rattle.p3_base.specs.declared.refusal.Side.TheVariants.{Source, Written}
 use Rattle.p3_tree.specs.PlanTexts.{mark_of}
-use Rattle.p3_tree.specs.Sides.{Half, InDomain, InProblem, level_limit}
+use Rattle.p3_tree.specs.Sides.{Half, InDomain, InProblem, level_limit, role_of}
 use Rattle.p3_tree.specs.Tokens.{Token}
 use Rattle.p3_tree.specs.Grammar.Words.{Place, IsText}
 use Rattle.p3_tree.specs.Grammar.Texts.{IsBalanced}
@@ -61,3 +63,13 @@ decided of text outline None task whole none finds =
 pub decided_last : (of : Role) (text : List ℕ) (outline : Outline) (found : Option Refusal) → of ≢ role.Plan → IsOutline of text outline → None ≡ text_refusal (side_of of) (half_of of) text
     → found ≡ outline.fault → Decides of text (root_of outline) found
 decided_last of text outline found task whole none is = decided of text outline found task whole none (subst (Finds of text) (sym is) whole.faults)
+
+-- ---- the half that a role is of
+
+pub domain_tree : (side : Side) (of : Role) (e : Expression) → of ≡ role_of side InDomain → HasTree (half_of of) e → IsSome (domain_place e)
+domain_tree Source of e is has = ap is_some (subst (λ (of : Role). HasTree (half_of of) e) is has).1
+domain_tree Written of e is has = ap is_some (subst (λ (of : Role). HasTree (half_of of) e) is has).1
+
+pub problem_tree : (side : Side) (of : Role) (e : Expression) → of ≡ role_of side InProblem → HasTree (half_of of) e → IsSome (problem_place e)
+problem_tree Source of e is has = ap is_some (subst (λ (of : Role). HasTree (half_of of) e) is has).1
+problem_tree Written of e is has = ap is_some (subst (λ (of : Role). HasTree (half_of of) e) is has).1

@@ -1,9 +1,10 @@
 -- Preconditions and goals of lists.
-use Rattle.std.proofs.Common.{◌≡◌, ◌∙◌, refl, ap, List, [], ◌∷◌, Option, Some, None}
+use Rattle.std.proofs.Common.{◌≡◌, ◌∙◌, refl, ap, false, codes, if◌then◌else◌, List, [], ◌∷◌, Option, Some, None}
 use Rattle.p3_tree.specs.Grammar.Words.{◌>>=◌, Place, pair, parts_place, name_place, expressions, headed, choose}
 use Rattle.p3_tree.specs.Grammar.Lists.{variables_place}
 use Rattle.p3_tree.specs.Grammar.Formulas.{formula_place}
-use Rattle.p3_tree.specs.Grammar.Goals.{goal_place, goal_in, goal_forms, plain_form, preferred, each_form, preference_form}
+use Rattle.p3_tree.specs.Grammar.Goals.{goal_place, goal_in, goal_forms, plain_form, preferred, both_form, each_form, preference_form}
+use Rattle.p3_tree.specs.Names.{same_name}
 use Rattle.p3_tree.specs.declared.expression.Expression.{Expression, Group'}
 use Rattle.p3_tree.specs.declared.expression.Expression.TheVariants as expression
 use Rattle.p3_tree.specs.declared.formula.Formula.{Formula}
@@ -72,3 +73,9 @@ goal_of_list (Group' at shape row) =
     ap (goal_in e) (row_listed (λ word. None) goal_in row)
     ∙ headed_listed goal_place (expressions row) (λ list. choose list.0.name goal_forms (λ head behind. plain_form e) list.0 list.1)
     ∙ by_head e (expressions row) (formula_of_list e)
+
+-- a list that begins with none of these words is a formula
+pub goal_plain : (head : Ref) (list : List Expression) → same_name (codes "and") head.name ≡ false → same_name (codes "forall") head.name ≡ false → same_name (codes "preference") head.name ≡ false
+    → goal_of head list ≡ formula_of head list >>= λ tree. Some (goal.Plain tree)
+goal_plain head list both each soft =
+    λ i. (if both i then both_form else (if each i then each_form else (if soft i then preference_form else (λ word others. formula_of head list >>= λ tree. Some (goal.Plain tree))))) head (listed goal_place list)

@@ -1,5 +1,6 @@
 -- Items with types, one group after another.
-use Rattle.std.proofs.Common.{◌≡◌, ◌∙◌, refl, sym, ap, ℕ, zero, suc, ◌+◌, add-one, Bool, true, false, not, ◌&&◌, if◌then◌else◌, List, [], ◌∷◌, ◌++◌, map, fold, take, drop, Option, Some, None, append_assoc}
+use Rattle.std.proofs.Common.{◌≡◌, ◌∙◌, refl, sym, ap, subst, ℕ, zero, suc, ◌+◌, add-one, Bool, true, false, not, ◌&&◌, if◌then◌else◌, List, [], ◌∷◌, ◌++◌, map, fold, take, drop, Option, Some, None, append_assoc}
+use Rattle.std.specs.Prelude.{IsSome, MatchOption}
 use Rattle.std.proofs.lemmas.List.{append-nil}
 use Rattle.std.proofs.lemmas.List.Folds.{fold_stays}
 use Rattle.p3_tree.specs.Names.{is_empty}
@@ -106,6 +107,20 @@ module _ (f : Expression) (n : ℕ) (list before : List Expression) (whole : Opt
       → whole ≡ item_before (f, Some k) (with_later (Some k) (take n list) (all_grouped after))
   group_kind e k dashed after is dash behind =
       sym so_far ∙ ap (scan (f ∷ take n list)) (is ∙ ap (λ l. e ∷ l) behind) ∙ scan_kind f (take n list) e k after dash ∙ first_before f (Some k) (take n list) (all_grouped after)
+
+  -- a type follows a dash
+  pub group_open : IsSome whole → (e : Expression) (dashed : List Expression) → before ≡ e ∷ dashed → is_dash e ≡ true → dashed ≡ [] → ⊥
+  group_open has e dashed is dash none =
+      absurd (let no = subst IsSome (sym so_far ∙ ap (scan (f ∷ take n list)) (is ∙ ap (λ l. e ∷ l) none) ∙ ap (next_run (f ∷ take n list) e []) dash) has in cc)
+
+-- what comes next, where something does
+module _ {X : Type 0} (es : List Expression) (is : X → Type 0) where
+  pub kind_follows : (next : Option X) → MatchOption next (es ≡ []) is → (es ≡ [] → ⊥) → IsSome next
+  kind_follows None none some = absurd (some none)
+  kind_follows (Some x) found some = refl
+
+  pub kind_is : (next : Option X) → MatchOption next (es ≡ []) is → (x : X) → next ≡ Some x → is x
+  kind_is next found x here = subst (λ (next : Option X). MatchOption next (es ≡ []) is) here found
 
 -- ---- what places make of the items
 

@@ -1,7 +1,6 @@
 pub mod Loops
 pub mod FirstLemmas
 pub mod TreeLemmas
-pub mod WordLemmas
 pub mod NumeralLemmas
 pub mod GroupLemmas
 pub mod ListLemmas
@@ -12,6 +11,7 @@ pub mod LayerLemmas
 pub mod MetricLemmas
 pub mod EffectLemmas
 pub mod SectionLemmas
+pub mod HeadLemmas
 pub mod ActionLemmas
 pub mod DomainLemmas
 pub mod ProblemLemmas

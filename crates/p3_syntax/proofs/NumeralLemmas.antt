@@ -1,9 +1,9 @@
 -- Numbers have no letters to lower.
-use Rattle.std.proofs.Common.{◌≡◌, ◌∙◌, refl, subst, ℕ, suc, ◌+◌, ◌≤◌, ◌<◌, ◌^◌, Bool, true, false, ◌&&◌, [], ◌∷◌, ◌++◌, length, fold, drop, get_or, Option, Some, None, arith}
-use Rattle.std.specs.Prelude.{◌==◌, if◌then◌else◌, option_map, unwrap_or}
+use Rattle.std.proofs.Common.{◌≡◌, ◌∙◌, refl, sym, ap, subst, ℕ, suc, ◌+◌, ◌≤◌, ◌<◌, ◌^◌, Bool, true, false, ◌&&◌, [], ◌∷◌, ◌++◌, length, fold, drop, get_or, Option, Some, None, arith}
+use Rattle.std.specs.Prelude.{◌==◌, if◌then◌else◌, option_map, unwrap_or, is_some, IsSome, IfSome}
 use Rattle.std.specs.Char.{to_ascii_lowercase}
 use Rattle.std.specs.List.{list_all}
-use Rattle.std.specs.Option.{option_map_or}
+use Rattle.std.specs.Option.{option_map_or, SomeIff}
 use Rattle.std.specs.Str.{str_to_ascii_lowercase}
 use Rattle.std.proofs.lemmas.Bool.{and_parts}
 use Rattle.std.proofs.lemmas.Bool.Decides.{nat_tests}
@@ -16,7 +16,7 @@ use Rattle.p3_tree.specs.declared.expression.Expression.TheVariants as expressio
 use Rattle.p3_tree.specs.declared.effect.Numeral.{Numeral}
 use Rattle.p3_tree.specs.declared.term.Ref.{Ref}
 use Rattle.p3_syntax.specs.declared.tree.numerals.Decimal.{Decimal}
-use Rattle.p3_syntax.specs.Trees.{HasRoom, HasRoomFor, IsDecimalOf, with_digit}
+use Rattle.p3_syntax.specs.Trees.{HasRoom, HasRoomFor, IsDecimalOf, numeral_with, with_digit}
 
 digit_raw : (byte : ℕ) → is_digit (to_ascii_lowercase byte) ≡ is_digit byte
 digit_raw byte = grind (arith, nat_tests)
@@ -88,9 +88,13 @@ module _ (at : ℕ) (text : Name) where
   numeral_of : Ref → Option Numeral
   numeral_of found = Some (record { at = found.at; len = length found.name; digits = digits_value (digits_of found.name); places = places_of found.name })
 
-  pub no_numeral : is_decimal text ≡ false → numeral_place (expression.Word at (str_to_ascii_lowercase text)) ≡ None
+  pub is_number : IsSome (numeral_place (expression.Word at (str_to_ascii_lowercase text))) → is_decimal text ≡ true
   unfolding word numeral_of
-  no_numeral other = λ i. (if (decimal_raw text ∙ other) i then Some word else None) >>= numeral_of
+  is_number has = by (is_decimal (str_to_ascii_lowercase text)) refl
+    where
+      by : (b : Bool) → is_decimal (str_to_ascii_lowercase text) ≡ b → is_decimal text ≡ true
+      by true is = sym (decimal_raw text) ∙ is
+      by false is = absurd (let none = ap (λ b. is_some ((if b then Some word else None) >>= numeral_of)) is in cc)
 
   pub numeral_here : (digits : Name) (places : ℕ) → is_decimal text ≡ true → digits_of text ≡ digits → places_of text ≡ places
       → numeral_place (expression.Word at (str_to_ascii_lowercase text)) ≡ Some (record { at = at; len = length text; digits = digits_value digits; places = places })
@@ -132,3 +136,13 @@ has_room text decimal is room =
       digits = subst (λ (digits : Name). digits_value digits < 2 ^ 64) same room.digits;
       places = omega (arith, room.len, length-map text to_ascii_lowercase, places_within text, is.places);
     }
+
+module _ (text : Name) (at : ℕ) (decimal : Decimal) (is : IsDecimalOf decimal text) where
+  pub numeral_read : (result : Option Numeral) → SomeIff result (HasRoomFor text decimal) (numeral_with text at decimal)
+      → IfSome result (λ numeral. numeral_place (expression.Word at (str_to_ascii_lowercase text)) ≡ Some numeral)
+  numeral_read None read = tt
+  numeral_read (Some numeral) read = numeral_here at text (decimal.whole.now ++ decimal.places.now) (length decimal.places.now) is.number is.digits is.places ∙ ap Some (sym read.1)
+
+  pub numeral_fits : (result : Option Numeral) → SomeIff result (HasRoomFor text decimal) (numeral_with text at decimal) → HasRoom (str_to_ascii_lowercase text) → IsSome result
+  numeral_fits None read room = absurd (read (has_room text decimal is room))
+  numeral_fits (Some numeral) read room = refl

@@ -1,5 +1,6 @@
 -- A problem by its contents.
-use Rattle.std.proofs.Common.{◌≡◌, ◌∙◌, refl, List, codes, Option, Some, None}
+use Rattle.std.proofs.Common.{◌≡◌, ◌∙◌, refl, ap, subst, List, codes, Option, Some, None}
+use Rattle.std.specs.Prelude.{IsSome}
 use Rattle.p3_tree.specs.Grammar.Words.{◌>>=◌}
 use Rattle.p3_tree.specs.Grammar.Halves.{Section, half_at, problem_keywords, problem_place}
 use Rattle.p3_tree.specs.Grammar.Halves as halves
@@ -16,7 +17,9 @@ use Rattle.p3_syntax.specs.declared.tree.problems.Start.{Start}
 use Rattle.p3_syntax.specs.declared.tree.problems.Conditions.{Conditions}
 use Rattle.p3_syntax.specs.declared.tree.problems.Aims.{Aims}
 use Rattle.p3_syntax.specs.declared.tree.problems.ProblemContents.{ProblemContents}
-use Rattle.p3_syntax.specs.Sections.{requirements_among, constraints_among}
+use Rattle.p3_syntax.proofs.HeadLemmas.{some_first}
+use Rattle.p3_syntax.proofs.SectionLemmas.{half_known}
+use Rattle.p3_syntax.specs.Sections.{half_place, requirements_among, constraints_among}
 use Rattle.p3_syntax.specs.Problems.{domain_name_among, objects_among, init_among, goal_among, metric_among, start_among, aims_among, contents_among, problem_of}
 
 abbrev start_of : Ref → List Typed → List Init → Start
@@ -67,7 +70,7 @@ rest_of name sections start = do
   metric ← metric_among sections
   Some (problem_of name (contents_of start (aims_of goal constraints metric)))
 
-abbrev problem_in : halves.NamedSections → Option Problem
+abbrev pub problem_in : halves.NamedSections → Option Problem
 problem_in half = contents_among half.sections >>= λ contents. Some (problem_of half.name contents)
 
 by_sections : (name : Ref) (sections : List Section)
@@ -82,7 +85,7 @@ by_sections name sections =
     by None = refl
     by (Some start) = aims_first (λ aims. problem_of name (contents_of start aims)) (goal_among sections) (constraints_among sections) (metric_among sections)
 
-pub by_contents : (e : Expression) → problem_place e ≡ half_at (codes "problem") problem_keywords e >>= problem_in
+by_contents : (e : Expression) → problem_place e ≡ half_at (codes "problem") problem_keywords e >>= problem_in
 unfolding problem_place
 by_contents e = by (half_at (codes "problem") problem_keywords e)
   where
@@ -90,3 +93,9 @@ by_contents e = by (half_at (codes "problem") problem_keywords e)
         init_among half.sections >>= λ entries. rest_of half.name half.sections (start_of domain objects entries)) ≡ half >>= problem_in
     by None = refl
     by (Some half) = by_sections half.name half.sections
+
+pub problem_known : (e : Expression) → IsSome (problem_place e) → problem_place e ≡ half_place e >>= problem_in
+problem_known e has =
+    by_contents e
+    ∙ ap (λ (half : Option halves.NamedSections). half >>= problem_in)
+    (half_known (codes "problem") problem_keywords e (some_first (half_at (codes "problem") problem_keywords e) problem_in (subst IsSome (by_contents e) has)))

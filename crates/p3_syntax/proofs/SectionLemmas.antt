@@ -1,9 +1,15 @@
 -- Sections by their keywords.
-use Rattle.std.proofs.Common.{◌≡◌, ◌∙◌, refl, sym, ap, Bool, true, false, if◌then◌else◌, List, [], ◌∷◌, Option, Some, None}
+use Rattle.std.proofs.Common.{◌≡◌, refl, Bool, true, false, if◌then◌else◌, List, [], ◌∷◌, Option, Some, None, arith}
 use Rattle.std.specs.List.{list_all}
+use Rattle.std.specs.Prelude.{IsSome}
 use Rattle.p3_tree.specs.Names.{Name, has_name}
-use Rattle.p3_tree.specs.Grammar.Words.{◌>>=◌, only}
-use Rattle.p3_tree.specs.Grammar.Halves.{Section, at_most_one, sections_among}
+use Rattle.p3_tree.specs.Grammar.Words.{◌>>=◌, expressions, only}
+use Rattle.p3_tree.specs.Grammar.Halves.{Section, at_most_one, half_at, sections_among}
+use Rattle.p3_tree.specs.Grammar.Halves as halves
+use Rattle.p3_tree.specs.declared.term.Ref.{Ref}
+use Rattle.p3_tree.specs.declared.expression.Expression.{Expression, Group'}
+use Rattle.p3_tree.specs.declared.expression.Expression.TheVariants as expression
+use Rattle.p3_syntax.specs.Sections.{half_in, half_place}
 
 abbrev needed : Option Section → Option Section
 needed section = section
@@ -13,14 +19,26 @@ only_of [] = refl
 only_of (section ∷ []) = refl
 only_of (section ∷ other ∷ sections) = refl
 
--- a test of the keywords of what was read
-module _ (keywords : List Name) (read : Option (List Section)) (sections shown : List Section) (test : Bool) (is : read ≡ Some sections) (same : shown ≡ sections)
-    (tested : test ≡ list_all (λ section. has_name keywords section.word.name) shown) where
-  among_read : read >>= sections_among keywords ≡ (if test then Some sections else None)
-  among_read = ap (λ read. read >>= sections_among keywords) is ∙ ap (λ b. if b then Some sections else None) (sym (tested ∙ ap (λ sections. list_all (λ section. has_name keywords section.word.name) sections) same))
+-- where the keywords pass, they need not be looked at
+pub among_known : {A : Type 0} (keywords : List Name) (read : Option (List Section)) (next : List Section → Option A) → IsSome ((read >>= sections_among keywords) >>= next)
+    → ((read >>= sections_among keywords) >>= next) ≡ read >>= next
+among_known keywords None next has = refl
+among_known keywords (Some sections) next has = by (list_all (λ section. has_name keywords section.word.name) sections) has
+  where
+    by : (b : Bool) → IsSome ((if b then Some sections else None) >>= next) → ((if b then Some sections else None) >>= next) ≡ next sections
+    by true has = refl
+    by false has = absurd cc
 
-  pub kept : test ≡ true → read >>= sections_among keywords ≡ Some sections
-  kept passed = among_read ∙ ap (λ b. if b then Some sections else None) passed
+-- nor need the words of a half
+module _ (kind : Name) (keywords : List Name) where
+  half_with : Ref → List Section → halves.NamedSections
+  half_with name sections = record { name = name; sections = sections }
 
-  pub not_kept : test ≡ false → read >>= sections_among keywords ≡ None
-  not_kept failed = among_read ∙ ap (λ b. if b then Some sections else None) failed
+  in_known : (es : List Expression) → IsSome (halves.half_in kind keywords es) → halves.half_in kind keywords es ≡ half_in es
+  in_known [] has = refl
+  in_known (word ∷ []) has = refl
+  in_known (word ∷ title ∷ behind) has = grind arith
+
+  pub half_known : (e : Expression) → IsSome (half_at kind keywords e) → half_at kind keywords e ≡ half_place e
+  half_known (expression.Word at text) has = refl
+  half_known (Group' at shape parts) has = in_known (expressions parts) has

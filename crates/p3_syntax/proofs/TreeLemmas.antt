@@ -1,20 +1,18 @@
 -- Lists, and the parts of their trees.
 use Rattle.std.proofs.Common.{◌≡◌, refl, ap, List, [], ◌∷◌, map, Option, Some, None}
+use Rattle.std.specs.Prelude.{IsSome}
 use mathlib.Core.Former.{Count}
 use Rattle.p3_tree.specs.Grammar.Words.{◌>>=◌, ListPart, raws, descend, descend_parts, expressions, parts_place, word_place, headed}
 use Rattle.p3_tree.specs.declared.expression.Expression.{Expression, Group', Row_of-Expression, end_of-Expression, more_of-Expression}
 use Rattle.p3_tree.specs.declared.expression.Expression.TheVariants as expression
 use Rattle.p3_tree.specs.declared.term.Ref.{Ref}
-use Rattle.p3_outline.specs.Nodes.{elements, IsWordOf, IsList}
+use Rattle.p3_outline.specs.Nodes.{elements}
 use Rattle.p3_syntax.specs.Trees.{listed}
 
-pub no_parts : (e : Expression) (bytes : List _) → IsWordOf e bytes → parts_place e ≡ None
-no_parts (expression.Word at text) bytes is = refl
-no_parts (Group' at shape parts) bytes is = absurd cc
-
-pub list_parts : (e : Expression) → IsList e → parts_place e ≡ Some (elements e)
-list_parts (expression.Word at text) is = absurd cc
-list_parts (Group' at shape parts) is = refl
+-- the parts of an expression that has any
+pub has_parts : (e : Expression) → IsSome (parts_place e) → parts_place e ≡ Some (elements e)
+has_parts (expression.Word at text) has = absurd cc
+has_parts (Group' at shape parts) has = refl
 
 -- the parts of a list, each with what the place makes of it
 pub row_listed : {A : Type 0} (word : Expression → A) (list : Expression → List (ListPart A) → A) {n : Count} (row : Row_of-Expression n)

@@ -33,9 +33,6 @@ action_parts_in list = keyword_parts list >>= sections_among action_keywords
 abbrev pub each_part : Parts → Option (List Section)
 each_part parts = keyword_parts (expressions_of parts)
 
-abbrev pub parts_of_action : Parts → Option (List Section)
-parts_of_action parts = action_parts_in (expressions_of parts)
-
 abbrev pub parameters_among : List Section → Option (List Typed)
 parameters_among parts = optional (codes ":parameters") [] (body_at variables_place) parts
 

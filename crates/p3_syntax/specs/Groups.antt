@@ -1,5 +1,5 @@
 -- Items with types, before a place makes anything of them.
-use Rattle.std.specs.Prelude.{◌≡◌, ℕ, ◌+◌, Result, Ok, Err, List, [], ◌∷◌, ◌++◌, map, take, length, Option, Some, None}
+use Rattle.std.specs.Prelude.{◌≡◌, ℕ, ◌+◌, List, [], ◌∷◌, ◌++◌, map, take, length, Option, Some, None}
 use Rattle.p3_tree.specs.Grammar.Words.{◌>>=◌, Place, all_trees}
 use Rattle.p3_tree.specs.Grammar.Lists.{grouped, typed_item}
 use Rattle.p3_tree.specs.declared.expression.Expression.{Expression}
@@ -8,8 +8,6 @@ use Rattle.p3_tree.specs.declared.term.Typed.{Typed}
 use Rattle.p3_outline.specs.declared.view.View.{View}
 use Rattle.p3_syntax.specs.declared.tree.groups.Groups.{Groups}
 use Rattle.p3_syntax.specs.declared.tree.groups.TypedItem.{TypedItem}
-use Rattle.p3_syntax.specs.declared.error.Fault.{Fault}
-use Rattle.p3_syntax.specs.Reading.{Fails}
 use Rattle.p3_outline.specs.Nodes.{expression_of, expressions_of}
 
 -- an item, and its type where it has one
@@ -46,19 +44,13 @@ groups_size groups = groups.count + length groups.behind.nodes.now
 
 -- ---- what is answered of the items
 
-abbrev pub GivesFirst : Result (Option (View × Groups)) Fault → Option (List Item) → Type 0
-GivesFirst (Ok None) items = items ≡ Some []
-GivesFirst (Ok (Some first)) items = items ≡ item_before (the_first first) (groups_left first.1)
-GivesFirst (Err fault) items = Fails fault items
+abbrev pub GivesFirst : Option (View × Groups) → Option (List Item) → Type 0
+GivesFirst None items = items ≡ Some []
+GivesFirst (Some first) items = items ≡ item_before (the_first first) (groups_left first.1)
 
-abbrev pub GivesNext : Result (Option TypedItem) Fault → Option (List Item) → Groups → Type 0
-GivesNext (Ok None) items later = items ≡ Some []
-GivesNext (Ok (Some item)) items later = items ≡ item_before (the_item item) (groups_left later)
-GivesNext (Err fault) items later = Fails fault items
-
-abbrev pub IfFound : {X : Type 0} → Result (Option X) Fault → (X → Type 0) → Type 0
-IfFound (Ok (Some x)) holds = holds x
-IfFound _ holds = Unit {0}
+abbrev pub GivesNext : Option TypedItem → Option (List Item) → Groups → Type 0
+GivesNext None items later = items ≡ Some []
+GivesNext (Some item) items later = items ≡ item_before (the_item item) (groups_left later)
 
 -- ---- what places make of an item and its type
 

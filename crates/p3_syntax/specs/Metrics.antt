@@ -1,7 +1,9 @@
 -- Metrics as they are read.
-use Rattle.std.specs.Prelude.{List, Option}
-use Rattle.p3_tree.specs.Grammar.Metrics.{num_place, trees_of, violated_form}
+use Rattle.std.specs.Prelude.{List, Option, None}
+use Rattle.p3_tree.specs.Grammar.Words.{choose}
+use Rattle.p3_tree.specs.Grammar.Metrics.{num_forms, num_place, trees_of, violated_form}
 use Rattle.p3_tree.specs.Grammar.Metrics as metrics
+use Rattle.p3_tree.specs.declared.expression.Expression.{Expression}
 use Rattle.p3_tree.specs.declared.term.Ref.{Ref}
 use Rattle.p3_tree.specs.declared.metric.Num.{Num}
 use Rattle.p3_outline.specs.declared.view.Parts.{Parts}
@@ -18,3 +20,10 @@ violated_at behind = violated_form any_word (listed num_place (expressions_of be
 
 abbrev pub nums_at : Parts → Option (List Num)
 nums_at parts = trees_of (listed num_place (expressions_of parts))
+
+-- the number of a list with this first word
+abbrev pub num_of : Ref → List Expression → Option Num
+num_of head behind = choose head.name num_forms (λ head behind. None) head (listed num_place behind)
+
+abbrev pub num_by : TextWord → Parts → Option Num
+num_by word behind = num_of (the_word word) (expressions_of behind)

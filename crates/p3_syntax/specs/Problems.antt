@@ -1,7 +1,7 @@
 -- What the sections of a problem give.
 use Rattle.std.specs.Prelude.{List, [], codes, Option, Some, None}
-use Rattle.p3_tree.specs.Grammar.Words.{◌>>=◌, each_at, name_place, predicate_place}
-use Rattle.p3_tree.specs.Grammar.Lists.{objects_in}
+use Rattle.p3_tree.specs.Grammar.Words.{◌>>=◌, each_at, name_place, predicate_place, function_place}
+use Rattle.p3_tree.specs.Grammar.Lists.{object_place, objects_in}
 use Rattle.p3_tree.specs.Grammar.Goals.{goal_or_empty_place}
 use Rattle.p3_tree.specs.Grammar.Metrics.{metric_in}
 use Rattle.p3_tree.specs.Grammar.Halves.{Section, optional, once, body_at, part_at, initial_in, init_place}
@@ -12,6 +12,8 @@ use Rattle.p3_tree.specs.declared.goal.PreGoal.{PreGoal}
 use Rattle.p3_tree.specs.declared.metric.Metric.{Metric}
 use Rattle.p3_tree.specs.declared.task.Part.{Part}
 use Rattle.p3_tree.specs.declared.task.Init.{Init}
+use Rattle.p3_tree.specs.declared.task.Init.TheVariants as init
+use Rattle.p3_tree.specs.declared.effect.Numeral.{Numeral}
 use Rattle.p3_tree.specs.declared.task.Problem.{Problem}
 use Rattle.p3_syntax.specs.declared.tree.problems.Start.{Start}
 use Rattle.p3_syntax.specs.declared.tree.problems.Conditions.{Conditions}
@@ -24,6 +26,10 @@ use Rattle.p3_syntax.specs.Sections.{requirements_among, constraints_among}
 -- an atom's entry, from its parts
 abbrev pub entry_in : (Ref → List Expression → Option Init) → Parts → Option Init
 entry_in entry parts = initial_in entry predicate_place (expressions_of parts)
+
+-- and that of a function's value
+abbrev pub value_in : Numeral → Parts → Option Init
+value_in number parts = initial_in (λ function others. each_at object_place others >>= λ args. Some (init.Value function args number)) function_place (expressions_of parts)
 
 abbrev pub domain_name_among : List Section → Option Ref
 domain_name_among sections = once (codes ":domain") (body_at name_place) sections

@@ -1,5 +1,5 @@
 -- What words and parts of views stand for.
-use Rattle.std.specs.Prelude.{◌≡◌, ℕ, ◌+◌, ◌-◌, ◌*◌, ◌^◌, ◌<◌, ◌++◌, Bool, true, false, not, ◌&&◌, if◌then◌else◌, List, [], ◌∷◌, length, map, codes, Option, Some, None}
+use Rattle.std.specs.Prelude.{◌≡◌, ℕ, ◌+◌, ◌-◌, ◌*◌, ◌^◌, ◌<◌, ◌++◌, Bool, true, false, ◌&&◌, if◌then◌else◌, List, [], ◌∷◌, length, map, codes, Option, Some, None}
 use Rattle.std.specs.Str.{str_to_ascii_lowercase}
 use Rattle.p3_tree.specs.Grammar.Words.{◌>>=◌, ListPart, Place, choose}
 use Rattle.p3_tree.specs.Grammar.Formulas.{formula_place, formula_forms, atom_form}
@@ -7,7 +7,7 @@ use Rattle.p3_tree.specs.Grammar.Goals.{goal_place, goal_forms, each_form}
 use Rattle.p3_tree.specs.Grammar.Constraints.{modal_forms, inner_forms, inner_place, constraint_place, single_form}
 use Rattle.p3_tree.specs.Grammar.Constraints as constraint
 use Rattle.p3_tree.specs.declared.formula.Formula.{Formula}
-use Rattle.p3_tree.specs.declared.constraint.Modal.{Modal}
+use Rattle.p3_tree.specs.Modal.{Modal}
 use Rattle.p3_tree.specs.declared.constraint.Constraint.{Constraint}
 use Rattle.p3_tree.specs.declared.goal.PreGoal.{PreGoal}
 use Rattle.p3_tree.specs.declared.goal.PreGoal.TheVariants.{Plain}
@@ -18,8 +18,7 @@ use Rattle.p3_tree.specs.declared.effect.Numeral.{Numeral}
 use Rattle.p3_outline.specs.declared.view.View.{View}
 use Rattle.p3_outline.specs.declared.view.Parts.{Parts}
 use Rattle.p3_syntax.specs.declared.tree.numerals.Decimal.{Decimal}
-use Rattle.p3_tree.specs.Names.{Name, same_name, has_name, total_cost}
-use Rattle.p3_tree.specs.Grammar.Words.{reserved_words}
+use Rattle.p3_tree.specs.Names.{Name, same_name}
 use Rattle.p3_tree.specs.Decimals.{is_decimal, digits_of, digits_value, places_of}
 use Rattle.p3_syntax.specs.declared.tree.words.TextWord.{TextWord}
 use Rattle.p3_syntax.specs.declared.tree.parts.HeadedParts.{HeadedParts}
@@ -27,13 +26,6 @@ use Rattle.p3_outline.specs.Nodes.{expression_of, expressions_of}
 
 abbrev pub the_word : TextWord → Ref
 the_word word = record { name = str_to_ascii_lowercase word.text.now; at = word.at }
-
-abbrev pub expression_at : TextWord → Expression
-expression_at word = Word word.at (str_to_ascii_lowercase word.text.now)
-
--- neither reserved nor `total-cost`
-abbrev pub is_free : Name → Bool
-is_free name = not (has_name reserved_words name) && not (same_name name total_cost)
 
 abbrev pub the_pair : View × View → Expression × Expression
 the_pair both = (expression_of both.0, expression_of both.1)

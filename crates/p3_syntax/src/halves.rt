@@ -9,11 +9,10 @@ ghost use Rattle.p3_syntax.specs.First.{IsFirstOf, StandsIn};
 ghost use Rattle.p3_syntax.specs.Reading.{Gives};
 ghost use Rattle.p3_syntax.specs.Texts.{IsHalfText};
 
-use crate::error::Fault;
 use crate::first::readable;
 use crate::tree::domains::domain;
 use crate::tree::problems::problem;
-use p3_base::{Role, Side};
+use p3_base::{NoMemory, Role, Side};
 use p3_outline::ReadFail;
 use p3_tree::{Domain, Problem};
 use std::alloc::Global;
@@ -50,9 +49,7 @@ pub fn read_domain(alloc: Global, side: Side, text: &[u8]) -> Result<Domain, Rea
     let outline = readable(alloc, domain_role(side), text)?;
     match domain(alloc, outline.root()) {
         Ok(domain) => Ok(domain),
-        Err(Fault::NoMemory) => Err(ReadFail::NoMemory),
-        // A text that shows no refusal has a tree.
-        Err(Fault::Malformed) => unreachable!(),
+        Err(NoMemory) => Err(ReadFail::NoMemory),
     }
 }
 
@@ -70,8 +67,6 @@ pub fn read_problem(alloc: Global, side: Side, text: &[u8]) -> Result<Problem, R
     let outline = readable(alloc, problem_role(side), text)?;
     match problem(alloc, outline.root()) {
         Ok(problem) => Ok(problem),
-        Err(Fault::NoMemory) => Err(ReadFail::NoMemory),
-        // A text that shows no refusal has a tree.
-        Err(Fault::Malformed) => unreachable!(),
+        Err(NoMemory) => Err(ReadFail::NoMemory),
     }
 }

@@ -1,7 +1,6 @@
 //! Reads the domain half and the problem half of a task.
 #![tactic(auto)]
 
-mod error;
 mod first;
 mod halves;
 mod tree;

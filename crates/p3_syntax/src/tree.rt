@@ -14,5 +14,4 @@ mod numerals;
 mod parts;
 pub(crate) mod problems;
 mod sections;
-pub(crate) mod tests;
 mod words;

@@ -12,8 +12,8 @@ use Rattle.p3_base.specs.declared.showing.Showing.TheVariants.{Holds, HoldsAt, H
 use Rattle.p3_base.proofs.TrajectoryLemmas.{HasGap, came_tells, each_tells, implies_tells, le_tells, not-awaited, not-came, not-early, not_tells, some_tells, true_tells}
 use Rattle.p3_tree.specs.States.{State, Environment}
 use Rattle.p3_tree.specs.Constraints.{holds_at}
-use Rattle.p3_tree.specs.declared.constraint.Modal.{Modal}
-use Rattle.p3_tree.specs.declared.constraint.Modal.TheVariants.{AtEnd, Always, Sometime, AtMostOnce, SometimeAfter, SometimeBefore}
+use Rattle.p3_tree.specs.Modal.{Modal}
+use Rattle.p3_base.specs.declared.operator.Operator.TheVariants.{AtEnd, Always, Sometime, AtMostOnce, SometimeAfter, SometimeBefore}
 use Rattle.p3_tree.specs.declared.task.Task.{Task}
 use Rattle.p3_tree.specs.Explanations.{shown}
 use Rattle.p3_base.specs.Showings.{least, is_unanswered, is_unprepared, first_place, gap_place, again_place, shown_at_end, shown_always, shown_sometime, shown_at_most_once, shown_sometime_after, shown_sometime_before}

@@ -2,7 +2,6 @@
 use Rattle.std.specs.Prelude.{ℕ, Bool, List, [], ◌∷◌, ◌++◌, flat_map, map, length, Option}
 use Rattle.std.specs.List.{list_all}
 use mathlib.Core.Former.{Count, one_more}
-use Rattle.p3_base.specs.Trajectories as operator
 use Rattle.p3_tree.specs.Folds.{fold_constraint}
 use Rattle.p3_tree.specs.Names.{Name}
 use Rattle.p3_tree.specs.States.{State, Environment}
@@ -11,8 +10,9 @@ use Rattle.p3_tree.specs.Formulas.{holds}
 use Rattle.p3_tree.specs.Goals.{StatePref, named, prefs}
 use Rattle.p3_tree.specs.Plans.{state_at}
 use Rattle.p3_tree.specs.declared.formula.Formula.{Formula}
-use Rattle.p3_tree.specs.declared.constraint.Modal.{Modal}
-use Rattle.p3_tree.specs.declared.constraint.Modal.TheVariants.{AtEnd, Always, Sometime, AtMostOnce, SometimeAfter, SometimeBefore}
+use Rattle.p3_tree.specs.Modal.{Modal}
+use Rattle.p3_base.specs.Operators.{is_satisfied, over}
+use Rattle.p3_base.specs.declared.operator.Operator.TheVariants.{AtEnd}
 use Rattle.p3_tree.specs.declared.constraint.Constraint.{Constraint, Both', Each', Single, Soft', Row_of-Constraint, end_of-Constraint, more_of-Constraint}
 use Rattle.p3_tree.specs.declared.constraint.Constraint.TheOpen as layer
 use Rattle.p3_tree.specs.declared.task.Task.{Task}
@@ -23,12 +23,7 @@ abbrev pub holds_at : Task → List State → Environment → Formula → ℕ �
 holds_at T W env formula i = holds T (state_at W i) env formula
 
 unfoldable pub satisfies : Task → List State → Environment → Modal → Bool
-satisfies T W env (AtEnd f) = operator.at_end (length W) (holds_at T W env f)
-satisfies T W env (Always f) = operator.always (length W) (holds_at T W env f)
-satisfies T W env (Sometime f) = operator.sometime (length W) (holds_at T W env f)
-satisfies T W env (AtMostOnce f) = operator.at_most_once (length W) (holds_at T W env f)
-satisfies T W env (SometimeAfter f g) = operator.sometime_after (length W) (holds_at T W env f) (holds_at T W env g)
-satisfies T W env (SometimeBefore f g) = operator.sometime_before (length W) (holds_at T W env f) (holds_at T W env g)
+satisfies T W env modal = is_satisfied (length W) (over (holds_at T W env) modal)
 
 -- ---- constraints
 

@@ -19,8 +19,8 @@ use Rattle.p3_tree.specs.declared.effect.Effect.TheVariants as effect
 use Rattle.p3_tree.specs.declared.goal.Pref.{Pref}
 use Rattle.p3_tree.specs.declared.goal.PreGoal.{PreGoal, Row_of-PreGoal, end_of-PreGoal, more_of-PreGoal}
 use Rattle.p3_tree.specs.declared.goal.PreGoal.TheVariants as goal
-use Rattle.p3_tree.specs.declared.constraint.Modal.{Modal}
-use Rattle.p3_tree.specs.declared.constraint.Modal.TheVariants as modal
+use Rattle.p3_tree.specs.Modal.{Modal}
+use Rattle.p3_base.specs.Operators.{over}
 use Rattle.p3_tree.specs.declared.constraint.Constraint.{Constraint, Row_of-Constraint, end_of-Constraint, more_of-Constraint}
 use Rattle.p3_tree.specs.declared.constraint.Constraint.TheVariants as constraint
 use Rattle.p3_tree.specs.declared.metric.Metric.{Metric}
@@ -105,12 +105,7 @@ abbrev mutual
   erased_goals (more_of-PreGoal part rest) = more_of-PreGoal (erased_goal part) (erased_goals rest)
 
 abbrev pub erased_modal : Modal → Modal
-erased_modal (modal.AtEnd f) = modal.AtEnd (erased_formula f)
-erased_modal (modal.Always f) = modal.Always (erased_formula f)
-erased_modal (modal.Sometime f) = modal.Sometime (erased_formula f)
-erased_modal (modal.AtMostOnce f) = modal.AtMostOnce (erased_formula f)
-erased_modal (modal.SometimeAfter f g) = modal.SometimeAfter (erased_formula f) (erased_formula g)
-erased_modal (modal.SometimeBefore f g) = modal.SometimeBefore (erased_formula f) (erased_formula g)
+erased_modal modal = over erased_formula modal
 
 abbrev mutual
   pub erased_constraint : Constraint → Constraint

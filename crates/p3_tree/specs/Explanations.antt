@@ -1,7 +1,6 @@
 -- Why the constraints and preferences of a plan are satisfied or not: for each operator the visited states that show it (the PDDL3 report).
 use Rattle.std.specs.Prelude.{ℕ, ◌-◌, Bool, not, List, ◌++◌, map, flat_map, filter, length}
 use Rattle.std.specs.List.{enumerate_from}
-use Rattle.p3_base.specs.Showings.{shown_at_end, shown_always, shown_sometime, shown_at_most_once, shown_sometime_after, shown_sometime_before}
 use Rattle.p3_base.specs.declared.showing.Reason.{Reason}
 use Rattle.p3_base.specs.declared.showing.Showing.{Showing}
 use Rattle.p3_base.specs.declared.showing.Showing.TheVariants.{FailsAt}
@@ -13,18 +12,13 @@ use Rattle.p3_tree.specs.Goals.{StatePref}
 use Rattle.p3_tree.specs.Plans.{Plan, Move, moves, visited}
 use Rattle.p3_tree.specs.Constraints.{HardModal, Instance, hard_list, holds_at, instances, operators}
 use Rattle.p3_tree.specs.Metrics.{step_prefs}
-use Rattle.p3_tree.specs.declared.constraint.Modal.{Modal}
-use Rattle.p3_tree.specs.declared.constraint.Modal.TheVariants.{AtEnd, Always, Sometime, AtMostOnce, SometimeAfter, SometimeBefore}
+use Rattle.p3_tree.specs.Modal.{Modal}
+use Rattle.p3_base.specs.Operators.{over, showing}
 use Rattle.p3_tree.specs.declared.task.Task.{Task}
 
 -- the states that show whether an operator is satisfied over the visited states
 unfoldable pub shown : Task → List State → Environment → Modal → Showing
-shown T W env (AtEnd f) = shown_at_end (length W) (holds_at T W env f)
-shown T W env (Always f) = shown_always (length W) (holds_at T W env f)
-shown T W env (Sometime f) = shown_sometime (length W) (holds_at T W env f)
-shown T W env (AtMostOnce f) = shown_at_most_once (length W) (holds_at T W env f)
-shown T W env (SometimeAfter f g) = shown_sometime_after (length W) (holds_at T W env f) (holds_at T W env g)
-shown T W env (SometimeBefore f g) = shown_sometime_before (length W) (holds_at T W env f) (holds_at T W env g)
+shown T W env modal = showing (length W) (over (holds_at T W env) modal)
 
 -- ---- reasons
 

@@ -21,6 +21,7 @@ pub mod Limits
 pub mod Literals
 pub mod Mentions
 pub mod Metrics
+pub mod Modal
 pub mod Names
 pub mod Offences
 pub mod Offsets

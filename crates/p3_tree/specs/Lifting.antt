@@ -15,8 +15,8 @@ use Rattle.p3_tree.specs.declared.effect.Effect.{Effect}
 use Rattle.p3_tree.specs.declared.effect.Effect.TheOpen as effect
 use Rattle.p3_tree.specs.declared.goal.PreGoal.{PreGoal}
 use Rattle.p3_tree.specs.declared.goal.PreGoal.TheOpen as goal
-use Rattle.p3_tree.specs.declared.constraint.Modal.{Modal}
-use Rattle.p3_tree.specs.declared.constraint.Modal.TheVariants as modal
+use Rattle.p3_tree.specs.Modal.{Modal}
+use Rattle.p3_base.specs.Operators.{all}
 use Rattle.p3_tree.specs.declared.constraint.Constraint.{Constraint}
 use Rattle.p3_tree.specs.declared.constraint.Constraint.TheOpen as constraint
 use Rattle.p3_tree.specs.declared.metric.Metric.{Metric}
@@ -101,12 +101,7 @@ unfoldable pub is_goal_variable_free : PreGoal → Bool
 is_goal_variable_free tree = fold_goal goal_layer tree
 
 abbrev pub is_modal_variable_free : Modal → Bool
-is_modal_variable_free (modal.AtEnd f) = is_formula_variable_free f
-is_modal_variable_free (modal.Always f) = is_formula_variable_free f
-is_modal_variable_free (modal.Sometime f) = is_formula_variable_free f
-is_modal_variable_free (modal.AtMostOnce f) = is_formula_variable_free f
-is_modal_variable_free (modal.SometimeAfter f g) = is_formula_variable_free f && is_formula_variable_free g
-is_modal_variable_free (modal.SometimeBefore f g) = is_formula_variable_free f && is_formula_variable_free g
+is_modal_variable_free modal = all is_formula_variable_free modal
 
 abbrev pub constraint_layer : constraint.Constraint-F Bool → Bool
 constraint_layer (constraint.Both parts) = list_all (λ part. part) parts

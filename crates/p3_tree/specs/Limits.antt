@@ -17,8 +17,8 @@ use Rattle.p3_tree.specs.declared.effect.Effect.{Effect}
 use Rattle.p3_tree.specs.declared.effect.Effect.TheOpen as effect
 use Rattle.p3_tree.specs.declared.goal.PreGoal.{PreGoal}
 use Rattle.p3_tree.specs.declared.goal.PreGoal.TheOpen as goal
-use Rattle.p3_tree.specs.declared.constraint.Modal.{Modal}
-use Rattle.p3_tree.specs.declared.constraint.Modal.TheVariants as modal
+use Rattle.p3_tree.specs.Modal.{Modal}
+use Rattle.p3_base.specs.Operators.{formulas_of}
 use Rattle.p3_tree.specs.declared.constraint.Constraint.{Constraint}
 use Rattle.p3_tree.specs.declared.constraint.Constraint.TheOpen as constraint
 use Rattle.p3_tree.specs.declared.metric.Num.{Num}
@@ -75,12 +75,7 @@ unfoldable pub goal_size : Task → PreGoal → ℕ
 goal_size T tree = fold_goal (goal_layer T) tree
 
 abbrev pub modal_size : Task → Modal → ℕ
-modal_size T (modal.AtEnd f) = 1 + formula_size T f
-modal_size T (modal.Always f) = 1 + formula_size T f
-modal_size T (modal.Sometime f) = 1 + formula_size T f
-modal_size T (modal.AtMostOnce f) = 1 + formula_size T f
-modal_size T (modal.SometimeAfter f g) = 1 + formula_size T f + formula_size T g
-modal_size T (modal.SometimeBefore f g) = 1 + formula_size T f + formula_size T g
+modal_size T modal = fold (λ (size : ℕ) (formula : Formula). size + formula_size T formula) 1 (formulas_of modal)
 
 abbrev pub constraint_layer : Task → constraint.Constraint-F ℕ → ℕ
 constraint_layer T (constraint.Both parts) = 1 + sum parts

@@ -5,8 +5,8 @@ use Rattle.p3_base.specs.declared.showing.Showing.{Showing}
 use Rattle.p3_base.specs.declared.showing.Showing.TheVariants.{Holds, HoldsAt, HoldsNowhere, FailsAt, Again}
 use Rattle.p3_tree.specs.States.{State, Environment}
 use Rattle.p3_tree.specs.Constraints.{holds_at}
-use Rattle.p3_tree.specs.declared.constraint.Modal.{Modal}
-use Rattle.p3_tree.specs.declared.constraint.Modal.TheVariants.{AtEnd, Always, Sometime, AtMostOnce, SometimeAfter, SometimeBefore}
+use Rattle.p3_tree.specs.Modal.{Modal}
+use Rattle.p3_base.specs.declared.operator.Operator.TheVariants.{AtEnd, Always, Sometime, AtMostOnce, SometimeAfter, SometimeBefore}
 use Rattle.p3_tree.specs.declared.task.Task.{Task}
 
 -- the test has that value at the place, and the other one at each place before it

@@ -1,11 +1,10 @@
 -- How many conditions a step may have where its translation has no conditional effects: those of its literals, and two for each operator that it can touch.
-use Rattle.std.specs.Prelude.{ℕ, ◌+◌, ◌*◌, Bool, true, false, if◌then◌else◌, ◌++◌, List, flat_map, count_by}
+use Rattle.std.specs.Prelude.{ℕ, ◌+◌, ◌*◌, Bool, false, if◌then◌else◌, ◌++◌, List, flat_map, count_by}
 use Rattle.std.specs.List.{list_any}
 use Rattle.p3_tree.specs.States.{has_fact}
 use Rattle.p3_tree.specs.Constraints.{HardModal, Instance, hard_list, instances, operators}
 use Rattle.p3_tree.specs.Literals.{Literal}
-use Rattle.p3_tree.specs.declared.constraint.Modal.{Modal}
-use Rattle.p3_tree.specs.declared.constraint.Modal.TheVariants.{AtEnd}
+use Rattle.p3_base.specs.Operators.{is_at_end}
 use Rattle.p3_tree.specs.declared.task.Step.{Step}
 use Rattle.p3_tree.specs.declared.task.Task.{Task}
 use Rattle.p3_tree.specs.Mentions.{operator_atoms, step_literals, is_under_when}
@@ -14,17 +13,12 @@ use Rattle.p3_tree.specs.Mentions.{operator_atoms, step_literals, is_under_when}
 abbrev pub all_operators : Task → List HardModal
 all_operators T = hard_list T ++ flat_map (λ (instance : Instance). operators T instance.env instance.body) (instances T)
 
--- the operator looks at more than the last state
-abbrev pub looks_back : Modal → Bool
-looks_back (AtEnd f) = false
-looks_back _ = true
-
 -- the step has a literal of one of its atoms
 abbrev pub has_literal_of : Task → Step → HardModal → Bool
 has_literal_of T step operator = list_any (λ (literal : Literal). has_fact (operator_atoms T operator) literal.fact) (step_literals T step)
 
 abbrev pub can_touch : Task → Step → HardModal → Bool
-can_touch T step operator = if looks_back operator.modal then has_literal_of T step operator else false
+can_touch T step operator = if is_at_end operator.modal then false else has_literal_of T step operator
 
 -- the literals under `when`, and two for each operator that the step can touch
 unfoldable pub conds : Task → Step → ℕ

@@ -14,8 +14,8 @@ use Rattle.p3_tree.specs.declared.effect.Effect.{Effect}
 use Rattle.p3_tree.specs.declared.effect.Effect.TheOpen as effect
 use Rattle.p3_tree.specs.declared.goal.PreGoal.{PreGoal}
 use Rattle.p3_tree.specs.declared.goal.PreGoal.TheOpen as goal
-use Rattle.p3_tree.specs.declared.constraint.Modal.{Modal}
-use Rattle.p3_tree.specs.declared.constraint.Modal.TheVariants as modal
+use Rattle.p3_tree.specs.Modal.{Modal}
+use Rattle.p3_base.specs.Operators.{each}
 use Rattle.p3_tree.specs.declared.constraint.Constraint.{Constraint}
 use Rattle.p3_tree.specs.declared.constraint.Constraint.TheOpen as constraint
 use Rattle.p3_tree.specs.declared.metric.Num.{Num}
@@ -87,12 +87,7 @@ unfoldable pub goal_uses : PreGoal → Scope → List Use
 goal_uses tree = fold_goal goal_layer tree
 
 abbrev pub modal_uses : Modal → Scope → List Use
-modal_uses (modal.AtEnd f) scope = formula_uses f scope
-modal_uses (modal.Always f) scope = formula_uses f scope
-modal_uses (modal.Sometime f) scope = formula_uses f scope
-modal_uses (modal.AtMostOnce f) scope = formula_uses f scope
-modal_uses (modal.SometimeAfter f g) scope = formula_uses f scope ++ formula_uses g scope
-modal_uses (modal.SometimeBefore f g) scope = formula_uses f scope ++ formula_uses g scope
+modal_uses modal scope = each (λ (formula : Formula). formula_uses formula scope) modal
 
 abbrev pub constraint_layer : constraint.Constraint-F (Scope → List Use) → Scope → List Use
 constraint_layer (constraint.Both parts) scope = flat_map (λ part. part scope) parts

@@ -1,24 +1,10 @@
 //! Trajectory constraints.
 
 use crate::{Formula, Ref, Typed};
-use p3_base::{Boxed, List};
+use p3_base::{Boxed, List, Operator};
 
 /// A modal operator over the visited states.
-#[derive(Debug, Drop)]
-pub enum Modal {
-    /// It holds in the last state.
-    AtEnd(Formula),
-    /// It holds in every state.
-    Always(Formula),
-    /// It holds in some state.
-    Sometime(Formula),
-    /// Once it has held and ceased to, it does not hold again.
-    AtMostOnce(Formula),
-    /// Where the first holds, the second holds then or later.
-    SometimeAfter(Formula, Formula),
-    /// Where the first holds, the second held before.
-    SometimeBefore(Formula, Formula),
-}
+pub type Modal = Operator<Formula>;
 
 /// Constraints and preferences over the visited states.
 #[derive(Debug, Drop)]

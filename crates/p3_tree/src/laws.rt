@@ -27,7 +27,7 @@ ghost use Rattle.p3_tree.specs.PlanTexts.{IsPlanText};
 ghost use Rattle.p3_tree.specs.Shows.{Shows};
 ghost use Rattle.p3_tree.specs.Tokens.{tokens_of};
 ghost use Rattle.p3_tree.specs.Watching.{IsLine, OneStep, lines_of, second_step, step_in};
-ghost use Rattle.p3_tree.specs.declared.constraint.Modal.{Modal};
+ghost use Rattle.p3_tree.specs.Modal.{Modal};
 ghost use Rattle.p3_tree.specs.declared.task.Step.{Step};
 ghost use Rattle.p3_tree.specs.Laws.{Chain, IsCheapest, IsBest, StateCounts, TrajectoryCounts};
 ghost use Rattle.p3_tree.specs.Grammar.Texts.{Reads};

@@ -14,7 +14,7 @@ use Rattle.p3_numbers.specs.declared.goal.Preference.{Preference}
 use Rattle.p3_numbers.specs.declared.goal.Goal.{Goal}
 use Rattle.p3_numbers.specs.declared.goal.Goal.TheBlock.{hidden-the_row-Goal-1}
 use Rattle.p3_numbers.specs.declared.goal.Goal.TheVariants as goal
-use Rattle.p3_numbers.specs.declared.constraint.NumberedModal.{NumberedModal}
+use Rattle.p3_numbers.specs.NumberedModal.{NumberedModal}
 use Rattle.p3_numbers.specs.declared.constraint.NumberedConstraint.{NumberedConstraint}
 use Rattle.p3_numbers.specs.declared.constraint.NumberedConstraint.TheBlock.{hidden-the_row-NumberedConstraint-1}
 use Rattle.p3_numbers.specs.declared.constraint.NumberedConstraint.TheVariants as constraint

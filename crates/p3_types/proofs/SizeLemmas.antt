@@ -16,7 +16,7 @@ use Rattle.p3_numbers.specs.declared.goal.Preference.{Preference}
 use Rattle.p3_numbers.specs.declared.goal.Goal.{Goal, Goal-F, Row_of-Goal, end_of-Goal, more_of-Goal, items-the_row-Goal, items_hidden-the_row-Goal-0}
 use Rattle.p3_numbers.specs.declared.goal.Goal.TheBlock.{hidden-the_row-Goal-0, hidden-the_row-Goal-1}
 use Rattle.p3_numbers.specs.declared.goal.Goal.TheVariants as goal
-use Rattle.p3_numbers.specs.declared.constraint.NumberedModal.{NumberedModal}
+use Rattle.p3_numbers.specs.NumberedModal.{NumberedModal}
 use Rattle.p3_numbers.specs.declared.constraint.NumberedConstraint.{NumberedConstraint, NumberedConstraint-F, Row_of-NumberedConstraint, end_of-NumberedConstraint, more_of-NumberedConstraint, items-the_row-NumberedConstraint, items_hidden-the_row-NumberedConstraint-0}
 use Rattle.p3_numbers.specs.declared.constraint.NumberedConstraint.TheBlock.{hidden-the_row-NumberedConstraint-0, hidden-the_row-NumberedConstraint-1}
 use Rattle.p3_numbers.specs.declared.constraint.NumberedConstraint.TheVariants as constraint

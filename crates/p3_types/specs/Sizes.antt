@@ -5,14 +5,14 @@ use Rattle.p3_numbers.specs.declared.condition.Condition.{Condition}
 use Rattle.p3_numbers.specs.declared.condition.Condition.TheOpen as condition
 use Rattle.p3_numbers.specs.declared.constraint.NumberedConstraint.{NumberedConstraint}
 use Rattle.p3_numbers.specs.declared.constraint.NumberedConstraint.TheOpen as constraint
-use Rattle.p3_numbers.specs.declared.constraint.NumberedModal.{NumberedModal}
-use Rattle.p3_numbers.specs.declared.constraint.NumberedModal.TheVariants as modal
+use Rattle.p3_numbers.specs.NumberedModal.{NumberedModal}
+use Rattle.p3_base.specs.Operators.{formulas_of}
 use Rattle.p3_numbers.specs.declared.effect.NumberedEffect.{NumberedEffect}
 use Rattle.p3_numbers.specs.declared.effect.NumberedEffect.TheOpen as effect
 use Rattle.p3_numbers.specs.declared.goal.Goal.{Goal}
 use Rattle.p3_numbers.specs.declared.goal.Goal.TheOpen as goal
 use Rattle.p3_numbers.specs.declared.numbers.Numbers.{Numbers}
-use Rattle.p3_types.specs.Cuts.{cut, cut_choices, cut_sum}
+use Rattle.p3_types.specs.Cuts.{cut, cut_choices, cut_sum, cut_total}
 
 -- a tree above one part, above two, and above one at each choice
 abbrev pub above : ℕ → ℕ
@@ -58,12 +58,7 @@ unfoldable pub goal_size : Numbers → Goal → ℕ
 goal_size N tree = fold_goal (goal_layer N) tree
 
 abbrev pub modal_size : Numbers → NumberedModal → ℕ
-modal_size N (modal.AtEnd f) = above (condition_size N f)
-modal_size N (modal.Always f) = above (condition_size N f)
-modal_size N (modal.Sometime f) = above (condition_size N f)
-modal_size N (modal.AtMostOnce f) = above (condition_size N f)
-modal_size N (modal.SometimeAfter f g) = above_two (condition_size N f) (condition_size N g)
-modal_size N (modal.SometimeBefore f g) = above_two (condition_size N f) (condition_size N g)
+modal_size N modal = cut_total (condition_size N) 1 (formulas_of modal)
 
 abbrev pub constraint_layer : Numbers → constraint.NumberedConstraint-F ℕ → ℕ
 constraint_layer N (constraint.Both parts) = cut_sum 1 parts

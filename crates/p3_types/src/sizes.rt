@@ -5,6 +5,7 @@ ghost use Rattle.p3_types.specs.Cuts.{cut_choices, cut_total};
 ghost use Rattle.p3_types.specs.Sizes as size;
 
 use crate::choices::{choice_count, cut_product, cut_sum};
+use p3_base::Operands;
 use p3_numbers::{Condition, Goal, NumberedConstraint, NumberedEffect, NumberedModal, Numbers};
 
 /// The size of a tree above one part.
@@ -136,16 +137,13 @@ fn pair_size(numbers: &Numbers, first: &Condition, second: &Condition) -> u64
 }
 
 /// The size of a modal operator.
+#[tactic(auto, using(p3_base::proofs::OperatorLaws::formulas_unary, p3_base::proofs::OperatorLaws::formulas_binary))]
 fn modal_size(numbers: &Numbers, operator: &NumberedModal) -> u64
     ensures { result ≡ size.modal_size numbers.now operator.now }
 {
-    match operator {
-        NumberedModal::AtEnd(condition) => above(condition_size(numbers, condition)),
-        NumberedModal::Always(condition) => above(condition_size(numbers, condition)),
-        NumberedModal::Sometime(condition) => above(condition_size(numbers, condition)),
-        NumberedModal::AtMostOnce(condition) => above(condition_size(numbers, condition)),
-        NumberedModal::SometimeAfter(first, second) => pair_size(numbers, first, second),
-        NumberedModal::SometimeBefore(first, second) => pair_size(numbers, first, second),
+    match operator.operands() {
+        Operands::One(_, condition) => above(condition_size(numbers, condition)),
+        Operands::Two(_, first, second) => pair_size(numbers, first, second),
     }
 }
 

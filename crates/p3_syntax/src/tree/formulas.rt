@@ -1,6 +1,6 @@
 //! Formulas.
 
-ghost use Rattle.std.specs.Prelude.{◌≡◌};
+ghost use Rattle.std.specs.Prelude.{◌≡◌, IsSome};
 ghost use Rattle.p3_tree.specs.Grammar.Words.{each_at};
 ghost use Rattle.p3_tree.specs.Grammar.Formulas.{formula_place, not_form, imply_form, exists_form, forall_form, equal_form};
 ghost use Rattle.p3_outline.specs.Nodes.{expression_of, expressions_of};
@@ -8,30 +8,31 @@ ghost use Rattle.p3_syntax.specs.Reading.{Gives};
 ghost use Rattle.p3_syntax.specs.Trees.{the_word, form_at, atom_by, formula_by};
 ghost use Rattle.p3_syntax.specs.Formulas.{two_formulas};
 
-use crate::error::Fault;
 use crate::tree::lists::{room_for, term, terms, variables};
 use crate::tree::parts::{headed, only, pair, parts};
-use crate::tree::tests::is;
-use crate::tree::words::{TextWord, predicate_word};
-use p3_base::{Boxed, List};
+use crate::tree::words::{TextWord, copied};
+use p3_base::{Boxed, List, NoMemory};
+use p3_lexer::is;
 use p3_outline::{Parts, View};
 use p3_tree::Formula;
 use std::alloc::Global;
 
 #[tactic(auto, using(crate::proofs::TreeLemmas::raws_listed))]
-fn atom_form(alloc: Global, word: TextWord<'_>, behind: Parts<'_, '_>) -> Result<Formula, Fault>
-    ensures { Gives (λ tree. tree) result (atom_by (the_word word.entry) behind.entry) }
+fn atom_form(alloc: Global, word: TextWord<'_>, behind: Parts<'_, '_>) -> Result<Formula, NoMemory>
+    requires tree { IsSome (atom_by (the_word word) behind) }
+    ensures { Gives result (atom_by (the_word word.entry) behind.entry) }
 {
-    let pred = predicate_word(alloc, word)?;
+    let pred = copied(alloc, word)?;
     let args = terms(alloc, behind)?;
     Ok(Formula::Atom { pred, args })
 }
 
 #[tactic(auto, using(crate::proofs::TreeLemmas::raws_listed))]
-fn equal_form(alloc: Global, behind: Parts<'_, '_>) -> Result<Formula, Fault>
-    ensures { Gives (λ tree. tree) result (form_at equal_form behind.entry) }
+fn equal_form(alloc: Global, behind: Parts<'_, '_>) -> Result<Formula, NoMemory>
+    requires tree { IsSome (form_at equal_form behind) }
+    ensures { Gives result (form_at equal_form behind.entry) }
 {
-    let (left, right) = pair(behind)?;
+    let (left, right) = pair(behind);
     let left = Boxed::new(alloc, term(alloc, left)?)?;
     let right = Boxed::new(alloc, term(alloc, right)?)?;
     Ok(Formula::Equal(left, right))
@@ -39,8 +40,9 @@ fn equal_form(alloc: Global, behind: Parts<'_, '_>) -> Result<Formula, Fault>
 
 /// The formulas of parts.
 #[cycle(formula)]
-fn formulas(alloc: Global, parts: Parts<'_, '_>) -> Result<List<Formula>, Fault>
-    ensures { Gives (λ trees. trees) result (each_at formula_place (expressions_of parts.entry)) }
+fn formulas(alloc: Global, parts: Parts<'_, '_>) -> Result<List<Formula>, NoMemory>
+    requires tree { IsSome (each_at formula_place (expressions_of parts)) }
+    ensures { Gives result (each_at formula_place (expressions_of parts.entry)) }
 {
     let mut left = parts;
     let mut found = room_for(alloc, parts)?;
@@ -52,19 +54,21 @@ fn formulas(alloc: Global, parts: Parts<'_, '_>) -> Result<List<Formula>, Fault>
 
 #[cycle(formula)]
 #[tactic(auto, using(crate::proofs::FormulaLemmas::not_listed))]
-fn not_form(alloc: Global, behind: Parts<'_, '_>) -> Result<Formula, Fault>
-    ensures { Gives (λ tree. tree) result (form_at not_form behind.entry) }
+fn not_form(alloc: Global, behind: Parts<'_, '_>) -> Result<Formula, NoMemory>
+    requires tree { IsSome (form_at not_form behind) }
+    ensures { Gives result (form_at not_form behind.entry) }
 {
-    let part = formula(alloc, only(behind)?)?;
+    let part = formula(alloc, only(behind))?;
     Ok(Formula::Not(Boxed::new(alloc, part)?))
 }
 
 #[cycle(formula)]
 #[tactic(auto, using(crate::proofs::FormulaLemmas::imply_listed))]
-fn imply_form(alloc: Global, behind: Parts<'_, '_>) -> Result<Formula, Fault>
-    ensures { Gives (λ tree. tree) result (form_at imply_form behind.entry) }
+fn imply_form(alloc: Global, behind: Parts<'_, '_>) -> Result<Formula, NoMemory>
+    requires tree { IsSome (form_at imply_form behind) }
+    ensures { Gives result (form_at imply_form behind.entry) }
 {
-    let (first, second) = pair(behind)?;
+    let (first, second) = pair(behind);
     let first = Boxed::new(alloc, formula(alloc, first)?)?;
     let second = Boxed::new(alloc, formula(alloc, second)?)?;
     Ok(Formula::Imply(first, second))
@@ -72,10 +76,11 @@ fn imply_form(alloc: Global, behind: Parts<'_, '_>) -> Result<Formula, Fault>
 
 #[cycle(formula)]
 #[tactic(auto, using(crate::proofs::FormulaLemmas::exists_listed))]
-fn exists_form(alloc: Global, behind: Parts<'_, '_>) -> Result<Formula, Fault>
-    ensures { Gives (λ tree. tree) result (form_at exists_form behind.entry) }
+fn exists_form(alloc: Global, behind: Parts<'_, '_>) -> Result<Formula, NoMemory>
+    requires tree { IsSome (form_at exists_form behind) }
+    ensures { Gives result (form_at exists_form behind.entry) }
 {
-    let (first, second) = pair(behind)?;
+    let (first, second) = pair(behind);
     let variables = variables(alloc, first)?;
     let body = formula(alloc, second)?;
     Ok(Formula::Exists(variables, Boxed::new(alloc, body)?))
@@ -83,10 +88,11 @@ fn exists_form(alloc: Global, behind: Parts<'_, '_>) -> Result<Formula, Fault>
 
 #[cycle(formula)]
 #[tactic(auto, using(crate::proofs::FormulaLemmas::forall_listed))]
-fn forall_form(alloc: Global, behind: Parts<'_, '_>) -> Result<Formula, Fault>
-    ensures { Gives (λ tree. tree) result (form_at forall_form behind.entry) }
+fn forall_form(alloc: Global, behind: Parts<'_, '_>) -> Result<Formula, NoMemory>
+    requires tree { IsSome (form_at forall_form behind) }
+    ensures { Gives result (form_at forall_form behind.entry) }
 {
-    let (first, second) = pair(behind)?;
+    let (first, second) = pair(behind);
     let variables = variables(alloc, first)?;
     let body = formula(alloc, second)?;
     Ok(Formula::Forall(variables, Boxed::new(alloc, body)?))
@@ -99,8 +105,9 @@ pub fn formula_by(
     alloc: Global,
     head: TextWord<'_>,
     behind: Parts<'_, '_>,
-) -> Result<Formula, Fault>
-    ensures { Gives (λ tree. tree) result (formula_by head.entry behind.entry) }
+) -> Result<Formula, NoMemory>
+    requires tree { IsSome (formula_by head behind) }
+    ensures { Gives result (formula_by head.entry behind.entry) }
 {
     let word = head.text;
     if is(word, b"and") {
@@ -125,18 +132,20 @@ pub fn formula_by(
 /// The formula that a view is.
 #[cycle(formula)]
 #[tactic(auto, using(crate::proofs::FormulaLemmas::formula_of_list))]
-pub fn formula(alloc: Global, view: View<'_, '_>) -> Result<Formula, Fault>
-    ensures { Gives (λ tree. tree) result (formula_place (expression_of view.entry)) }
+pub fn formula(alloc: Global, view: View<'_, '_>) -> Result<Formula, NoMemory>
+    requires tree { IsSome (formula_place (expression_of view)) }
+    ensures { Gives result (formula_place (expression_of view.entry)) }
 {
-    let list = headed(parts(view)?)?;
+    let list = headed(parts(view));
     formula_by(alloc, list.word, list.behind)
 }
 
 /// The two formulas of parts.
-pub fn two_formulas(alloc: Global, parts: Parts<'_, '_>) -> Result<(Formula, Formula), Fault>
-    ensures { Gives (λ both. both) result (two_formulas (expressions_of parts.entry)) }
+pub fn two_formulas(alloc: Global, parts: Parts<'_, '_>) -> Result<(Formula, Formula), NoMemory>
+    requires tree { IsSome (two_formulas (expressions_of parts)) }
+    ensures { Gives result (two_formulas (expressions_of parts.entry)) }
 {
-    let (first, second) = pair(parts)?;
+    let (first, second) = pair(parts);
     let first = formula(alloc, first)?;
     let second = formula(alloc, second)?;
     Ok((first, second))

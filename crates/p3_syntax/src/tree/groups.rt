@@ -1,12 +1,11 @@
 //! Lists of items with types: groups `item+ - type`, and then items without a type.
 
-ghost use Rattle.std.specs.Prelude.{◌≡◌, ◌<◌, length, None, IfSome};
+ghost use Rattle.std.specs.Prelude.{◌≡◌, ◌<◌, length, None, IfSome, IsSome};
 ghost use Rattle.p3_tree.specs.Grammar.Lists.{is_dash};
 ghost use Rattle.p3_outline.specs.Nodes.{expression_of, expressions_of};
-ghost use Rattle.p3_syntax.specs.Groups.{GivesFirst, GivesNext, IfFound, all_grouped, groups_left, groups_size, item_before, the_item};
+ghost use Rattle.p3_syntax.specs.Groups.{GivesFirst, GivesNext, all_grouped, groups_left, groups_size, item_before, the_item};
 
-use crate::error::Fault;
-use crate::tree::tests::is;
+use p3_lexer::is;
 use p3_outline::{Parts, View};
 
 /// An item, and its type where it has one.
@@ -41,13 +40,14 @@ fn is_dash(view: View<'_, '_>) -> bool
 }
 
 /// The first item, and the items behind it.
-fn first_item<'o, 'a>(parts: Parts<'o, 'a>) -> Result<Option<(View<'o, 'a>, Groups<'o, 'a>)>, Fault>
+fn first_item<'o, 'a>(parts: Parts<'o, 'a>) -> Option<(View<'o, 'a>, Groups<'o, 'a>)>
+    requires tree { IsSome (all_grouped (expressions_of parts)) }
     ensures items { GivesFirst result (all_grouped (expressions_of parts.entry)) }
-    ensures less { IfFound result (λ first. groups_size first.1 < length parts.entry.nodes.now) }
+    ensures less { IfSome result (λ first. groups_size first.1 < length parts.entry.nodes.now) }
 {
     let mut ahead = parts;
     let Some(first) = ahead.next() else {
-        return Ok(None);
+        return None;
     };
     let left = ahead;
     let mut count = 0;
@@ -55,7 +55,7 @@ fn first_item<'o, 'a>(parts: Parts<'o, 'a>) -> Result<Option<(View<'o, 'a>, Grou
         let behind = ahead;
         let Some(view) = ahead.next() else {
             let kind = None;
-            return Ok(Some((
+            return Some((
                 first,
                 Groups {
                     left,
@@ -63,14 +63,11 @@ fn first_item<'o, 'a>(parts: Parts<'o, 'a>) -> Result<Option<(View<'o, 'a>, Grou
                     kind,
                     behind,
                 },
-            )));
+            ));
         };
         if is_dash(view) {
-            let Some(kind) = ahead.next() else {
-                return Err(Fault::Malformed);
-            };
-            let (kind, behind) = (Some(kind), ahead);
-            return Ok(Some((
+            let (kind, behind) = (Some(ahead.next().unwrap()), ahead);
+            return Some((
                 first,
                 Groups {
                     left,
@@ -78,7 +75,7 @@ fn first_item<'o, 'a>(parts: Parts<'o, 'a>) -> Result<Option<(View<'o, 'a>, Grou
                     kind,
                     behind,
                 },
-            )));
+            ));
         }
         count += 1;
     }
@@ -99,12 +96,13 @@ impl<'o, 'a> Groups<'o, 'a> {
 
     /// The next item; None where none is left.
     #[expect(clippy::should_implement_trait)]
-    pub fn next(&mut self) -> Result<Option<TypedItem<'o, 'a>>, Fault>
+    pub fn next(&mut self) -> Option<TypedItem<'o, 'a>>
+        requires tree { IsSome (groups_left self.old) }
         ensures items { GivesNext result (groups_left self.old) self.new }
-        ensures less { IfFound result (λ item. groups_size self.new < groups_size self.old) }
+        ensures less { IfSome result (λ item. groups_size self.new < groups_size self.old) }
     {
         match self.next_of_group() {
-            Some(item) => Ok(Some(item)),
+            Some(item) => Some(item),
             None => self.next_group(),
         }
     }
@@ -128,16 +126,15 @@ impl<'o, 'a> Groups<'o, 'a> {
     }
 
     /// The first item of the next group.
-    fn next_group(&mut self) -> Result<Option<TypedItem<'o, 'a>>, Fault>
+    fn next_group(&mut self) -> Option<TypedItem<'o, 'a>>
+        requires tree { IsSome (all_grouped (expressions_of self.old.behind)) }
         ensures items { GivesNext result (all_grouped (expressions_of self.old.behind)) self.new }
-        ensures less { IfFound result (λ item.
+        ensures less { IfSome result (λ item.
             groups_size self.new < length self.old.behind.nodes.now) }
     {
-        let Some((item, groups)) = first_item(self.behind)? else {
-            return Ok(None);
-        };
+        let (item, groups) = first_item(self.behind)?;
         *self = groups;
         let kind = groups.kind;
-        Ok(Some(TypedItem { item, kind }))
+        Some(TypedItem { item, kind })
     }
 }

@@ -1,19 +1,16 @@
 //! Numbers.
 
-ghost use Rattle.std.specs.Prelude.{◌≡◌, ◌<◌, ◌^◌, false, fold, length, Some, None, MatchOption, IfErr};
+ghost use Rattle.std.specs.Prelude.{◌≡◌, ◌<◌, ◌^◌, true, fold, length, is_ok, IsSome, Some, None, MatchOption, IfSome};
 ghost use Rattle.std.specs.Option.{SomeIff};
 ghost use Rattle.std.specs.Str.{str_to_ascii_lowercase};
-ghost use Rattle.std.specs.List.{list_all};
-ghost use Rattle.p3_base.specs.Words.{is_digit};
-ghost use Rattle.p3_tree.specs.Decimals.{are_digits, at_point, is_decimal, digits_of, places_of};
+ghost use Rattle.p3_tree.specs.Decimals.{at_point, is_decimal, digits_of, places_of};
 ghost use Rattle.p3_tree.specs.Grammar.Words.{numeral_place};
 ghost use Rattle.p3_tree.specs.declared.expression.Expression.TheVariants.{Word};
-ghost use Rattle.p3_syntax.specs.declared.error.Fault.TheVariants.{Malformed};
 ghost use Rattle.p3_outline.specs.Nodes.{expression_of};
 ghost use Rattle.p3_syntax.specs.Reading.{Gives};
 ghost use Rattle.p3_syntax.specs.Trees.{HasRoom, HasRoomAt, HasRoomFor, IsDecimalOf, decimal_value, numeral_with, with_digit};
 
-use crate::error::Fault;
+use p3_base::NoMemory;
 use p3_outline::View;
 use p3_tree::Numeral;
 
@@ -31,21 +28,6 @@ fn at_point(word: &[u8]) -> (&[u8], Option<&[u8]>)
     (word, None)
 }
 
-fn are_all_digits(text: &[u8]) -> bool
-    ensures { result ≡ list_all is_digit text.now }
-{
-    text.iter().all(|byte| *byte >= b'0' && *byte <= b'9')
-}
-
-fn are_digits(text: &[u8]) -> bool
-    ensures { result ≡ are_digits text.now }
-{
-    match text {
-        [] => false,
-        [_, ..] => are_all_digits(text),
-    }
-}
-
 /// A number before its value is known.
 #[derive(Clone, Copy)]
 struct Decimal<'a> {
@@ -56,18 +38,14 @@ struct Decimal<'a> {
 }
 
 /// The digits of a word that is a number.
-fn digits_of(word: &[u8]) -> Option<Decimal<'_>>
-    ensures { MatchOption result (is_decimal word.now ≡ false) (λ decimal.
-        IsDecimalOf decimal word.now) }
+fn digits_of(word: &[u8]) -> Decimal<'_>
+    requires number { is_decimal word.now ≡ true }
+    ensures { IsDecimalOf result word.now }
 {
     let (whole, places) = at_point(word);
-    if !are_digits(whole) {
-        return None;
-    }
     match places {
-        None => Some(Decimal { whole, places: &[] }),
-        Some(places) if are_digits(places) => Some(Decimal { whole, places }),
-        Some(_) => None,
+        None => Decimal { whole, places: &[] },
+        Some(places) => Decimal { whole, places },
     }
 }
 
@@ -119,30 +97,24 @@ fn numeral_of(text: &[u8], at: u32, decimal: Decimal<'_>) -> Option<Numeral>
 }
 
 /// The number that a word is.
-fn numeral_word(text: &[u8], at: u32) -> Result<Numeral, Fault>
-    ensures numeral { Gives (λ numeral. numeral) result
-        (numeral_place (Word at (str_to_ascii_lowercase text.now))) }
-    ensures room { HasRoom (str_to_ascii_lowercase text.now)
-        → IfErr result (λ fault. fault ≡ Malformed) }
+fn numeral_word(text: &[u8], at: u32) -> Option<Numeral>
+    requires tree { IsSome (numeral_place (Word at (str_to_ascii_lowercase text.now))) }
+    ensures numeral { IfSome result (λ numeral.
+        numeral_place (Word at (str_to_ascii_lowercase text.now)) ≡ Some numeral) }
+    ensures room { HasRoom (str_to_ascii_lowercase text.now) → IsSome result }
 {
-    let Some(decimal) = digits_of(text) else {
-        return Err(Fault::Malformed);
-    };
-    match numeral_of(text, at, decimal) {
-        Some(numeral) => Ok(numeral),
-        None => Err(Fault::NoMemory),
-    }
+    numeral_of(text, at, digits_of(text))
 }
 
 /// A number. One that does not fit in a `u64` finds no room.
-pub fn numeral(view: View<'_, '_>) -> Result<Numeral, Fault>
-    ensures numeral { Gives (λ numeral. numeral) result (numeral_place (expression_of view.entry)) }
+pub fn numeral(view: View<'_, '_>) -> Result<Numeral, NoMemory>
+    requires tree { IsSome (numeral_place (expression_of view)) }
+    ensures numeral { Gives result (numeral_place (expression_of view.entry)) }
     // Every other number is read.
-    ensures room { HasRoomAt (expression_of view.entry)
-        → IfErr result (λ fault. fault ≡ Malformed) }
+    ensures room { HasRoomAt (expression_of view.entry) → is_ok result ≡ true }
 {
-    match view.word() {
-        Some(text) => numeral_word(text, view.offset()),
-        None => Err(Fault::Malformed),
+    match numeral_word(view.word().unwrap(), view.offset()) {
+        Some(numeral) => Ok(numeral),
+        None => Err(NoMemory),
     }
 }

@@ -1,52 +1,42 @@
 //! The parts of lists.
 
-ghost use Rattle.std.specs.Prelude.{◌≡◌, ◌<◌, ◌≤◌, length, IfOk};
+ghost use Rattle.std.specs.Prelude.{◌≡◌, ◌<◌, ◌≤◌, length, IsSome, Some};
 ghost use Rattle.p3_tree.specs.Grammar.Words.{parts_place, only, pair, headed};
 ghost use Rattle.p3_outline.specs.Nodes.{expression_of, expressions_of};
-ghost use Rattle.p3_syntax.specs.Reading.{Gives};
 ghost use Rattle.p3_syntax.specs.Trees.{the_pair, the_head};
 
-use crate::error::Fault;
 use crate::tree::words::{TextWord, word};
 use p3_outline::{Parts, View};
 
 /// The parts of a list.
-#[tactic(auto, using(crate::proofs::TreeLemmas::no_parts, crate::proofs::TreeLemmas::list_parts))]
-pub fn parts<'o, 'a>(view: View<'o, 'a>) -> Result<Parts<'o, 'a>, Fault>
-    ensures parts { Gives expressions_of result (parts_place (expression_of view.entry)) }
-    ensures less { IfOk result (λ parts. length parts.nodes.now ≤ length view.entry.below.now) }
+#[tactic(auto, using(crate::proofs::TreeLemmas::has_parts))]
+pub fn parts<'o, 'a>(view: View<'o, 'a>) -> Parts<'o, 'a>
+    requires tree { IsSome (parts_place (expression_of view)) }
+    ensures parts { parts_place (expression_of view.entry) ≡ Some (expressions_of result) }
+    ensures less { length result.nodes.now ≤ length view.entry.below.now }
 {
-    match view.word() {
-        Some(_) => Err(Fault::Malformed),
-        None => Ok(view.parts()),
-    }
+    view.parts()
 }
 
 /// The one part.
-pub fn only<'o, 'a>(mut parts: Parts<'o, 'a>) -> Result<View<'o, 'a>, Fault>
-    ensures only { Gives expression_of result (only (expressions_of parts.entry)) }
-    ensures less { IfOk result (λ view. length view.below.now < length parts.entry.nodes.now) }
+pub fn only<'o, 'a>(mut parts: Parts<'o, 'a>) -> View<'o, 'a>
+    requires tree { IsSome (only (expressions_of parts)) }
+    ensures only { only (expressions_of parts.entry) ≡ Some (expression_of result) }
+    ensures less { length result.below.now < length parts.entry.nodes.now }
 {
-    let Some(view) = parts.next() else {
-        return Err(Fault::Malformed);
-    };
-    match parts.next() {
-        None => Ok(view),
-        Some(_) => Err(Fault::Malformed),
-    }
+    parts.next().unwrap()
 }
 
 /// The two parts.
-pub fn pair<'o, 'a>(mut parts: Parts<'o, 'a>) -> Result<(View<'o, 'a>, View<'o, 'a>), Fault>
-    ensures pair { Gives the_pair result (pair (expressions_of parts.entry)) }
-    ensures first { IfOk result (λ both. length both.0.below.now < length parts.entry.nodes.now) }
-    ensures second { IfOk result (λ both. length both.1.below.now < length parts.entry.nodes.now) }
+pub fn pair<'o, 'a>(mut parts: Parts<'o, 'a>) -> (View<'o, 'a>, View<'o, 'a>)
+    requires tree { IsSome (pair (expressions_of parts)) }
+    ensures pair { pair (expressions_of parts.entry) ≡ Some (the_pair result) }
+    ensures first { length result.0.below.now < length parts.entry.nodes.now }
+    ensures second { length result.1.below.now < length parts.entry.nodes.now }
 {
-    let Some(first) = parts.next() else {
-        return Err(Fault::Malformed);
-    };
-    let second = only(parts)?;
-    Ok((first, second))
+    let first = parts.next().unwrap();
+    let second = parts.next().unwrap();
+    (first, second)
 }
 
 /// A list that begins with a word.
@@ -59,15 +49,12 @@ pub struct HeadedParts<'o, 'a> {
 }
 
 /// The word at the head, and what stands behind it.
-pub fn headed<'o, 'a>(parts: Parts<'o, 'a>) -> Result<HeadedParts<'o, 'a>, Fault>
-    ensures headed { Gives the_head result (headed (λ e. e) (expressions_of parts.entry)) }
-    ensures less { IfOk result (λ list.
-        length list.behind.nodes.now < length parts.entry.nodes.now) }
+pub fn headed<'o, 'a>(parts: Parts<'o, 'a>) -> HeadedParts<'o, 'a>
+    requires tree { IsSome (headed (λ e. e) (expressions_of parts)) }
+    ensures headed { headed (λ e. e) (expressions_of parts.entry) ≡ Some (the_head result) }
+    ensures less { length result.behind.nodes.now < length parts.entry.nodes.now }
 {
     let mut behind = parts;
-    let Some(first) = behind.next() else {
-        return Err(Fault::Malformed);
-    };
-    let word = word(first)?;
-    Ok(HeadedParts { word, behind })
+    let word = word(behind.next().unwrap());
+    HeadedParts { word, behind }
 }

@@ -1,14 +1,11 @@
 //! Words at their places.
 
-ghost use Rattle.std.specs.Prelude.{◌≡◌, IfOk};
-ghost use Rattle.std.specs.Str.{str_to_ascii_lowercase};
-ghost use Rattle.p3_tree.specs.Grammar.Words.{word_place, name_place, variable_place, function_place, predicate_place, is_word};
+ghost use Rattle.std.specs.Prelude.{◌≡◌, IfOk, IsSome, Some};
+ghost use Rattle.p3_tree.specs.Grammar.Words.{word_place};
 ghost use Rattle.p3_outline.specs.Nodes.{expression_of};
 ghost use Rattle.p3_syntax.specs.Reading.{Gives};
-ghost use Rattle.p3_syntax.specs.Trees.{the_word, expression_at};
+ghost use Rattle.p3_syntax.specs.Trees.{the_word};
 
-use crate::error::Fault;
-use crate::tree::tests::{is, is_function_name, is_name, is_predicate_name, is_variable};
 use p3_base::{Name, NoMemory};
 use p3_outline::View;
 use p3_tree::Ref;
@@ -24,28 +21,13 @@ pub struct TextWord<'a> {
 }
 
 /// The word that a view is.
-pub fn word<'a>(view: View<'_, 'a>) -> Result<TextWord<'a>, Fault>
-    ensures { Gives the_word result (word_place (expression_of view.entry)) }
+pub fn word<'a>(view: View<'_, 'a>) -> TextWord<'a>
+    requires tree { IsSome (word_place (expression_of view)) }
+    ensures { word_place (expression_of view.entry) ≡ Some (the_word result) }
 {
-    match view.word() {
-        Some(text) => Ok(TextWord {
-            text,
-            at: view.offset(),
-        }),
-        None => Err(Fault::Malformed),
-    }
-}
-
-/// The word that a view is, where it is the text.
-pub fn keyword<'a>(view: View<'_, 'a>, text: &[u8]) -> Result<TextWord<'a>, Fault>
-    requires { str_to_ascii_lowercase text.now ≡ text.now }
-    ensures { Gives the_word result (is_word text.now (expression_of view.entry)) }
-{
-    let word = word(view)?;
-    if is(word.text, text) {
-        Ok(word)
-    } else {
-        Err(Fault::Malformed)
+    TextWord {
+        text: view.word().unwrap(),
+        at: view.offset(),
     }
 }
 
@@ -59,56 +41,10 @@ pub fn copied(alloc: Global, word: TextWord<'_>) -> Result<Ref, NoMemory>
     })
 }
 
-/// A name.
-pub fn name(alloc: Global, view: View<'_, '_>) -> Result<Ref, Fault>
-    ensures { Gives (λ name. name) result (name_place (expression_of view.entry)) }
+/// Reads the word that a view is, as a name, a variable or whatever else stands there.
+pub fn name(alloc: Global, view: View<'_, '_>) -> Result<Ref, NoMemory>
+    requires tree { IsSome (word_place (expression_of view)) }
+    ensures { Gives result (word_place (expression_of view.entry)) }
 {
-    let word = word(view)?;
-    if is_name(word.text) {
-        Ok(copied(alloc, word)?)
-    } else {
-        Err(Fault::Malformed)
-    }
-}
-
-/// A variable.
-pub fn variable(alloc: Global, view: View<'_, '_>) -> Result<Ref, Fault>
-    ensures { Gives (λ name. name) result (variable_place (expression_of view.entry)) }
-{
-    let word = word(view)?;
-    if is_variable(word.text) {
-        Ok(copied(alloc, word)?)
-    } else {
-        Err(Fault::Malformed)
-    }
-}
-
-/// The name of a function.
-pub fn function(alloc: Global, view: View<'_, '_>) -> Result<Ref, Fault>
-    ensures { Gives (λ name. name) result (function_place (expression_of view.entry)) }
-{
-    let word = word(view)?;
-    if is_function_name(word.text) {
-        Ok(copied(alloc, word)?)
-    } else {
-        Err(Fault::Malformed)
-    }
-}
-
-/// Reads the name of a predicate that a word is.
-pub fn predicate_word(alloc: Global, word: TextWord<'_>) -> Result<Ref, Fault>
-    ensures { Gives (λ name. name) result (predicate_place (expression_at word.entry)) }
-{
-    if is_predicate_name(word.text) {
-        Ok(copied(alloc, word)?)
-    } else {
-        Err(Fault::Malformed)
-    }
-}
-
-/// The name of a predicate.
-pub fn predicate(alloc: Global, view: View<'_, '_>) -> Result<Ref, Fault>
-    ensures { Gives (λ name. name) result (predicate_place (expression_of view.entry)) }
-{
-    predicate_word(alloc, word(view)?)
+    copied(alloc, word(view))
 }

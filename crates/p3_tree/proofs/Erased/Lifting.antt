@@ -1,5 +1,5 @@
 -- Plain tasks, tasks without variables, steps and lifting are the same without offsets.
-use Rattle.std.proofs.Common.{◌≡◌, ℕ, refl, ap, Bool, not, ◌&&◌, List, [], ◌∷◌, map, Option, None, Some, eqb}
+use Rattle.std.proofs.Common.{◌≡◌, ◌∙◌, ℕ, refl, ap, Bool, not, ◌&&◌, List, [], ◌∷◌, map, Option, None, Some, eqb}
 use Rattle.std.specs.Prelude.{filter_map, find, option_map}
 use Rattle.std.specs.List.{list_any, list_all, enumerate_from}
 use Rattle.p3_base.specs.declared.refusal.Direction.{Direction}
@@ -18,8 +18,8 @@ use Rattle.p3_tree.specs.declared.effect.Effect.{Effect, Effect-F}
 use Rattle.p3_tree.specs.declared.effect.Effect.TheOpen as effect
 use Rattle.p3_tree.specs.declared.goal.PreGoal.{PreGoal, PreGoal-F}
 use Rattle.p3_tree.specs.declared.goal.PreGoal.TheOpen as goal
-use Rattle.p3_tree.specs.declared.constraint.Modal.{Modal}
-use Rattle.p3_tree.specs.declared.constraint.Modal.TheVariants as modal
+use Rattle.p3_tree.specs.Modal.{Modal}
+use Rattle.p3_base.proofs.OperatorLaws.{joined_over, joined_same}
 use Rattle.p3_tree.specs.declared.constraint.Constraint.{Constraint, Constraint-F}
 use Rattle.p3_tree.specs.declared.constraint.Constraint.TheOpen as constraint
 use Rattle.p3_tree.specs.declared.metric.Metric.{Metric}
@@ -112,12 +112,7 @@ unfolding is_goal_variable_free
 is_goal_variable_free-erased g = fold_goal-erased goal_layer goal_layer itself goal_layer-erased g
 
 is_modal_variable_free-erased : (m : Modal) → is_modal_variable_free (erased_modal m) ≡ is_modal_variable_free m
-is_modal_variable_free-erased (modal.AtEnd f) = is_formula_variable_free-erased f
-is_modal_variable_free-erased (modal.Always f) = is_formula_variable_free-erased f
-is_modal_variable_free-erased (modal.Sometime f) = is_formula_variable_free-erased f
-is_modal_variable_free-erased (modal.AtMostOnce f) = is_formula_variable_free-erased f
-is_modal_variable_free-erased (modal.SometimeAfter f g) = λ i. is_formula_variable_free-erased f i && is_formula_variable_free-erased g i
-is_modal_variable_free-erased (modal.SometimeBefore f g) = λ i. is_formula_variable_free-erased f i && is_formula_variable_free-erased g i
+is_modal_variable_free-erased m = joined_over erased_formula ◌&&◌ is_formula_variable_free m ∙ joined_same ◌&&◌ _ is_formula_variable_free is_formula_variable_free-erased m
 
 constraint_layer-erased : (x : Constraint-F Bool) → constraint_layer (erased_constraint_layer itself x) ≡ constraint_layer x
 constraint_layer-erased (constraint.Both parts) = all_parts parts

@@ -22,8 +22,9 @@ use Rattle.p3_tree.specs.declared.effect.Effect.{Effect, Effect-F}
 use Rattle.p3_tree.specs.declared.effect.Effect.TheOpen as effect
 use Rattle.p3_tree.specs.declared.goal.PreGoal.{PreGoal, PreGoal-F}
 use Rattle.p3_tree.specs.declared.goal.PreGoal.TheOpen as goal
-use Rattle.p3_tree.specs.declared.constraint.Modal.{Modal}
-use Rattle.p3_tree.specs.declared.constraint.Modal.TheVariants as modal
+use Rattle.p3_tree.specs.Modal.{Modal}
+use Rattle.p3_base.proofs.OperatorLaws.{formulas_over}
+use Rattle.p3_base.specs.Operators.{formulas_of}
 use Rattle.p3_tree.specs.declared.constraint.Constraint.{Constraint, Constraint-F}
 use Rattle.p3_tree.specs.declared.constraint.Constraint.TheOpen as constraint
 use Rattle.p3_tree.specs.declared.metric.Num.{Num}
@@ -75,12 +76,10 @@ module _ (T : Task) where
   goal_size-erased g = fold_goal-erased (goal_layer T) (goal_layer (erased T)) itself goal_layer-erased g
 
   modal_size-erased : (m : Modal) → modal_size (erased T) (erased_modal m) ≡ modal_size T m
-  modal_size-erased (modal.AtEnd f) = ap (λ size. 1 + size) (formula_size-erased f)
-  modal_size-erased (modal.Always f) = ap (λ size. 1 + size) (formula_size-erased f)
-  modal_size-erased (modal.Sometime f) = ap (λ size. 1 + size) (formula_size-erased f)
-  modal_size-erased (modal.AtMostOnce f) = ap (λ size. 1 + size) (formula_size-erased f)
-  modal_size-erased (modal.SometimeAfter f g) = λ i. 1 + formula_size-erased f i + formula_size-erased g i
-  modal_size-erased (modal.SometimeBefore f g) = λ i. 1 + formula_size-erased f i + formula_size-erased g i
+  modal_size-erased m = ap (fold grown 1) (formulas_over erased_formula m) ∙ fold_along erased_formula grown (λ size formula. size + formula_size T formula) (λ size formula. ap (λ more. size + more) (formula_size-erased formula)) 1 (formulas_of m)
+    where
+      grown : ℕ → Formula → ℕ
+      grown size formula = size + formula_size (erased T) formula
 
   constraint_layer-erased : (x : Constraint-F ℕ) → constraint_layer (erased T) (erased_constraint_layer itself x) ≡ constraint_layer T x
   constraint_layer-erased (constraint.Both parts) = sum_of_parts parts

@@ -12,8 +12,7 @@ use Rattle.p3_tree.specs.Effects.{adds, adds_layer, dels, dels_layer, next}
 use Rattle.p3_tree.specs.Goals.{hard_holds, hard_layer, StatePref, named, prefs, prefs_layer}
 use Rattle.p3_tree.specs.Costs.{increases, increases_layer, amount_numeral, value_numeral, amount_numerals, value_numerals, most_places, cost_places, cost_units, entry_value, given_value, amount_value, total, effect_cost}
 use Rattle.p3_tree.specs.Plans.{state_at}
-use Rattle.p3_base.specs.Trajectories as operator
-use Rattle.p3_tree.specs.Constraints.{satisfies, sat, sat_layer, HardModal, hard_modals, hard_modals_layer, hard_list, operators, operators_layer, Instance, instances_of, instances_of_all, instances_of_one, one_constraint, at_end, instances}
+use Rattle.p3_tree.specs.Constraints.{holds_at, satisfies, sat, sat_layer, HardModal, hard_modals, hard_modals_layer, hard_list, operators, operators_layer, Instance, instances_of, instances_of_all, instances_of_one, one_constraint, at_end, instances}
 use Rattle.p3_tree.specs.Erased.{erased_ref, erased_numeral, erased_amount, erased_init, erased_action, erased_formula, erased_effect, erased_goal, erased_modal, erased_constraint, erased_constraints, erased, erased_state_pref, erased_hard_modal, erased_instance}
 use Rattle.p3_tree.proofs.Erased.Along.{any_along, all_along, map_along, flat_map_along, filter_map_along, flat_map_into, filter_map_into, flat_map_images}
 use Rattle.p3_tree.proofs.Erased.Folds.{erased_formula_layer, fold_formula-erased, erased_effect_layer, fold_effect-erased, erased_goal_layer, fold_goal-erased, erased_constraint_layer, fold_constraint-erased}
@@ -29,8 +28,9 @@ use Rattle.p3_tree.specs.declared.effect.Effect.{Effect, Effect-F}
 use Rattle.p3_tree.specs.declared.effect.Effect.TheOpen as effect
 use Rattle.p3_tree.specs.declared.goal.PreGoal.{PreGoal, PreGoal-F}
 use Rattle.p3_tree.specs.declared.goal.PreGoal.TheOpen as goal
-use Rattle.p3_tree.specs.declared.constraint.Modal.{Modal}
-use Rattle.p3_tree.specs.declared.constraint.Modal.TheVariants as modal
+use Rattle.p3_tree.specs.Modal.{Modal}
+use Rattle.p3_base.proofs.OperatorLaws.{over_over, over_same}
+use Rattle.p3_base.specs.Operators.{is_satisfied}
 use Rattle.p3_tree.specs.declared.constraint.Constraint.{Constraint, Constraint-F, Row_of-Constraint, end_of-Constraint, more_of-Constraint}
 use Rattle.p3_tree.specs.declared.constraint.Constraint.TheVariants as tree
 use Rattle.p3_tree.specs.declared.constraint.Constraint.TheOpen as constraint
@@ -181,12 +181,7 @@ module _ (T : Task) where
   module _ (W : List State) where
     pub satisfies-erased : (env : Environment) (m : Modal) → satisfies (erased T) W env (erased_modal m) ≡ satisfies T W env m
     unfolding satisfies
-    satisfies-erased env (modal.AtEnd f) = holds-erased T _ env f
-    satisfies-erased env (modal.Always f) = λ i. operator.always (length W) (λ k. holds-erased T (state_at W k) env f i)
-    satisfies-erased env (modal.Sometime f) = λ i. operator.sometime (length W) (λ k. holds-erased T (state_at W k) env f i)
-    satisfies-erased env (modal.AtMostOnce f) = λ i. operator.at_most_once (length W) (λ k. holds-erased T (state_at W k) env f i)
-    satisfies-erased env (modal.SometimeAfter f g) = λ i. operator.sometime_after (length W) (λ k. holds-erased T (state_at W k) env f i) (λ k. holds-erased T (state_at W k) env g i)
-    satisfies-erased env (modal.SometimeBefore f g) = λ i. operator.sometime_before (length W) (λ k. holds-erased T (state_at W k) env f i) (λ k. holds-erased T (state_at W k) env g i)
+    satisfies-erased env m = λ i. is_satisfied (length W) ((over_over erased_formula (holds_at (erased T) W env) m ∙ over_same _ (holds_at T W env) (λ f i k. holds-erased T (state_at W k) env f i) m) i)
 
     sat_layer-erased : (x : Constraint-F (Environment → Bool)) → sat_layer (erased T) W (erased_constraint_layer same x) ≡ sat_layer T W x
     sat_layer-erased (constraint.Both parts) = λ i env. all_along same (λ part. part env) (λ part. part env) (λ part. refl) parts i

@@ -17,8 +17,8 @@ use Rattle.p3_tree.specs.declared.effect.Effect.{Effect, Effect-F}
 use Rattle.p3_tree.specs.declared.effect.Effect.TheOpen as effect
 use Rattle.p3_tree.specs.declared.goal.PreGoal.{PreGoal, PreGoal-F}
 use Rattle.p3_tree.specs.declared.goal.PreGoal.TheOpen as goal
-use Rattle.p3_tree.specs.declared.constraint.Modal.{Modal}
-use Rattle.p3_tree.specs.declared.constraint.Modal.TheVariants as modal
+use Rattle.p3_tree.specs.Modal.{Modal}
+use Rattle.p3_base.proofs.OperatorLaws.{joined_image, joined_over}
 use Rattle.p3_tree.specs.declared.constraint.Constraint.{Constraint, Constraint-F}
 use Rattle.p3_tree.specs.declared.constraint.Constraint.TheOpen as constraint
 use Rattle.p3_tree.specs.declared.metric.Metric.{Metric}
@@ -90,16 +90,8 @@ goal_uses-erased : (g : PreGoal) → goal_uses (erased_goal g) ≡ erased_found 
 unfolding goal_uses
 goal_uses-erased g = fold_goal-erased goal_layer goal_layer erased_found goal_layer-erased g
 
-two_formulas : (f g : Formula) (scope : Scope) → formula_uses (erased_formula f) scope ++ formula_uses (erased_formula g) scope ≡ map erased_use (formula_uses f scope ++ formula_uses g scope)
-two_formulas f g scope = both_found _ _ (formula_uses f scope) (formula_uses g scope) (λ j. formula_uses-erased f j scope) (λ j. formula_uses-erased g j scope)
-
 modal_uses-erased : (m : Modal) (scope : Scope) → modal_uses (erased_modal m) scope ≡ map erased_use (modal_uses m scope)
-modal_uses-erased (modal.AtEnd f) scope = λ i. formula_uses-erased f i scope
-modal_uses-erased (modal.Always f) scope = λ i. formula_uses-erased f i scope
-modal_uses-erased (modal.Sometime f) scope = λ i. formula_uses-erased f i scope
-modal_uses-erased (modal.AtMostOnce f) scope = λ i. formula_uses-erased f i scope
-modal_uses-erased (modal.SometimeAfter f g) scope = two_formulas f g scope
-modal_uses-erased (modal.SometimeBefore f g) scope = two_formulas f g scope
+modal_uses-erased m scope = joined_over erased_formula ◌++◌ (λ formula. formula_uses formula scope) m ∙ joined_image (map erased_use) ◌++◌ ◌++◌ (λ first second. sym (map-append erased_use first second)) _ (λ formula. formula_uses formula scope) (λ formula i. formula_uses-erased formula i scope) m
 
 constraint_layer-erased : (x : Constraint-F Found) → constraint_layer (erased_constraint_layer erased_found x) ≡ erased_found (constraint_layer x)
 constraint_layer-erased (constraint.Both parts) = λ i scope. parts_found parts scope i

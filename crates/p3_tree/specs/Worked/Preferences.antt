@@ -8,7 +8,7 @@ use Rattle.p3_tree.specs.Lifting.{steps}
 use Rattle.p3_tree.specs.Worked.Build.{part, atom, add, soft, soft_constraint, metric, count, weighted, numeral, kind, header, predicates, action, typed, bare_steps, no_goal, empty_domain, empty_problem}
 use Rattle.p3_tree.specs.declared.formula.Formula.TheVariants.{Forall, Not}
 use Rattle.p3_tree.specs.declared.goal.PreGoal.TheVariants as goal
-use Rattle.p3_tree.specs.declared.constraint.Modal.TheVariants.{Always}
+use Rattle.p3_base.specs.declared.operator.Operator.TheVariants.{Always}
 use Rattle.p3_tree.specs.declared.constraint.Constraint.TheVariants as constraint
 use Rattle.p3_tree.specs.declared.metric.Num.TheVariants as num
 use Rattle.p3_tree.specs.declared.task.Task.{Task}

@@ -7,7 +7,7 @@ use Rattle.p3_tree.specs.Validity.{Valid}
 use Rattle.p3_tree.specs.Metrics.{violated, value}
 use Rattle.p3_tree.specs.Worked.Build.{part, atom, add, del, soft_constraint, metric, count, predicates, action, facts, bare_steps, no_goal, empty_domain, empty_problem}
 use Rattle.p3_tree.specs.declared.effect.Effect.TheVariants as effect
-use Rattle.p3_tree.specs.declared.constraint.Modal.TheVariants.{AtMostOnce, SometimeAfter, SometimeBefore}
+use Rattle.p3_base.specs.declared.operator.Operator.TheVariants.{AtMostOnce, SometimeAfter, SometimeBefore}
 use Rattle.p3_tree.specs.declared.constraint.Constraint.TheVariants as constraint
 use Rattle.p3_tree.specs.declared.task.Init.{Init}
 use Rattle.p3_tree.specs.declared.task.Task.{Task}

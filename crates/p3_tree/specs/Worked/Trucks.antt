@@ -13,7 +13,7 @@ use Rattle.p3_tree.specs.declared.formula.Formula.TheVariants as formula
 use Rattle.p3_tree.specs.declared.effect.Numeral.{Numeral}
 use Rattle.p3_tree.specs.declared.effect.Effect.TheVariants as effect
 use Rattle.p3_tree.specs.declared.goal.PreGoal.TheVariants as goal
-use Rattle.p3_tree.specs.declared.constraint.Modal.TheVariants.{Always, AtMostOnce, SometimeBefore}
+use Rattle.p3_base.specs.declared.operator.Operator.TheVariants.{Always, AtMostOnce, SometimeBefore}
 use Rattle.p3_tree.specs.declared.constraint.Constraint.TheVariants as constraint
 use Rattle.p3_tree.specs.declared.metric.Num.TheVariants as num
 use Rattle.p3_tree.specs.declared.task.Action.{Action}

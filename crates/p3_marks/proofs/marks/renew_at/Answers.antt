@@ -1,6 +1,6 @@
 use Rattle.std.proofs.Common.{◌∙◌, length, sym, ap, subst}
 use Rattle.p3_formula.specs.Modals.{IsModalBelow}
-use Rattle.p3_formula.specs.declared.modal.GroundModal.{GroundModal}
+use Rattle.p3_formula.specs.GroundModal.{GroundModal}
 use Rattle.p3_marks.specs.Marked.{CanMark, put_renewed}
 use Rattle.p3_marks.proofs.FollowLaws.{can_still, reader_below}
 use Rattle.p3_marks.proofs.marks.renew_at.Goals as goal

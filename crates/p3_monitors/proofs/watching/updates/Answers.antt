@@ -1,6 +1,6 @@
 use Rattle.std.proofs.Common.{subst, sym}
 use Rattle.p3_formula.specs.Modals.{IsModalBelow}
-use Rattle.p3_formula.specs.declared.modal.GroundModal.TheVariants.{AtEnd, Always, Sometime, AtMostOnce, SometimeAfter, SometimeBefore}
+use Rattle.p3_base.specs.declared.operator.Operator.TheVariants.{AtEnd, Always, Sometime, AtMostOnce, SometimeAfter, SometimeBefore}
 use Rattle.p3_monitors.specs.Updates.{IsUpdate, always, sometime, at_most_once, sometime_after, sometime_before}
 use Rattle.p3_monitors.proofs.UpdateLaws as laws
 use Rattle.p3_monitors.proofs.watching.updates.Goals as goal

@@ -10,7 +10,7 @@ all_in-loop-part-preserved-in-Some-word_of t c =
       less = omega (arith, c.in-Some.ensures.less, c.loop-part.invariant.less);
       finds = λ names innermost place.
           word_next names innermost c.loop-part.least c.least_if-least.result (expression_of c.in-Some.part) (expressions_of c.next.new.self) (expressions_of c.loop-part.left) c.in-Some.ensures.parts
-          c.is.result (the_word c.in-Some-word_of.word) c.in-Some-word_of.ensures.word c.is.ensures c.least_if-least.ensures
+          c.is_called.result (the_word c.in-Some-word_of.word) c.in-Some-word_of.ensures.word c.is_called.ensures c.least_if-least.ensures
           ∙ c.loop-part.invariant.finds names innermost place;
     }
 
@@ -47,4 +47,4 @@ below-returns-then-is_plain t c =
 pub below-returns-else-is_plain : goal.below-returns-else-is_plain
 below-returns-else-is_plain t c =
     below_head c.args.around c.with_head.result c.args.least c.all_in-in-Some-word_of.result (expression_of c.in-Some.first) (expressions_of c.next.new.self) (expressions_of c.args.parts) c.in-Some.ensures.parts
-    c.shown-least.result c.least_if-least.result c.is.result (the_word c.in-Some-word_of.head) c.in-Some-word_of.ensures.word c.with_head.ensures c.shown-least.ensures c.is.ensures c.least_if-least.ensures c.all_in-in-Some-word_of.ensures
+    c.shown-least.result c.least_if-least.result c.is_called.result (the_word c.in-Some-word_of.head) c.in-Some-word_of.ensures.word c.with_head.ensures c.shown-least.ensures c.is_called.ensures c.least_if-least.ensures c.all_in-in-Some-word_of.ensures

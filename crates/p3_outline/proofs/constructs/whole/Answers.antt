@@ -7,7 +7,7 @@ use Rattle.p3_outline.proofs.constructs.whole.Goals as goal
 
 pub returns-in-Some : goal.returns-in-Some
 returns-in-Some c =
-    c.least_if.ensures ∙ ap (λ b. least_with None (word_when b (the_word c.in-Some.word))) c.is.ensures
+    c.least_if.ensures ∙ ap (λ b. least_with None (word_when b (the_word c.in-Some.word))) c.is_called.ensures
     ∙ ap (least_with None) (sym (word_shows [] None (expression_of c.args.root) (the_word c.in-Some.word) (sym c.in-Some.ensures.word)))
 
 pub returns-in-None : goal.returns-in-None

@@ -1,6 +1,6 @@
 use Rattle.std.proofs.Common.{◌≡◌, ◌∙◌, List, Option, ℕ, length, sym, ap, subst}
 use Rattle.p3_formula.specs.Modals.{IsModalBelow}
-use Rattle.p3_formula.specs.declared.modal.GroundModal.{GroundModal}
+use Rattle.p3_formula.specs.GroundModal.{GroundModal}
 use Rattle.p3_run.specs.Groups.{Watch, is_met, modal_at, watch_at, later, put_renewed, renewed_at, CanRenew}
 use Rattle.p3_run.specs.Tallies.{Counted, recounted, CanAdd}
 use Rattle.p3_run.proofs.RenewLaws.{reader_below, add_fits, renews}

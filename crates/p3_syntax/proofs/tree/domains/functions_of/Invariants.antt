@@ -6,8 +6,8 @@ use Rattle.p3_syntax.proofs.GroupLemmas.{front}
 use Rattle.p3_syntax.proofs.tree.domains.functions_of.Given as goal
 
 -- what is found and what is left make up the whole
-abbrev pub invariant-loop-found : goal.invariant-loop-found
-invariant-loop-found l = front l.found (each_item function_at (groups_left l.groups)) ≡ functions_of (expressions_of l.fn.parts)
+abbrev pub invariant-loop-typed : goal.invariant-loop-typed
+invariant-loop-typed l = front l.found (each_item function_at (groups_left l.groups)) ≡ functions_of (expressions_of l.fn.parts)
 
-abbrev pub decreases-loop-found : goal.decreases-loop-found
-decreases-loop-found l = groups_size l.groups
+abbrev pub decreases-loop-typed : goal.decreases-loop-typed
+decreases-loop-typed l = groups_size l.groups

@@ -1,6 +1,6 @@
 use Rattle.std.proofs.Common.{◌≡◌, length, ◌+◌, ◌*◌, ◌≤◌, ◌++◌, Some}
 use Rattle.p3_tree.specs.Grammar.Metrics.{num_place, trees_of}
-use Rattle.p3_syntax.specs.Reading.{◌>>=◌}
+use Rattle.p3_tree.specs.Grammar.Words.{◌>>=◌}
 use Rattle.p3_outline.specs.Nodes.{expressions_of}
 use Rattle.p3_syntax.specs.Trees.{listed}
 use Rattle.p3_syntax.proofs.tree.metrics.+num.Given as goal
@@ -8,17 +8,11 @@ use Rattle.p3_syntax.proofs.tree.metrics.+num.Given as goal
 abbrev pub decreases-num : goal.decreases-num
 decreases-num l = 4 * length l.view.below.now + 4
 
-abbrev pub decreases-num_list : goal.decreases-num_list
-decreases-num_list l = 4 * length l.parts.nodes.now + 3
+abbrev pub decreases-num_by : goal.decreases-num_by
+decreases-num_by l = 4 * length l.behind.nodes.now + 3
 
 abbrev pub decreases-minus_form : goal.decreases-minus_form
 decreases-minus_form l = 4 * length l.behind.nodes.now + 2
-
-abbrev pub decreases-sum_form : goal.decreases-sum_form
-decreases-sum_form l = 4 * length l.behind.nodes.now + 2
-
-abbrev pub decreases-product_form : goal.decreases-product_form
-decreases-product_form l = 4 * length l.behind.nodes.now + 2
 
 abbrev pub decreases-nums : goal.decreases-nums
 decreases-nums l = 4 * length l.parts.nodes.now + 1

@@ -1,0 +1,5 @@
+(define (domain lamps)
+  (:predicates (on ?lamp))
+  (:action light :parameters (?lamp)
+    :precondition (not (on ?lamp))
+    :effect (on ?lamp)))

@@ -1,0 +1,6 @@
+(define (problem two) (:domain lamps)
+  (:objects a b)
+  (:init)
+  (:goal (on a))
+  (:constraints (preference calm (always (not (on b)))))
+  (:metric minimize (* 3 (is-violated calm))))

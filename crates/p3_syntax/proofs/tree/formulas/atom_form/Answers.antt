@@ -1,0 +1,24 @@
+use Rattle.std.proofs.Common.{◌∙◌, sym, ap, subst, Option, List, Some}
+use Rattle.std.specs.Prelude.{IsSome}
+use Rattle.p3_tree.specs.Grammar.Words.{◌>>=◌, each_at}
+use Rattle.p3_tree.specs.Grammar.Formulas.{AtomText, formula_place}
+use Rattle.p3_tree.specs.Grammar.Lists.{term_place}
+use Rattle.p3_tree.specs.declared.formula.Formula.TheVariants.{Atom}
+use Rattle.p3_tree.specs.declared.term.Term.{Term}
+use Rattle.p3_tree.specs.declared.term.Ref.{Ref}
+use Rattle.p3_outline.specs.Nodes.{expressions_of}
+use Rattle.p3_syntax.specs.Trees.{the_word}
+use Rattle.p3_syntax.proofs.HeadLemmas.{named_atom, some_first}
+use Rattle.p3_syntax.proofs.tree.formulas.atom_form.Goals as goal
+
+pub terms-requires : goal.terms-requires
+terms-requires c =
+    let head = the_word c.args.word in
+    let known = named_atom formula_place head (expressions_of c.args.behind) (λ (atom : AtomText). Atom atom.pred atom.args) c.requires.tree in
+    record { tree = some_first (each_at term_place (expressions_of c.args.behind)) (λ args. Some (Atom head args)) (subst IsSome known c.requires.tree) }
+
+pub returns : goal.returns
+returns c =
+    named_atom formula_place (the_word c.args.word) (expressions_of c.args.behind) (λ (atom : AtomText). Atom atom.pred atom.args) c.requires.tree
+    ∙ ap (λ (read : Option (List Term)). read >>= λ args. Some (Atom (the_word c.args.word) args)) c.in_ok-args.ensures
+    ∙ ap (λ (pred : Ref). Some (Atom pred c.in_ok-args.args)) (sym c.in_ok-pred.ensures)

@@ -1,0 +1,24 @@
+use Rattle.p3_tree.specs.Grammar.Words.{each_at, predicate_place, is_predicate_name}
+use Rattle.p3_tree.specs.Grammar.Lists.{object_place}
+use Rattle.p3_tree.specs.declared.term.Ref.{Ref}
+use Rattle.p3_tree.specs.declared.term.Term.{Term}
+use Rattle.std.specs.Prelude.{List}
+use Rattle.p3_tree.specs.Grammar.Halves.{false_entry, initial_in}
+use Rattle.p3_tree.specs.declared.task.Init.TheVariants as init
+use Rattle.p3_outline.specs.Nodes.{expressions_of}
+use Rattle.p3_syntax.specs.Trees.{the_head}
+use Rattle.p3_syntax.proofs.HeadLemmas.{headed_initial, has_head, has_args, read_with}
+use Rattle.p3_syntax.proofs.tree.problems.false_entry.Goals as goal
+
+pub headed-list-requires : goal.headed-list-requires
+headed-list-requires c = let es = expressions_of c.args.parts in record { tree = has_head (each_at object_place) (init.False) (initial_in false_entry predicate_place es) es (headed_initial false_entry is_predicate_name es c.requires.tree) c.requires.tree }
+
+pub object_terms-requires : goal.object_terms-requires
+object_terms-requires c =
+    let es = expressions_of c.args.parts in
+    record { tree = has_args (each_at object_place) (init.False) (initial_in false_entry predicate_place es) es (headed_initial false_entry is_predicate_name es c.requires.tree) (the_head c.headed-list.result) c.headed-list.ensures.headed c.requires.tree }
+
+pub returns : goal.returns
+returns c =
+    let es = expressions_of c.args.parts in
+    read_with (each_at object_place) (init.False) (initial_in false_entry predicate_place es) es (headed_initial false_entry is_predicate_name es c.requires.tree) (the_head c.headed-list.result) c.headed-list.ensures.headed c.in_ok-args.args c.in_ok-args.ensures _ c.in_ok-pred.ensures
