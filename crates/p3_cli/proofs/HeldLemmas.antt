@@ -22,7 +22,7 @@ no_other : (first : Bool) (rest : Bool) → (first || rest) ≡ false → rest �
 no_other true rest e = absurd (cc)
 no_other false rest e = e
 
-names_of : List (Output × List ℕ) → List Word
+abbrev names_of : List (Output × List ℕ) → List Word
 names_of written = map (λ (file : Output × List ℕ). file.0.name) written
 
 -- names without this one are others
