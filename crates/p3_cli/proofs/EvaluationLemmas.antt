@@ -23,8 +23,9 @@ use Rattle.p3_cli.specs.Ending.{Ending}
 use Rattle.p3_cli.specs.Explaining.{IsUnfit, TellsFail}
 
 -- the steps that are found of a text, for the task that was checked
-pub steps_are : (text : List ℕ) (one checked : Checked) (steps : Steps) → one ≡ checked → OfPlanText text (λ plan. AreStepsOf one.task plan steps) → OfPlanText text (λ plan. AreStepsOf checked.task plan steps)
-steps_are text one checked steps same = subst (λ (each : Checked). OfPlanText text (λ plan. AreStepsOf each.task plan steps)) same
+pub steps_are : (text other : List ℕ) (one checked : Checked) (steps : Steps) → text ≡ other → one ≡ checked → OfPlanText text (λ plan. AreStepsOf one.task plan steps) → OfPlanText other (λ plan. AreStepsOf checked.task plan steps)
+steps_are text other one checked steps same is are =
+    subst (λ all. OfPlanText all (λ plan. AreStepsOf checked.task plan steps)) same (subst (λ (each : Checked). OfPlanText text (λ plan. AreStepsOf each.task plan steps)) is are)
 
 module _ (T : Task) (G : GroundTask) (w : Weights) (steps : Steps) (old new : Ran) (found : Option PlanFault) (together : BelongTogether T G w) (left : All (LeftOutAt T G) steps.numbers.items)
     (is : old ≡ begun G w) (judged : OfItsSteps old steps (λ task plan. IsJudged task plan old new found)) (plan : Plan) (are : AreStepsOf T plan steps) where
@@ -40,10 +41,6 @@ module _ (T : Task) (G : GroundTask) (w : Weights) (steps : Steps) (old new : Ra
   still_together none =
       let done = plan_judged.done none in
       subst (λ weights. BelongTogether T new.task weights) (sym (done.weights ∙ ap (λ (ran : Ran). ran.weights) is)) (subst (λ ground. BelongTogether T ground w) (sym (done.task ∙ ap (λ (ran : Ran). ran.task) is)) together)
-
--- where the steps are asked of a ground task, they are asked of one that is the same
-pub asked_there : (T : Task) (G H : GroundTask) (numbers items : List ℕ) → H ≡ G → numbers ≡ items → All (LeftOutAt T G) numbers → All (LeftOutAt T H) items
-asked_there T G H numbers items same are left = subst (λ list. All (LeftOutAt T H) list) are (subst (λ ground. All (LeftOutAt T ground) numbers) (sym same) left)
 
 -- what is left out is left out at each number
 pub all_left : (T : Task) (G : GroundTask) → LeavesOutOnlyUnfit T G → (numbers : List ℕ) → All (LeftOutAt T G) numbers

@@ -5,15 +5,16 @@ use Rattle.std.specs.FinMap.{insert}
 use Rattle.std.specs.List.{list_all}
 use Rattle.p3_base.specs.Outside.{FilesSeen, SinkSeen, Store, with_put}
 use Rattle.p3_base.specs.Words.{are_different}
-use Rattle.p3_tree.specs.Commands.{Command, Output, Word, command_by, command_of, command_with, has_file_words, if_spelled, inputs, is_file_word, is_spelled, kind_of, names_of, numbered, row}
+use Rattle.p3_tree.specs.Commands.{Command, Output, Word, command_by, command_of, command_with, has_file_words, if_spelled, is_file_word, is_spelled, kind_of, names_of, numbered, outputs, row}
 use Rattle.p3_tree.specs.declared.command.CommandKind.{CommandKind}
 use Rattle.p3_cli.specs.Ending as ending
 use Rattle.p3_cli.specs.Ending.{Ending, Tells, status_of}
-use Rattle.p3_cli.specs.Meaning.{AllHold, Keeps, KeepsInRun, IsDone, IsFaithfulRun, IsLaidOutRun, OfAsked, output_names}
-use Rattle.p3_cli.specs.Product.{LaysOut, Means, Produces, texts_in}
-use Rattle.p3_cli.specs.Run.{Leaves, Answers, IsProduct}
-use Rattle.p3_cli.specs.Store.{holding_all}
-use Rattle.p3_cli.proofs.HeldLemmas.{all_held, all_written}
+use Rattle.p3_cli.specs.Meaning.{Keeps, KeepsInRun, IsDone, IsFaithfulRun, IsLaidOutRun, OfAsked}
+use Rattle.p3_cli.specs.Product.{LaysOut, Means, Produces}
+use Rattle.p3_cli.specs.Run.{Leaves, Answers}
+use Rattle.p3_cli.specs.Store.{holding_all, writings}
+use Rattle.p3_cli.specs.Texts.{AllTexts, Made}
+use Rattle.p3_cli.proofs.HeldLemmas.{all_made_held}
 use Rattle.p3_cli.proofs.RunLemmas.{kept_status}
 
 -- ---- the words
@@ -44,8 +45,8 @@ has_words [] = tt
 has_words (word ∷ words) = words_behind words (kind_of word)
 
 -- no two outputs have the same name
-outputs_differ : (command : Command) → has_file_words command ≡ true → are_different (output_names command) ≡ true
-outputs_differ command e = second_part (list_all is_file_word (names_of command)) (are_different (output_names command)) e
+outputs_differ : (command : Command) → has_file_words command ≡ true → are_different (map (λ (output : Output). output.name) (outputs command)) ≡ true
+outputs_differ command e = second_part (list_all is_file_word (names_of command)) (are_different (map (λ (output : Output). output.name) (outputs command))) e
 
 -- ---- a done run
 
@@ -78,26 +79,22 @@ none_left [] store is = cc
 none_left (written ∷ writings) store is = none_left writings (insert store written.0.name written.1) is
 
 -- what is made means this
-module _ (Says : Command → List (List ℕ) → List (List ℕ) → List ℕ → Type 0) (more : (command : Command) (texts written : List (List ℕ)) (report : List ℕ) → Produces command texts written report → Says command texts written report) where
+module _ (Says : Command → AllTexts → Made → List ℕ → Type 0) (more : (command : Command) (texts : AllTexts) (made : Made) (report : List ℕ) → Produces command texts made report → Says command texts made report) where
   module _ (command : Command) (named : has_file_words command ≡ true) (store : Store) (before after : SinkSeen) (status : ℕ) (report : List ℕ) (tells : Tells before after status (ending.Done report)) where
     abbrev IsKept : Store → Type 0
     IsKept last = Keeps (Says command) command store last before.written after.written status
 
-    is_kept : (writings : List (Output × List ℕ)) → IsProduct (Some store) command writings report → (last : Store) → Some last ≡ holding_all writings (Some store) → IsKept last
-    is_kept writings product last is = record {
-      texts = product.made.0;
-      written = texts_in writings;
+    kept_by : (left : Option Store) → Leaves command (Some store) left (ending.Done report) → IsSomeAnd left IsKept
+    kept_by None (made, product, is) = absurd (none_left (writings (outputs command) made) store is)
+    kept_by (Some last) (made, (texts, read, produces), is) = record {
+      texts = texts;
+      made = made;
       report = report;
-      read = all_held store (inputs command) product.made.0 product.made.1;
-      holds = subst (λ outs. AllHold last (map (λ (output : Output). output.name) outs) (texts_in writings)) product.outputs
-          (all_written writings store last (subst (λ outs. are_different (map (λ (output : Output). output.name) outs) ≡ true) (sym product.outputs) (outputs_differ command named)) is);
-      says = more command product.made.0 (texts_in writings) report product.made.2;
+      read = read;
+      holds = all_made_held (outputs command) made store last (outputs_differ command named) is;
+      says = more command texts made report produces;
       reported = put_report before after status report tells;
     }
-
-    kept_by : (left : Option Store) → Leaves command (Some store) left (ending.Done report) → IsSomeAnd left IsKept
-    kept_by None (writings, product, is) = absurd (none_left writings store is)
-    kept_by (Some last) (writings, product, is) = is_kept writings product last is
 
   -- where the store tells, what is left is what the command means
   if_told : (asked : Option Command) → HasWords asked → (told : Option Store) (old new : FilesSeen) (before after : SinkSeen) (status : ℕ) (how : Ending) → old.held ≡ told
@@ -117,9 +114,9 @@ module _ (Says : Command → List (List ℕ) → List (List ℕ) → List ℕ �
 -- what is done keeps the meaning of what was read
 pub done_is_faithful : (asked : Option Command) → HasWords asked → (old new : FilesSeen) (before after : SinkSeen) (status : ℕ) (how : Ending) → Answers asked old new how → Tells before after status how → IsDone status
     → IsFaithfulRun asked old new before after status
-done_is_faithful = run_keeps Means (λ command texts written report made. made.means)
+done_is_faithful = run_keeps Means (λ command texts made report product. product.means)
 
 -- and is laid out as a target
 pub done_is_laid_out : (asked : Option Command) → HasWords asked → (old new : FilesSeen) (before after : SinkSeen) (status : ℕ) (how : Ending) → Answers asked old new how → Tells before after status how → IsDone status
     → IsLaidOutRun asked old new before after status
-done_is_laid_out = run_keeps (λ command texts written report. LaysOut command texts written) (λ command texts written report made. made.layout)
+done_is_laid_out = run_keeps (λ command texts made report. LaysOut command texts made) (λ command texts made report product. product.layout)

@@ -1,5 +1,5 @@
--- There is one reason at most to make nothing of what is read.
-use Rattle.std.proofs.Common.{◌≡◌, ◌∙◌, ℕ, List, [], ◌∷◌, Some, None, true, false, sym, ap, subst, inl, inr, refl}
+-- There is one reason at most to make nothing of what is read, and none where something is made.
+use Rattle.std.proofs.Common.{◌≡◌, ◌∙◌, ℕ, List, Some, None, true, false, sym, ap, subst, inl, inr, refl}
 use Rattle.p3_base.specs.declared.refusal.Refusal.{Refusal}
 use Rattle.p3_base.specs.declared.refusal.Side.TheVariants.{Source, Written}
 use Rattle.p3_tree.specs.Commands.{Command}
@@ -9,7 +9,6 @@ use Rattle.p3_tree.specs.Lifting.{is_plain, lift}
 use Rattle.p3_tree.specs.PlanTexts.{plan_offence}
 use Rattle.p3_tree.specs.Plans.{Plan}
 use Rattle.p3_tree.specs.Refusals.First.{AreAccepted, IsFirstRefusal}
-use Rattle.p3_tree.specs.Samples.{sample_domain, sample_plan, sample_problem}
 use Rattle.p3_tree.specs.Validity.{Fault, Valid, first_fault, step_fault}
 use Rattle.p3_tree.specs.declared.task.Task.{Task}
 use Rattle.p3_tree.proofs.RefusalLaws.{nothing_is_refused}
@@ -29,8 +28,9 @@ use Rattle.p3_cli.specs.Ending.{Ending, status_of}
 use Rattle.p3_cli.specs.Evaluation.{AreOfPlan, IsInvalidPlan, RejectsPlan, given_plan}
 use Rattle.p3_cli.specs.Explaining.{IsUnfitPlan, RejectsExplaining}
 use Rattle.p3_cli.specs.Lifting.{AreOfLift, RejectsLift, TellsFail, given_lift}
-use Rattle.p3_cli.specs.Product.{MayRejectBy, RejectsBy, StopsBy}
-use Rattle.p3_cli.specs.Refusing.{IsRefusal, AllTexts, for_lift, with_plan}
+use Rattle.p3_cli.specs.Product.{MeansBy, RejectsBy, StopsBy}
+use Rattle.p3_cli.specs.Refusing.{IsRefusal, RejectsTask}
+use Rattle.p3_cli.specs.Texts.{AllTexts, Made, no_texts, sample_texts}
 use Rattle.p3_cli.specs.Run.{MayBeShownBy, ShownBy}
 use Rattle.p3_cli.specs.Store.{Reading, Texts, TooLong, Absent}
 
@@ -46,52 +46,52 @@ no_fault T plan fault valid first = let none : first_fault T plan ≡ None = (va
 
 -- ---- of a task and a plan
 
--- of an accepted task and a plan without an offence nothing is refused
-nothing_of_plan : (d p q : List ℕ) (T : Task) → AreAccepted Source d p T → plan_offence q ≡ None → (r : Refusal) → IsFirstRefusal (given_plan (with_plan d p q)) r → ⊥
-nothing_of_plan d p q T accepted free r (inl (inl first)) = accepted.readable r (inl first)
-nothing_of_plan d p q T accepted free r (inl (inr (before, inl second))) = accepted.readable r (inr (before, inl second))
-nothing_of_plan d p q T accepted free r (inl (inr (before, inr (also, inl offence)))) = cc
-nothing_of_plan d p q T accepted free r (inl (inr (before, inr (also, inr none)))) = none.1
-nothing_of_plan d p q T accepted free r (inr (readable, of_task)) = nothing_is_refused Source d p T accepted r (inr (accepted.readable, of_task))
+module _ (texts : AllTexts) where
+  -- of an accepted task and a plan without an offence nothing is refused
+  nothing_of_plan : (T : Task) → AreAccepted Source texts.domain texts.problem T → plan_offence texts.plan ≡ None → (r : Refusal) → IsFirstRefusal (given_plan texts) r → ⊥
+  nothing_of_plan T accepted free r (inl (inl first)) = accepted.readable r (inl first)
+  nothing_of_plan T accepted free r (inl (inr (before, inl second))) = accepted.readable r (inr (before, inl second))
+  nothing_of_plan T accepted free r (inl (inr (before, inr (also, inl offence)))) = cc
+  nothing_of_plan T accepted free r (inl (inr (before, inr (also, inr none)))) = none.1
+  nothing_of_plan T accepted free r (inr (readable, of_task)) = nothing_is_refused Source texts.domain texts.problem T accepted r (inr (accepted.readable, of_task))
 
-module _ (d p q : List ℕ) where
-  module _ (task : Task) (plan : Plan) (of : AreOfPlan d p q task plan) where
-    free : plan_offence q ≡ None
-    free = (a_plan_where_no_offence q).0 (record { plan = plan; spelled = of.spelled; few = of.few })
+  module _ (task : Task) (plan : Plan) (of : AreOfPlan texts.domain texts.problem texts.plan task plan) where
+    free : plan_offence texts.plan ≡ None
+    free = (a_plan_where_no_offence texts.plan).0 (record { plan = plan; spelled = of.spelled; few = of.few })
 
     -- a plan is judged only where nothing is refused
-    not_refused : {A : Type 0} (how : Ending) → IsRefusal (given_plan (with_plan d p q)) (with_plan d p q) how → A
-    not_refused how said = absurd (nothing_of_plan d p q task of.accepted free said.refusal said.shows)
+    not_refused : {A : Type 0} (how : Ending) → IsRefusal (given_plan texts) texts how → A
+    not_refused how said = absurd (nothing_of_plan task of.accepted free said.refusal said.shows)
 
-    not_invalid : Valid task plan → (how : Ending) → IsInvalidPlan d p q how → ⊥
+    not_invalid : Valid task plan → (how : Ending) → IsInvalidPlan texts.domain texts.problem texts.plan how → ⊥
     not_invalid valid how wrong =
-        let one : task ≡ wrong.task = one_task_at_most d p task wrong.task of.accepted.task.reads wrong.texts.accepted.task.reads in
-        let same : plan ≡ wrong.plan = one_plan_at_most q plan wrong.plan of.spelled wrong.texts.spelled in
+        let one : task ≡ wrong.task = one_task_at_most texts.domain texts.problem task wrong.task of.accepted.task.reads wrong.texts.accepted.task.reads in
+        let same : plan ≡ wrong.plan = one_plan_at_most texts.plan plan wrong.plan of.spelled wrong.texts.spelled in
         no_fault task plan wrong.fault valid ((λ i. first_fault (one i) (same i)) ∙ wrong.first)
 
     -- a valid plan is accepted
-    pub plan_accepted : Valid task plan → (how : Ending) → RejectsPlan (with_plan d p q) how → ⊥
+    plan_accepted : Valid task plan → (how : Ending) → RejectsPlan texts how → ⊥
     plan_accepted valid how (inl refused) = not_refused how refused
     plan_accepted valid how (inr wrong) = not_invalid valid how wrong
 
-    not_unfit : step_fault task plan ≡ None → (how : Ending) → IsUnfitPlan d p q how → ⊥
+    not_unfit : step_fault task plan ≡ None → (how : Ending) → IsUnfitPlan texts.domain texts.problem texts.plan how → ⊥
     not_unfit none how wrong =
-        let one : task ≡ wrong.task = one_task_at_most d p task wrong.task of.accepted.task.reads wrong.texts.accepted.task.reads in
-        let same : plan ≡ wrong.plan = one_plan_at_most q plan wrong.plan of.spelled wrong.texts.spelled in
+        let one : task ≡ wrong.task = one_task_at_most texts.domain texts.problem task wrong.task of.accepted.task.reads wrong.texts.accepted.task.reads in
+        let same : plan ≡ wrong.plan = one_plan_at_most texts.plan plan wrong.plan of.spelled wrong.texts.spelled in
         let some : step_fault task plan ≡ Some wrong.unfit.fault = (λ i. step_fault (one i) (same i)) ∙ wrong.unfit.first in cc
 
     -- a plan whose steps all fit is explained
-    pub fitting_accepted : step_fault task plan ≡ None → (how : Ending) → RejectsExplaining (with_plan d p q) how → ⊥
+    fitting_accepted : step_fault task plan ≡ None → (how : Ending) → RejectsExplaining texts how → ⊥
     fitting_accepted fit how (inl refused) = not_refused how refused
     fitting_accepted fit how (inr wrong) = not_unfit fit how wrong
 
-  explained_reason : (how other : Ending) → RejectsExplaining (with_plan d p q) how → RejectsExplaining (with_plan d p q) other → status_of how ≡ status_of other
+  explained_reason : (how other : Ending) → RejectsExplaining texts how → RejectsExplaining texts other → status_of how ≡ status_of other
   explained_reason how other (inl shown) (inl also) = refused_status how _ shown.says ∙ sym (refused_status other _ also.says)
   explained_reason how other (inr shown) (inr also) = invalid_status how _ shown.unfit.says ∙ sym (invalid_status other _ also.unfit.says)
   explained_reason how other (inl shown) (inr also) = not_refused also.task also.plan also.texts how shown
   explained_reason how other (inr shown) (inl also) = not_refused shown.task shown.plan shown.texts other also
 
-  plan_reason : (how other : Ending) → RejectsPlan (with_plan d p q) how → RejectsPlan (with_plan d p q) other → status_of how ≡ status_of other
+  plan_reason : (how other : Ending) → RejectsPlan texts how → RejectsPlan texts other → status_of how ≡ status_of other
   plan_reason how other (inl shown) (inl also) = refused_status how _ shown.says ∙ sym (refused_status other _ also.says)
   plan_reason how other (inr shown) (inr also) = invalid_status how _ shown.says ∙ sym (invalid_status other _ also.says)
   plan_reason how other (inl shown) (inr also) = not_refused also.task also.plan also.texts how shown
@@ -139,7 +139,7 @@ module _ (texts : AllTexts) where
         shown.1.apart (shown.1.cost ∙ sym is.cost ∙ is.loss ∙ ap (loss_above T) is.plan ∙ sym shown.1.loss)
     not_unlifted lifted is fail.NoMemory how shown says = says
 
-    pub lift_accepted : (lifted : Lifted) → IsLifted T U plan lifted → (how : Ending) → RejectsLift texts how → ⊥
+    lift_accepted : (lifted : Lifted) → IsLifted T U plan lifted → (how : Ending) → RejectsLift texts how → ⊥
     lift_accepted lifted is how (inl refused) = not_refused_lift how refused
     lift_accepted lifted is how (inr wrong) =
         not_unlifted lifted is wrong.unlifted.why how (of_these wrong.task wrong.written wrong.plan wrong.of wrong.unlifted.why wrong.unlifted.shows) wrong.unlifted.says
@@ -184,66 +184,37 @@ module _ (texts : AllTexts) where
 
 -- ---- of each command
 
--- all reasons have one status
-one_reason : (kind : CommandKind) (number : ℕ) (texts : List (List ℕ)) (how other : Ending) → RejectsBy kind number texts how → RejectsBy kind number texts other → status_of how ≡ status_of other
-one_reason Compile n [] how other shown also = absurd shown
-one_reason Compile n (x ∷ []) how other shown also = absurd shown
-one_reason Compile n (x ∷ y ∷ []) how other shown also = refused_status how _ shown.says ∙ sym (refused_status other _ also.says)
-one_reason Compile n (x ∷ y ∷ z ∷ texts) how other shown also = absurd shown
-one_reason Lift n [] how other shown also = absurd shown
-one_reason Lift n (x ∷ []) how other shown also = absurd shown
-one_reason Lift n (x ∷ y ∷ []) how other shown also = absurd shown
-one_reason Lift n (x ∷ y ∷ z ∷ []) how other shown also = absurd shown
-one_reason Lift n (x ∷ y ∷ z ∷ u ∷ []) how other shown also = absurd shown
-one_reason Lift n (x ∷ y ∷ z ∷ u ∷ v ∷ []) how other shown also = lift_reason (for_lift x y z u v) how other shown also
-one_reason Lift n (x ∷ y ∷ z ∷ u ∷ v ∷ w ∷ texts) how other shown also = absurd shown
-one_reason Embed n [] how other shown also = absurd shown
-one_reason Embed n (x ∷ []) how other shown also = absurd shown
-one_reason Embed n (x ∷ y ∷ []) how other shown also = absurd shown
-one_reason Embed n (x ∷ y ∷ z ∷ []) how other shown also = plan_reason x y z how other shown also
-one_reason Embed n (x ∷ y ∷ z ∷ u ∷ texts) how other shown also = absurd shown
-one_reason Evaluate n [] how other shown also = absurd shown
-one_reason Evaluate n (x ∷ []) how other shown also = absurd shown
-one_reason Evaluate n (x ∷ y ∷ []) how other shown also = absurd shown
-one_reason Evaluate n (x ∷ y ∷ z ∷ []) how other shown also = plan_reason x y z how other shown also
-one_reason Evaluate n (x ∷ y ∷ z ∷ u ∷ texts) how other shown also = absurd shown
-one_reason Generate n [] how other shown also = plan_reason sample_domain (sample_problem n) (sample_plan n) how other shown also
-one_reason Generate n (x ∷ texts) how other shown also = absurd shown
-one_reason CompileFlat n [] how other shown also = absurd shown
-one_reason CompileFlat n (x ∷ []) how other shown also = absurd shown
-one_reason CompileFlat n (x ∷ y ∷ []) how other shown also = refused_status how _ shown.says ∙ sym (refused_status other _ also.says)
-one_reason CompileFlat n (x ∷ y ∷ z ∷ texts) how other shown also = absurd shown
-one_reason Explain n [] how other shown also = absurd shown
-one_reason Explain n (x ∷ []) how other shown also = absurd shown
-one_reason Explain n (x ∷ y ∷ []) how other shown also = absurd shown
-one_reason Explain n (x ∷ y ∷ z ∷ []) how other shown also = explained_reason x y z how other shown also
-one_reason Explain n (x ∷ y ∷ z ∷ u ∷ texts) how other shown also = absurd shown
-one_reason Watch n [] how other shown also = absurd shown
-one_reason Watch n (x ∷ []) how other shown also = absurd shown
-one_reason Watch n (x ∷ y ∷ []) how other shown also = absurd shown
-one_reason Watch n (x ∷ y ∷ z ∷ []) how other shown also = refused_status how _ shown.says ∙ sym (refused_status other _ also.says)
-one_reason Watch n (x ∷ y ∷ z ∷ u ∷ texts) how other shown also = absurd shown
+task_reason : (texts : AllTexts) (how other : Ending) → RejectsTask texts how → RejectsTask texts other → status_of how ≡ status_of other
+task_reason texts how other shown also = refused_status how _ shown.says ∙ sym (refused_status other _ also.says)
 
--- a reason that may come, where none must
-only_may : {A : Type 0} (kind : CommandKind) (number : ℕ) (texts : List (List ℕ)) (how other : Ending) → MayRejectBy kind number texts how → RejectsBy kind number texts other → A
-only_may CompileFlat n (x ∷ y ∷ []) how other shown also = absurd (nothing_is_refused Source x y shown.shows.is.task shown.shows.is.accepted also.refusal also.shows)
-only_may CompileFlat n [] how other shown also = absurd shown
-only_may CompileFlat n (x ∷ []) how other shown also = absurd shown
-only_may CompileFlat n (x ∷ y ∷ z ∷ texts) how other shown also = absurd shown
-only_may Compile n texts how other shown also = absurd shown
-only_may Lift n texts how other shown also = absurd shown
-only_may Embed n texts how other shown also = absurd shown
-only_may Evaluate n texts how other shown also = absurd shown
-only_may Generate n texts how other shown also = absurd shown
-only_may Explain n texts how other shown also = absurd shown
-only_may Watch n texts how other shown also = absurd shown
-
-stop_reason : (kind : CommandKind) (number : ℕ) (texts : List (List ℕ)) (how other : Ending) → StopsBy kind number texts how → RejectsBy kind number texts other → status_of how ≡ status_of other
-stop_reason kind number texts how other (inl shown) also = one_reason kind number texts how other shown also
-stop_reason kind number texts how other (inr may) also = only_may kind number texts how other may also
+-- all reasons have one status, and one that may come comes only where none must
+stop_reason : (kind : CommandKind) (number : ℕ) (texts : AllTexts) (how other : Ending) → StopsBy kind number texts how → RejectsBy kind number texts other → status_of how ≡ status_of other
+stop_reason Compile n texts how other shown also = task_reason texts how other shown also
+stop_reason Lift n texts how other shown also = lift_reason texts how other shown also
+stop_reason Embed n texts how other shown also = plan_reason texts how other shown also
+stop_reason Evaluate n texts how other shown also = plan_reason texts how other shown also
+stop_reason Generate n texts how other shown also = plan_reason (sample_texts n) how other shown also
+stop_reason CompileFlat n texts how other (inl shown) also = task_reason texts how other shown also
+stop_reason CompileFlat n texts how other (inr may) also = absurd (nothing_is_refused Source texts.domain texts.problem may.shows.is.task may.shows.is.accepted also.refusal also.shows)
+stop_reason Explain n texts how other shown also = explained_reason texts how other shown also
+stop_reason Watch n texts how other shown also = task_reason texts how other shown also
 
 -- what is told has the status of each reason that must come
 pub stop_status : (command : Command) (read : Reading) (how other : Ending) → MayBeShownBy command read how → ShownBy command read other → status_of how ≡ status_of other
 stop_status command (Texts texts) how other shown also = stop_reason command.kind command.number texts how other shown also
 stop_status command (TooLong role) how other shown also = ap status_of (shown ∙ sym also)
 stop_status command Absent how other shown also = absurd shown
+
+-- where something is made, there is no reason not to
+pub made_accepted : (kind : CommandKind) (number : ℕ) (texts : AllTexts) (made : Made) (report : List ℕ) → MeansBy kind number texts made report → (how : Ending) → RejectsBy kind number texts how → ⊥
+made_accepted Compile n texts made report means how shown = nothing_is_refused Source texts.domain texts.problem means.task means.accepted shown.refusal shown.shows
+made_accepted Lift n texts made report means how shown = lift_accepted texts means.task means.written means.plan means.of means.lifted means.is how shown
+made_accepted Embed n texts made report means how shown = plan_accepted texts means.task means.plan means.texts means.valid how shown
+made_accepted Evaluate n texts made report means how shown = plan_accepted texts means.task means.plan means.texts means.valid how shown
+made_accepted Generate n texts made report means how shown =
+    let of = means.reported in
+    let same : record no_texts { domain = made.domain; problem = made.problem; plan = made.plan } ≡ sample_texts n = λ i. record no_texts { domain = means.domain i; problem = means.problem i; plan = means.plan i } in
+    plan_accepted (sample_texts n) of.task of.plan (subst (λ (all : AllTexts). AreOfPlan all.domain all.problem all.plan of.task of.plan) same of.of) of.valid how shown
+made_accepted CompileFlat n texts made report means how shown = nothing_is_refused Source texts.domain texts.problem means.task means.accepted shown.refusal shown.shows
+made_accepted Explain n texts made report means how shown = fitting_accepted texts means.task means.plan means.texts means.explained.fit how shown
+made_accepted Watch n texts made report means how shown = nothing_is_refused Source texts.domain texts.problem means.task means.accepted shown.refusal shown.shows

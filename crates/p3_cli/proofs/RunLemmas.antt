@@ -1,5 +1,5 @@
 -- What follows from how a run ends.
-use Rattle.std.proofs.Common.{◌≡◌, ◌∙◌, ◌≢◌, ◌⊎◌, ℕ, false, cond, List, [], ◌∷◌, map, take, Option, Some, None, IfSome, refl, sym, ap, subst, inl, inr, ◌≤◌, arith}
+use Rattle.std.proofs.Common.{◌≡◌, ◌∙◌, ◌≢◌, ◌⊎◌, ℕ, false, cond, List, [], ◌∷◌, take, Option, Some, None, IfSome, refl, sym, ap, subst, inl, inr, ◌≤◌, arith}
 use Rattle.std.specs.Option.{option_map}
 use Rattle.std.specs.List.{AllByRecursion, slice_get}
 use Rattle.std.specs.Prelude.{IsSomeAnd, zero, suc}
@@ -13,14 +13,17 @@ use Rattle.p3_base.specs.declared.refusal.Role.{Role}
 use Rattle.p3_cli.specs.Ending as ending
 use Rattle.p3_cli.specs.Ending.{Ending, Tells, ending_of, status_of, unput_status}
 use Rattle.p3_cli.specs.Outcome.{ReadsAll, WriteFails}
-use Rattle.p3_cli.specs.Product.{Accepts, IsTold, Produces, Stops, texts_in}
-use Rattle.p3_cli.specs.Refusing.{IsRejectedBy}
-use Rattle.p3_tree.specs.Commands.{Command, Input, Output, inputs, outputs}
+use Rattle.p3_cli.specs.Following.{IsFollowed}
+use Rattle.p3_cli.specs.Product.{Accepts, Produces, ProducesBy, Stops, StopsBy}
+use Rattle.p3_cli.specs.Refusing.{IsRefusedTask, IsRejectedBy}
+use Rattle.p3_tree.specs.Commands.{Command, Input, Output, inputs, outputs, row}
+use Rattle.p3_tree.specs.declared.command.CommandKind.TheVariants.{Watch}
 use Rattle.p3_cli.specs.Run.{AnyFaultRose, MustComplete, MustReject, IsAccepted, IsSurelyAccepted, IsProduct, IsRejectionIn, MayBeRejectionIn, MayBeShownBy, ShownBy, Comes, Leaves, Answers, Ends, IsRejectedIn, IsStatusIn, IsAcceptedIn, SameUnder, OthersStay}
-use Rattle.p3_cli.specs.Store.{Texts, reading, holding_all, AreFirstWritten, IsWrittenUpTo}
+use Rattle.p3_cli.specs.Store.{Texts, reading, files, writings, holding_all, AreFirstWritten, IsWrittenUpTo}
+use Rattle.p3_cli.specs.Texts.{AllTexts, Made}
 use Rattle.p3_cli.specs.declared.ending.Ending as code
 use Rattle.p3_cli.specs.declared.ending.Ending.TheVariants as coded
-use Rattle.p3_cli.proofs.RejectionLemmas.{stop_status}
+use Rattle.p3_cli.proofs.RejectionLemmas.{made_accepted, stop_status}
 
 -- what is accepted shows no refusal
 accepted_or : {A : Type 0} (store : Store) (command : Command) (how : Ending) → IsAccepted store command → IsRejectionIn store command how → A
@@ -30,18 +33,18 @@ surely_accepted_or : {A : Type 0} (store : Store) (command : Command) (how : End
 surely_accepted_or store command how (texts, read, none) shown = absurd (none how (subst (λ found. MayBeShownBy command found how) read shown))
 
 -- what was read of the inputs, where it is told
-module _ (command : Command) (asked : List Input) (same : asked ≡ inputs command) (found texts : List (List ℕ)) (are : found ≡ texts) where
+module _ (command : Command) (asked : List Input) (same : asked ≡ inputs command) (texts : AllTexts) where
   -- what is accepted of it is accepted of what is held
-  pub all_accepted : (told : Option Store) → ReadsAll told asked found → Accepts command texts → IfSome told (λ store. IsAccepted store command)
+  pub all_accepted : (told : Option Store) → ReadsAll told asked texts → Accepts command texts → IfSome told (λ store. IsAccepted store command)
   all_accepted None read accepted = tt
-  all_accepted (Some store) read accepted = (texts, (λ i. reading store (sym same i)) ∙ read ∙ ap Texts are, accepted)
+  all_accepted (Some store) read accepted = (texts, (λ i. reading store (sym same i)) ∙ read, accepted)
 
-  rejected_of : (told : Option Store) (how : Ending) → ReadsAll told asked found → Stops command texts how → IfSome told (λ store. MayBeRejectionIn store command how)
+  rejected_of : (told : Option Store) (how : Ending) → ReadsAll told asked texts → Stops command texts how → IfSome told (λ store. MayBeRejectionIn store command how)
   rejected_of None how read refused = tt
-  rejected_of (Some store) how read refused = subst (λ shown. MayBeShownBy command shown how) (sym ((λ i. reading store (sym same i)) ∙ read ∙ ap Texts are)) refused
+  rejected_of (Some store) how read refused = subst (λ shown. MayBeShownBy command shown how) (sym ((λ i. reading store (sym same i)) ∙ read)) refused
 
   -- what is refused of it is refused of what is held
-  pub rejected_comes : (old new : FilesSeen) (how : code.Ending) → ReadsAll old.held asked found → IsRejectedBy (Stops command texts) how → Comes command old new (ending_of how)
+  pub rejected_comes : (old new : FilesSeen) (how : code.Ending) → ReadsAll old.held asked texts → IsRejectedBy (Stops command texts) how → Comes command old new (ending_of how)
   rejected_comes old new coded.OutOfMemory read refused = tt
   rejected_comes old new (coded.Refused rejection) read refused = rejected_of old.held (ending.Refused rejection) read refused
   rejected_comes old new (coded.Invalid fault) read refused = rejected_of old.held (ending.Invalid fault) read refused
@@ -54,57 +57,67 @@ module _ (command : Command) (asked : List Input) (same : asked ≡ inputs comma
   rose_since : (first before after : ℕ) → first ≤ before → Rose before after → Rose first after
   rose_since first before after grows rose = elim rose [ inl less ↦ inl (omega arith) | inr most ↦ inr most ]
 
-  -- where what is accepted was not written
-  pub unwritten_comes : (old new : FilesSeen) (how : code.Ending) (writings : List (Output × List ℕ)) (told : Option Store) (before : ℕ) → ReadsAll old.held asked found → Accepts command texts
-      → old.write_faults ≤ before → WriteFails writings told new.held before new.write_faults how → Comes command old new (ending_of how)
-  unwritten_comes old new coded.OutOfMemory writings told before read accepted grows fails = tt
-  unwritten_comes old new (coded.WriteFailed role) writings told before read accepted grows fails = (rose_since old.write_faults before new.write_faults grows fails.1, all_accepted old.held read accepted)
-  unwritten_comes old new (coded.Refused rejection) writings told before read accepted grows fails = absurd fails
-  unwritten_comes old new (coded.Invalid fault) writings told before read accepted grows fails = absurd fails
-  unwritten_comes old new (coded.Done report) writings told before read accepted grows fails = absurd fails
-  unwritten_comes old new (coded.TooLong role) writings told before read accepted grows fails = absurd fails
-  unwritten_comes old new (coded.ReadFailed role) writings told before read accepted grows fails = absurd fails
-  unwritten_comes old new coded.Usage writings told before read accepted grows fails = absurd fails
+  -- of what was made of it
+  module _ (made : Made) (report : List ℕ) (produces : Produces command texts made report) where
+    abbrev pub to_write : List (Output × List ℕ)
+    to_write = writings (outputs command) made
 
-  -- what was made of it is the product of what is held
-  product_is : (told : Option Store) (writings : List (Output × List ℕ)) (report : List ℕ) → ReadsAll told asked found → map (λ written. written.0) writings ≡ outputs command
-      → Produces command texts (texts_in writings) report → IsProduct told command writings report
-  product_is told writings report read named made = record { outputs = named; made = made_of told read }
-    where
-      made_of : (told : Option Store) → ReadsAll told asked found
-          → IfSome told (λ store. (read : List (List ℕ)) × (reading store (inputs command) ≡ Texts read) × Produces command read (texts_in writings) report)
-      made_of None read = tt
-      made_of (Some store) read = (texts, (λ i. reading store (sym same i)) ∙ read ∙ ap Texts are, made)
+    pub accepts : Accepts command texts
+    accepts = made_accepted command.kind command.number texts made report produces.means
 
-  -- what is left where all is written
-  pub done_leaves : (old mid new : Option Store) (writings : List (Output × List ℕ)) (report : List ℕ) → ReadsAll old asked found → mid ≡ old
-      → map (λ written. written.0) writings ≡ outputs command → Produces command texts (texts_in writings) report → new ≡ holding_all writings mid → Leaves command old new (ending.Done report)
-  done_leaves old mid new writings report read stays named made is = (writings, product_is old writings report read named made, subst (λ told. new ≡ holding_all writings told) stays is)
+    -- where it was not written
+    pub unwritten_comes : (old new : FilesSeen) (how : code.Ending) (told : Option Store) (before : ℕ) → ReadsAll old.held asked texts
+        → old.write_faults ≤ before → WriteFails to_write told new.held before new.write_faults how → Comes command old new (ending_of how)
+    unwritten_comes old new coded.OutOfMemory told before read grows fails = tt
+    unwritten_comes old new (coded.WriteFailed role) told before read grows fails = (rose_since old.write_faults before new.write_faults grows fails.1, all_accepted old.held read accepts)
+    unwritten_comes old new (coded.Refused rejection) told before read grows fails = absurd fails
+    unwritten_comes old new (coded.Invalid fault) told before read grows fails = absurd fails
+    unwritten_comes old new (coded.Done report) told before read grows fails = absurd fails
+    unwritten_comes old new (coded.TooLong role) told before read grows fails = absurd fails
+    unwritten_comes old new (coded.ReadFailed role) told before read grows fails = absurd fails
+    unwritten_comes old new coded.Usage told before read grows fails = absurd fails
 
-  -- an ending of what is accepted, whose lines are told, and which writes nothing
-  pub told_ends : (old new : FilesSeen) (before after : SinkSeen) (status : ℕ) → ReadsAll old.held asked found → new.held ≡ old.held → IsTold command texts before after status
-      → (how : Ending) × Ends (Some command) old new before after status how
-  told_ends old new before after status read stays told = (
-    ending.Done told.report,
-    record {
-      answers = (all_accepted old.held read told.accepted, done_leaves old.held new.held new.held [] told.report read stays told.unwritten told.produces refl);
-      tells = told.tells;
-    },
-  )
+    -- it is the product of what is held
+    product_is : (told : Option Store) → ReadsAll told asked texts → IsProduct told command made report
+    product_is None read = tt
+    product_is (Some store) read = (texts, (λ i. reading store (sym same i)) ∙ read, produces)
 
-  -- what is left where it was not written whole
-  pub unwritten_leaves : (old mid new : Option Store) (writings : List (Output × List ℕ)) (report : List ℕ) (before after : ℕ) (how : code.Ending) → ReadsAll old asked found → mid ≡ old
-      → map (λ written. written.0) writings ≡ outputs command → Produces command texts (texts_in writings) report → WriteFails writings mid new before after how → Leaves command old new (ending_of how)
-  unwritten_leaves old mid new writings report before after (coded.WriteFailed role) read stays named made fails =
-      (writings, report, product_is old writings report read named made, subst (λ told. IsWrittenUpTo role writings told new) stays fails.0)
-  unwritten_leaves old mid new writings report before after coded.OutOfMemory read stays named made fails =
-      inr (writings, report, product_is old writings report read named made, subst (λ told. AreFirstWritten writings told new) stays fails)
-  unwritten_leaves old mid new writings report before after (coded.Refused rejection) read stays named made fails = absurd fails
-  unwritten_leaves old mid new writings report before after (coded.Invalid fault) read stays named made fails = absurd fails
-  unwritten_leaves old mid new writings report before after (coded.Done done) read stays named made fails = absurd fails
-  unwritten_leaves old mid new writings report before after (coded.TooLong role) read stays named made fails = absurd fails
-  unwritten_leaves old mid new writings report before after (coded.ReadFailed role) read stays named made fails = absurd fails
-  unwritten_leaves old mid new writings report before after coded.Usage read stays named made fails = absurd fails
+    -- what is left where all is written
+    pub done_leaves : (old mid new : Option Store) → ReadsAll old asked texts → mid ≡ old → new ≡ holding_all to_write mid → Leaves command old new (ending.Done report)
+    done_leaves old mid new read stays is = (made, product_is old read, subst (λ told. new ≡ holding_all to_write told) stays is)
+
+    -- what is left where it was not written whole
+    pub unwritten_leaves : (old mid new : Option Store) (before after : ℕ) (how : code.Ending) → ReadsAll old asked texts → mid ≡ old → WriteFails to_write mid new before after how → Leaves command old new (ending_of how)
+    unwritten_leaves old mid new before after (coded.WriteFailed role) read stays fails = (made, report, product_is old read, subst (λ told. IsWrittenUpTo role to_write told new) stays fails.0)
+    unwritten_leaves old mid new before after coded.OutOfMemory read stays fails = inr (made, report, product_is old read, subst (λ told. AreFirstWritten to_write told new) stays fails)
+    unwritten_leaves old mid new before after (coded.Refused rejection) read stays fails = absurd fails
+    unwritten_leaves old mid new before after (coded.Invalid fault) read stays fails = absurd fails
+    unwritten_leaves old mid new before after (coded.Done done) read stays fails = absurd fails
+    unwritten_leaves old mid new before after (coded.TooLong role) read stays fails = absurd fails
+    unwritten_leaves old mid new before after (coded.ReadFailed role) read stays fails = absurd fails
+    unwritten_leaves old mid new before after coded.Usage read stays fails = absurd fails
+
+  -- of `watch`, which writes nothing
+  module _ (watches : command.kind ≡ Watch) where
+    pub watch_rejected : (how : code.Ending) → IsRefusedTask texts how → IsRejectedBy (Stops command texts) how
+    watch_rejected how told = subst (λ kind. IsRejectedBy (StopsBy kind command.number texts) how) (sym watches) told
+
+    pub watch_ends : (old new : FilesSeen) (before after : SinkSeen) (status : ℕ) → ReadsAll old.held asked texts → new.held ≡ old.held → IsFollowed texts.domain texts.problem texts.plan before after status
+        → (how : Ending) × Ends (Some command) old new before after status how
+    watch_ends old new before after status read stays followed =
+        let none : Made = record { domain = []; problem = []; plan = [] } in
+        let produces : Produces command texts none followed.report =
+        subst (λ kind. ProducesBy kind command.number texts none followed.report) (sym watches) (record { means = followed.is; layout = tt }) in
+        let unwritten : [] ≡ writings (outputs command) none = ap (λ kind. writings (files (row kind).writes command.writes) none) (sym watches) in (
+          ending.Done followed.report,
+          record {
+            answers = (
+              all_accepted old.held read (accepts none followed.report produces),
+              done_leaves none followed.report produces old.held new.held new.held read stays (ap (λ all. holding_all all new.held) unwritten),
+            );
+            tells = followed.tells;
+          },
+        )
 
 -- an ending of what is asked, of which no line was put before
 pub ends_so : {asked : Option Command} {command : Command} {old new : FilesSeen} {before after : SinkSeen} {status : ℕ} (mid : SinkSeen) (how : Ending) → Some command ≡ asked → mid ≡ before
@@ -235,7 +248,7 @@ same_holding name other bytes (Some store) apart =
     (untied (slice_cmp nat_cmp name other) (λ tie. apart (sym (slice_cmp-IsAntisymmetric nat_cmp-IsAntisymmetric name other tie)))))
 
 abbrev pub AreOthers : List ℕ → List (Output × List ℕ) → Type 0
-AreOthers name writings = AllByRecursion (λ output. output.name ≢ name) (map (λ written. written.0) writings)
+AreOthers name writings = AllByRecursion (λ written. written.0.name ≢ name) writings
 
 pub same_holding_all : (name : List ℕ) (writings : List (Output × List ℕ)) (told : Option Store) → AreOthers name writings → SameUnder name told (holding_all writings told)
 same_holding_all name [] told others = refl
@@ -266,20 +279,19 @@ same_up_to name role writings old new others (n, partly) =
       | Some next ↦ λ apart is. same_partly name next (holding_all (take n writings) old) new apart is.1 ∙ same_holding_all name (take n writings) old (others_first name writings n others)
     ] (other_at name writings n others) partly
 
-product_others : (name : List ℕ) (told : Option Store) (command : Command) (writings : List (Output × List ℕ)) (report : List ℕ)
-    → AllByRecursion (λ output. output.name ≢ name) (outputs command) → IsProduct told command writings report → AreOthers name writings
-product_others name told command writings report others product = subst (AllByRecursion (λ output. output.name ≢ name)) (sym product.outputs) others
+made_others : (name : List ℕ) (files : List Output) (made : Made) → AllByRecursion (λ output. output.name ≢ name) files → AreOthers name (writings files made)
+made_others name [] made others = tt
+made_others name (file ∷ files) made others = (others.0, made_others name files made others.1)
 
 leaves_others : (name : List ℕ) (command : Command) (old new : Option Store) (how : Ending) → AllByRecursion (λ output. output.name ≢ name) (outputs command) → Leaves command old new how → SameUnder name old new
-leaves_others name command old new (ending.Done lines) others (writings, product, is) =
-    ap (option_map (λ store. bytes_under store name)) is ∙ same_holding_all name writings old (product_others name old command writings lines others product)
-leaves_others name command old new (ending.WriteFailed role) others (writings, report, product, is) =
-    same_up_to name role writings old new (product_others name old command writings report others product) is
+leaves_others name command old new (ending.Done lines) others (made, product, is) =
+    ap (option_map (λ store. bytes_under store name)) is ∙ same_holding_all name (writings (outputs command) made) old (made_others name (outputs command) made others)
+leaves_others name command old new (ending.WriteFailed role) others (made, report, product, is) = same_up_to name role (writings (outputs command) made) old new (made_others name (outputs command) made others) is
 leaves_others name command old new ending.OutOfMemory others leaves = elim leaves [
   | inl same ↦ ap (option_map (λ store. bytes_under store name)) same
-  | inr (writings, report, product, (n, fewer, is)) ↦
-      ap (option_map (λ store. bytes_under store name)) is
-      ∙ same_holding_all name (take n writings) old (others_first name writings n (product_others name old command writings report others product))
+  | inr (made, report, product, (n, fewer, is)) ↦
+      let all = writings (outputs command) made in
+      ap (option_map (λ store. bytes_under store name)) is ∙ same_holding_all name (take n all) old (others_first name all n (made_others name (outputs command) made others))
 ]
 leaves_others name command old new (ending.Refused rejection) others same = ap (option_map (λ store. bytes_under store name)) same
 leaves_others name command old new (ending.Invalid fault) others same = ap (option_map (λ store. bytes_under store name)) same

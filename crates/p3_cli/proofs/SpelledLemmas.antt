@@ -23,7 +23,8 @@ use Rattle.p3_cli.specs.Ending as ending
 use Rattle.p3_cli.specs.Ending.{Ending}
 use Rattle.p3_cli.specs.Evaluation.{given_plan}
 use Rattle.p3_cli.specs.Lifting.{given_lift}
-use Rattle.p3_cli.specs.Refusing.{AllTexts, AreAcceptedFor, EndsAs, IsOfHalves, IsOfPlan, IsOfTask, IsRefusal, IsRefusedFor, IsRefusedTask, IsRejectedBy, IsSpelled, Says, all_texts, domain_of, problem_of, refused_in, task_texts, text_of}
+use Rattle.p3_cli.specs.Refusing.{AreAcceptedFor, EndsAs, IsOfHalves, IsOfPlan, IsOfTask, IsRefusal, IsRefusedFor, IsRefusedTask, IsRejectedBy, IsSpelled, Says, refused_in}
+use Rattle.p3_cli.specs.Texts.{AllTexts, all_texts, domain_of, problem_of, task_texts, text_of}
 use Rattle.p3_cli.specs.declared.texts.Texts.{Texts}
 use Rattle.p3_cli.specs.declared.ending.Ending as code
 use Rattle.p3_cli.specs.declared.ending.Ending.TheVariants as coded

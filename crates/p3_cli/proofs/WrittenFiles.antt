@@ -1,34 +1,29 @@
 -- The files that are written one after another.
-use Rattle.std.proofs.Common.{◌≡◌, ◌∙◌, ◌+◌, ◌<◌, ◌≤◌, ℕ, zero, suc, List, [], ◌∷◌, ◌++◌, length, map, take, get_or, Option, Some, refl, sym, ap, subst, arith}
-use Rattle.std.specs.Prelude.{slice_get, zip, IsSomeAnd}
-use Rattle.std.proofs.lemmas.List.{take_all, length-map}
+use Rattle.std.proofs.Common.{◌≡◌, ◌∙◌, ◌+◌, ◌<◌, ◌≤◌, ℕ, zero, suc, List, [], ◌∷◌, ◌++◌, length, take, get_or, Option, Some, refl, sym, ap, subst, arith}
+use Rattle.std.specs.Prelude.{slice_get, IsSomeAnd}
+use Rattle.std.proofs.lemmas.List.{take_all}
 use Rattle.p3_base.specs.Outside.{Store, holding, IsPartlyWritten}
 use Rattle.p3_base.specs.declared.refusal.Role.{Role}
 use Rattle.p3_tree.specs.Commands.{Output, Word, output}
-use Rattle.p3_cli.specs.Store.{files, holding_all, IsWrittenUpTo}
+use Rattle.p3_cli.specs.Store.{files, holding_all, writings, IsWrittenUpTo}
+use Rattle.p3_cli.specs.Texts.{Made, made_of}
 
-module _ {T : Type 0} (bytes : T → List ℕ) where
-  -- the file at a place
-  pub file_at : (roles : List Role) (names : List Word) (texts : List T) (i : ℕ) (other : Role) (name : Word) (text : T) → i < length texts → length roles ≡ length names → length texts ≡ length names
-      → name ≡ get_or names i name → text ≡ get_or texts i text → slice_get (files roles names (map bytes texts)) i ≡ Some (output (get_or roles i other, name), bytes text)
-  file_at roles names [] i other name text within all_roles all_texts named is = absurd (omega (arith, within))
-  file_at roles [] (one ∷ texts) i other name text within all_roles all_texts named is = absurd (cc)
-  file_at [] (first ∷ names) (one ∷ texts) i other name text within all_roles all_texts named is = absurd (cc)
-  file_at (role ∷ roles) (first ∷ names) (one ∷ texts) zero other name text within all_roles all_texts named is = λ k. Some (output (role, sym named k), bytes (sym is k))
-  file_at (role ∷ roles) (first ∷ names) (one ∷ texts) (suc i) other name text within all_roles all_texts named is =
-      file_at roles names texts i other name text (omega (arith, within)) (cc) (cc) named is
+-- the file at a place
+pub file_at : (roles : List Role) (names : List Word) (made : Made) (i : ℕ) (other : Role) (name : Word) → i < length names → length roles ≡ length names → name ≡ get_or names i name
+    → slice_get (writings (files roles names) made) i ≡ Some (output (get_or roles i other, name), made_of (get_or roles i other) made)
+file_at roles [] made i other name within all named = absurd (omega (arith, within))
+file_at [] (first ∷ names) made i other name within all named = absurd (cc)
+file_at (role ∷ roles) (first ∷ names) made zero other name within all named = λ k. Some (output (role, sym named k), made_of role made)
+file_at (role ∷ roles) (first ∷ names) made (suc i) other name within all named = file_at roles names made i other name (omega (arith, within)) (cc) named
 
-  zip_short : {A B : Type 0} (xs : List A) (ys : List B) → length (zip xs ys) ≤ length ys
-  zip_short [] ys = omega arith
-  zip_short (x ∷ xs) [] = omega arith
-  zip_short (x ∷ xs) (y ∷ ys) = let rest = zip_short xs ys in omega (arith, rest)
+files_short : (roles : List Role) (names : List Word) (made : Made) → length (writings (files roles names) made) ≤ length names
+files_short [] names made = omega arith
+files_short (role ∷ roles) [] made = omega arith
+files_short (role ∷ roles) (name ∷ names) made = let rest = files_short roles names made in omega (arith, rest)
 
-  -- there is none behind the last text
-  pub all_files : (roles : List Role) (names : List Word) (texts : List T) (i : ℕ) → length texts ≤ i → take i (files roles names (map bytes texts)) ≡ files roles names (map bytes texts)
-  all_files roles names texts i all =
-      let short = zip_short (map output (zip roles names)) (map bytes texts) in
-      let many : length (map bytes texts) ≡ length texts = length-map texts bytes in
-      take_all i (files roles names (map bytes texts)) (omega (arith, all, short, many))
+-- there is none behind the last name
+pub all_files : (roles : List Role) (names : List Word) (made : Made) (i : ℕ) → length names ≤ i → take i (writings (files roles names) made) ≡ writings (files roles names) made
+all_files roles names made i all = let short = files_short roles names made in take_all i (writings (files roles names) made) (omega (arith, all, short))
 
 holding_more : (written : List (Output × List ℕ)) (next : Output × List ℕ) (told : Option Store) → holding_all (written ++ next ∷ []) told ≡ holding next.0.name next.1 (holding_all written told)
 holding_more [] next told = refl
@@ -39,37 +34,6 @@ took [] i next is = absurd (cc)
 took (first ∷ written) zero next is = let same : first ≡ next = cc in ap (λ one. one ∷ []) same
 took (first ∷ written) (suc i) next is =
     let on : suc i + 1 ≡ suc (i + 1) = omega arith in ap (λ n. take n (first ∷ written)) on ∙ ap (λ rest. first ∷ rest) (took written i next is)
-
--- ---- their names and their texts
-
-zip_long : {A B : Type 0} (xs : List A) (ys : List B) → length xs ≡ length ys → length (zip xs ys) ≡ length ys
-zip_long [] [] same = refl
-zip_long [] (y ∷ ys) same = absurd (cc)
-zip_long (x ∷ xs) [] same = refl
-zip_long (x ∷ xs) (y ∷ ys) same = ap suc (zip_long xs ys (cc))
-
-firsts : {A B : Type 0} (xs : List A) (ys : List B) → length xs ≡ length ys → map (λ pair. pair.0) (zip xs ys) ≡ xs
-firsts [] ys same = refl
-firsts (x ∷ xs) [] same = absurd (cc)
-firsts (x ∷ xs) (y ∷ ys) same = ap (λ rest. x ∷ rest) (firsts xs ys (cc))
-
-seconds : {A B : Type 0} (xs : List A) (ys : List B) → length xs ≡ length ys → map (λ pair. pair.1) (zip xs ys) ≡ ys
-seconds [] [] same = refl
-seconds [] (y ∷ ys) same = absurd (cc)
-seconds (x ∷ xs) [] same = absurd (cc)
-seconds (x ∷ xs) (y ∷ ys) same = ap (λ rest. y ∷ rest) (seconds xs ys (cc))
-
-module _ (roles : List Role) (names : List Word) (texts : List (List ℕ)) (all_roles : length roles ≡ length names) (all_texts : length texts ≡ length names) where
-  as_many : length (map output (zip roles names)) ≡ length texts
-  as_many = length-map (zip roles names) output ∙ zip_long roles names all_roles ∙ sym all_texts
-
-  pub outputs_of : map (λ (file : Output × List ℕ). file.0) (files roles names texts) ≡ map output (zip roles names)
-  outputs_of = firsts (map output (zip roles names)) texts as_many
-
-  pub texts_of : map (λ (file : Output × List ℕ). file.1) (files roles names texts) ≡ texts
-  texts_of = seconds (map output (zip roles names)) texts as_many
-
--- ---- one after another
 
 -- one more file is written
 pub one_more_file : (written : List (Output × List ℕ)) (i : ℕ) (next : Output × List ℕ) (told : Option Store) → slice_get written i ≡ Some next

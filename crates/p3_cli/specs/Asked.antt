@@ -12,7 +12,7 @@ abbrev pub asked_command : Request → commands.Command
 asked_command request = record { kind = request.kind; number = request.number; reads = request.reads.now; writes = request.writes.now }
 
 abbrev pub asked_input : Input → commands.Input
-asked_input input = record { role = input.role; name = input.name.now; limit = input.limit }
+asked_input input = commands.input (input.role, input.name.now)
 
 abbrev pub asked_inputs : List Input → List commands.Input
 asked_inputs = map asked_input

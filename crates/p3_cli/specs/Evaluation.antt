@@ -9,7 +9,8 @@ use Rattle.p3_tree.specs.Validity.{Fault, Valid, first_fault}
 use Rattle.p3_tree.specs.declared.task.Task.{Task}
 use Rattle.p3_reports.specs.Faults.{fault_named}
 use Rattle.p3_cli.specs.Ending.{Ending, Invalid}
-use Rattle.p3_cli.specs.Refusing.{AllTexts, IsRefusal, IsRejectedBy, task_texts}
+use Rattle.p3_cli.specs.Refusing.{IsRefusal, IsRejectedBy}
+use Rattle.p3_cli.specs.Texts.{AllTexts, task_texts}
 use Rattle.p3_cli.specs.declared.ending.Ending as code
 
 -- ---- of the texts

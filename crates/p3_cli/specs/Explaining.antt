@@ -10,7 +10,8 @@ use Rattle.p3_explain.specs.declared.error.ExplainFail.{ExplainFail}
 use Rattle.p3_explain.specs.declared.error.ExplainFail.TheVariants as fail
 use Rattle.p3_cli.specs.Ending.{Ending, Invalid}
 use Rattle.p3_cli.specs.Evaluation.{AreOfPlan, given_plan}
-use Rattle.p3_cli.specs.Refusing.{AllTexts, IsRefusal, IsRejectedBy}
+use Rattle.p3_cli.specs.Refusing.{IsRefusal, IsRejectedBy}
+use Rattle.p3_cli.specs.Texts.{AllTexts}
 use Rattle.p3_cli.specs.declared.ending.Ending as code
 
 -- ---- of an accepted task and a plan for it

@@ -6,7 +6,7 @@ use Rattle.p3_base.specs.declared.refusal.Refusal.{Refusal}
 use Rattle.p3_base.specs.declared.refusal.Side.TheVariants.{Source}
 use Rattle.p3_tree.specs.Faithful.{Faithful}
 use Rattle.p3_tree.specs.Grammar.Texts.{Reads}
-use Rattle.p3_tree.specs.Refusals.First.{AreAccepted, given_task}
+use Rattle.p3_tree.specs.Refusals.First.{AreAccepted}
 use Rattle.p3_tree.specs.Refusals.Flat.{IsFlatRefusal, IsWideStepAt, most_conditions}
 use Rattle.p3_tree.specs.Reports.Tasks.{compiled_lines}
 use Rattle.p3_tree.specs.StepNumbers.{HasNumber}
@@ -18,7 +18,8 @@ use Rattle.p3_flat.specs.Flattened.{first_too_wide}
 use Rattle.p3_formula.specs.declared.target.Target.{Target}
 use Rattle.p3_formula.specs.declared.target.TargetAction.{TargetAction}
 use Rattle.p3_cli.specs.Ending.{Ending}
-use Rattle.p3_cli.specs.Refusing.{AllTexts, IsRefusal, IsRejectedBy, Says, only_task}
+use Rattle.p3_cli.specs.Refusing.{IsRejectedBy, RejectsTask, Says}
+use Rattle.p3_cli.specs.Texts.{AllTexts}
 use Rattle.p3_cli.specs.Translation.{IsTargetOf}
 use Rattle.p3_cli.specs.declared.ending.Ending as code
 
@@ -59,13 +60,9 @@ pub record IsTooWide (d p : List ℕ) (refusal : Refusal) : Type 0 where
   pub is : IsFlatRefusal d p refusal
   pub first : IsFirstTooWide is.task is.at.step
 
--- the ending says so
-abbrev pub MayBeTooWide : List ℕ → List ℕ → Ending → Type 0
-MayBeTooWide d p how = Says (only_task d p) (IsTooWide d p) how
-
 -- the ending says why nothing is made of a task that is read alone: its first refusal, or a step that may have too many conditions
 abbrev pub StopsFlat : AllTexts → Ending → Type 0
-StopsFlat texts how = IsRefusal (given_task Source texts.domain texts.problem) texts how ⊎ Says texts (IsTooWide texts.domain texts.problem) how
+StopsFlat texts how = RejectsTask texts how ⊎ Says texts (IsTooWide texts.domain texts.problem) how
 
 abbrev pub IsStoppedFlat : AllTexts → code.Ending → Type 0
 IsStoppedFlat texts how = IsRejectedBy (StopsFlat texts) how

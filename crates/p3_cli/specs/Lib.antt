@@ -16,5 +16,6 @@ pub mod Status
 pub mod Store
 pub mod Streaming
 pub mod Sure
+pub mod Texts
 pub mod Translation
 pub mod WrittenText

@@ -17,7 +17,8 @@ use Rattle.p3_lift.specs.declared.answers.LiftFail.{LiftFail}
 use Rattle.p3_lift.specs.declared.answers.LiftFail.TheVariants as fail
 use Rattle.p3_lift.specs.declared.answers.Lifted.{Lifted}
 use Rattle.p3_cli.specs.Ending.{Ending, Invalid, Refused}
-use Rattle.p3_cli.specs.Refusing.{AllTexts, IsRefusal, for_lift, task_texts}
+use Rattle.p3_cli.specs.Refusing.{IsRefusal}
+use Rattle.p3_cli.specs.Texts.{AllTexts, task_texts}
 
 -- ---- of the texts
 
@@ -33,11 +34,11 @@ pub record AreOfLift (texts : AllTexts) (T U : Task) (plan : Plan) : Type 0 wher
   pub few : length plan ≤ step_limit
 
 -- nothing is refused of the texts, whose plan is lifted; the text spells the lifted plan, and the report tells of it
-pub record IsLifting (d p od op q text report : List ℕ) : Type 0 where
+pub record IsLifting (texts : AllTexts) (text report : List ℕ) : Type 0 where
   pub task : Task
   pub written : Task
   pub plan : Plan
-  pub texts : AreOfLift (for_lift d p od op q) task written plan
+  pub of : AreOfLift texts task written plan
   pub lifted : Lifted
   pub is : IsLifted task written plan lifted
   pub spelled : IsPlanText text lifted.plan

@@ -3,11 +3,12 @@ use Rattle.std.specs.Prelude.{ℕ, ◌≡◌, List, Option, IfSome}
 use Rattle.p3_base.specs.Outside.{Store, Rose}
 use Rattle.p3_tree.specs.Commands.{Input, Output}
 use Rattle.p3_cli.specs.Store.{reading, Texts, TooLong, AreFirstWritten, IsUnreadAt, IsWrittenUpTo}
+use Rattle.p3_cli.specs.Texts.{AllTexts}
 use Rattle.p3_cli.specs.declared.ending.Ending.{Ending}
 use Rattle.p3_cli.specs.declared.ending.Ending.TheVariants as ending
 
 -- where it is told, these are the texts of the inputs
-abbrev pub ReadsAll : Option Store → List Input → List (List ℕ) → Type 0
+abbrev pub ReadsAll : Option Store → List Input → AllTexts → Type 0
 ReadsAll told inputs texts = IfSome told (λ store. reading store inputs ≡ Texts texts)
 
 -- why the inputs were not all read

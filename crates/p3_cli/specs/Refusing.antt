@@ -1,10 +1,8 @@
--- The texts that a command has read, and the endings that say why nothing is made of them.
-use Rattle.std.specs.Prelude.{ℕ, ◌≡◌, List, [], Some}
+-- What is refused of the texts that a command has read, and the endings that say why nothing is made of them.
+use Rattle.std.specs.Prelude.{◌≡◌, List, ℕ, Some}
 use Rattle.p3_base.specs.declared.refusal.Refusal.{Refusal}
-use Rattle.p3_base.specs.declared.refusal.Role.{Role}
-use Rattle.p3_base.specs.declared.refusal.Role.TheVariants as role
 use Rattle.p3_base.specs.declared.refusal.Side.{Side}
-use Rattle.p3_base.specs.declared.refusal.Side.TheVariants.{Source, Written}
+use Rattle.p3_base.specs.declared.refusal.Side.TheVariants.{Source}
 use Rattle.p3_tree.specs.Grammar.Texts.{Reads}
 use Rattle.p3_tree.specs.PlanTexts.{plan_offence}
 use Rattle.p3_tree.specs.Refusals.First.{AreAccepted, AreReadable, Given, IsFirstOfTexts, IsFirstRefusal, TaskTexts, given_task, halves}
@@ -15,61 +13,11 @@ use Rattle.p3_reports.specs.declared.refusal.Rejection.TheVariants.{At}
 use Rattle.p3_outline.specs.declared.error.ReadFail.{ReadFail}
 use Rattle.p3_outline.specs.declared.error.ReadFail.TheVariants as fail
 use Rattle.p3_cli.specs.Ending.{Ending, Invalid, Refused}
+use Rattle.p3_cli.specs.Texts.{AllTexts, domain_of, problem_of, task_texts, text_of}
 use Rattle.p3_cli.specs.declared.ending.Ending as code
 use Rattle.p3_cli.specs.declared.ending.Ending.TheVariants as coded
-use Rattle.p3_cli.specs.declared.texts.Texts.{Texts}
 
 -- ---- what is read
-
--- the texts that were read, by what they are; one that was not read is empty
-pub record AllTexts : Type 0 where
-  pub domain : List ℕ
-  pub problem : List ℕ
-  pub written_domain : List ℕ
-  pub written_problem : List ℕ
-  pub plan : List ℕ
-
--- the texts that the code has
-abbrev pub all_texts : Texts → AllTexts
-all_texts texts = record {
-  domain = texts.domain.now;
-  problem = texts.problem.now;
-  written_domain = texts.written_domain.now;
-  written_problem = texts.written_problem.now;
-  plan = texts.plan.now;
-}
-
--- the text of the file that a role names
-abbrev pub text_of : Role → AllTexts → List ℕ
-text_of role.Domain texts = texts.domain
-text_of role.Problem texts = texts.problem
-text_of role.WrittenDomain texts = texts.written_domain
-text_of role.WrittenProblem texts = texts.written_problem
-text_of role.Plan texts = texts.plan
-
-abbrev pub domain_of : Side → AllTexts → List ℕ
-domain_of Source texts = texts.domain
-domain_of Written texts = texts.written_domain
-
-abbrev pub problem_of : Side → AllTexts → List ℕ
-problem_of Source texts = texts.problem
-problem_of Written texts = texts.written_problem
-
--- the texts of the task of a side
-abbrev pub task_texts : Side → AllTexts → TaskTexts
-task_texts side texts = record { side = side; domain = domain_of side texts; problem = problem_of side texts }
-
--- a task that is read alone
-abbrev pub only_task : List ℕ → List ℕ → AllTexts
-only_task d p = record { domain = d; problem = p; written_domain = []; written_problem = []; plan = [] }
-
--- a task with a plan for it
-abbrev pub with_plan : List ℕ → List ℕ → List ℕ → AllTexts
-with_plan d p q = record { domain = d; problem = p; written_domain = []; written_problem = []; plan = q }
-
--- a task with one that is written for it, and a plan for that
-abbrev pub for_lift : List ℕ → List ℕ → List ℕ → List ℕ → List ℕ → AllTexts
-for_lift d p od op q = record { domain = d; problem = p; written_domain = od; written_problem = op; plan = q }
 
 -- nothing is refused of the texts by themselves, and they are those of the task
 pub record IsSpelled (texts : TaskTexts) (task : Task) : Type 0 where
@@ -130,6 +78,10 @@ EndsAs texts fail.NoMemory how = how ≡ coded.OutOfMemory
 abbrev pub IsRefusal : Given → AllTexts → Ending → Type 0
 IsRefusal given texts how = Says texts (IsFirstRefusal given) how
 
--- of a task that is read alone: the ending says its first refusal, or memory is wanting
+-- of a task that is read alone: the ending says its first refusal
+abbrev pub RejectsTask : AllTexts → Ending → Type 0
+RejectsTask texts how = IsRefusal (given_task Source texts.domain texts.problem) texts how
+
+-- or memory is wanting
 abbrev pub IsRefusedTask : AllTexts → code.Ending → Type 0
-IsRefusedTask texts how = IsRejectedBy (IsRefusal (given_task Source texts.domain texts.problem) texts) how
+IsRefusedTask texts how = IsRejectedBy (RejectsTask texts) how

@@ -1,14 +1,15 @@
 -- A whole run: when each ending comes, what it leaves in the files, and what it puts.
-use Rattle.std.specs.Prelude.{ℕ, ◌≡◌, ◌⊎◌, List, Option, Some, None, IfSome, map, ◌≢◌}
+use Rattle.std.specs.Prelude.{ℕ, ◌≡◌, ◌⊎◌, List, Option, Some, None, IfSome, ◌≢◌}
 use Rattle.std.specs.Option.{option_map}
 use Rattle.std.specs.List.{AllByRecursion}
 use Rattle.p3_base.specs.Outside.{FilesSeen, SinkSeen, Store, Rose, bytes_under}
 use Rattle.p3_cli.specs.Ending as ending
 use Rattle.p3_cli.specs.Ending.{Ending, Tells, status_of}
-use Rattle.p3_cli.specs.Product.{Rejects, Stops, Accepts, AcceptsSurely, Produces, texts_in}
-use Rattle.p3_tree.specs.Commands.{Command, Output, inputs, outputs}
+use Rattle.p3_cli.specs.Product.{Rejects, Stops, Accepts, AcceptsSurely, Produces}
+use Rattle.p3_tree.specs.Commands.{Command, inputs, outputs}
 use Rattle.p3_cli.specs.Status as status
-use Rattle.p3_cli.specs.Store.{Reading, Texts, TooLong, Absent, reading, AreStored, holding_all, AreFirstWritten, IsUnreadAt, IsWrittenUpTo}
+use Rattle.p3_cli.specs.Store.{Reading, Texts, TooLong, Absent, reading, AreStored, writings, holding_all, AreFirstWritten, IsUnreadAt, IsWrittenUpTo}
+use Rattle.p3_cli.specs.Texts.{AllTexts, Made}
 
 -- the ending says why nothing is made of what was read
 abbrev pub ShownBy : Command → Reading → Ending → Type 0
@@ -31,16 +32,15 @@ MayBeRejectionIn store command how = MayBeShownBy command (reading store (inputs
 
 -- all inputs are held, within their limits, and there is no reason to make nothing of them
 abbrev pub IsAccepted : Store → Command → Type 0
-IsAccepted store command = (texts : List (List ℕ)) × (reading store (inputs command) ≡ Texts texts) × Accepts command texts
+IsAccepted store command = (texts : AllTexts) × (reading store (inputs command) ≡ Texts texts) × Accepts command texts
 
 -- nor one that may come
 abbrev pub IsSurelyAccepted : Store → Command → Type 0
-IsSurelyAccepted store command = (texts : List (List ℕ)) × (reading store (inputs command) ≡ Texts texts) × AcceptsSurely command texts
+IsSurelyAccepted store command = (texts : AllTexts) × (reading store (inputs command) ≡ Texts texts) × AcceptsSurely command texts
 
--- there is a text for each output, and the texts and the report are what the command makes of what was read
-pub record IsProduct (told : Option Store) (command : Command) (writings : List (Output × List ℕ)) (report : List ℕ) : Type 0 where
-  pub outputs : map (λ written. written.0) writings ≡ outputs command
-  pub made : IfSome told (λ store. (read : List (List ℕ)) × (reading store (inputs command) ≡ Texts read) × Produces command read (texts_in writings) report)
+-- the texts that are made and the report are what the command makes of what was read
+abbrev pub IsProduct : Option Store → Command → Made → List ℕ → Type 0
+IsProduct told command made report = IfSome told (λ store. (read : AllTexts) × (reading store (inputs command) ≡ Texts read) × Produces command read made report)
 
 -- when an ending of a command comes
 abbrev pub Comes : Command → FilesSeen → FilesSeen → Ending → Type 0
@@ -56,11 +56,11 @@ Comes command old new ending.Usage = ⊥
 -- what the files hold after an ending of a command: all outputs, a first part of them, or what they held
 abbrev pub Leaves : Command → Option Store → Option Store → Ending → Type 0
 Leaves command old new (ending.Done lines) =
-    (writings : List (Output × List ℕ)) × IsProduct old command writings lines × (new ≡ holding_all writings old)
+    (made : Made) × IsProduct old command made lines × (new ≡ holding_all (writings (outputs command) made) old)
 Leaves command old new (ending.WriteFailed role) =
-    (writings : List (Output × List ℕ)) × (report : List ℕ) × IsProduct old command writings report × IsWrittenUpTo role writings old new
+    (made : Made) × (report : List ℕ) × IsProduct old command made report × IsWrittenUpTo role (writings (outputs command) made) old new
 Leaves command old new ending.OutOfMemory =
-    (new ≡ old) ⊎ ((writings : List (Output × List ℕ)) × (report : List ℕ) × IsProduct old command writings report × AreFirstWritten writings old new)
+    (new ≡ old) ⊎ ((made : Made) × (report : List ℕ) × IsProduct old command made report × AreFirstWritten (writings (outputs command) made) old new)
 Leaves command old new (ending.Refused rejection) = new ≡ old
 Leaves command old new (ending.Invalid fault) = new ≡ old
 Leaves command old new (ending.TooLong role) = new ≡ old

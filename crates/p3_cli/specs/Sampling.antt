@@ -9,7 +9,6 @@ use Rattle.p3_tree.specs.Validity.{Valid}
 use Rattle.p3_tree.specs.declared.task.Task.{Task}
 use Rattle.p3_cli.specs.Embedding.{IsSource}
 use Rattle.p3_cli.specs.Evaluation.{AreOfPlan}
-use Rattle.p3_cli.specs.Refusing.{AllTexts, with_plan}
 
 -- the report tells of the task and of the plan, and of the plan's source in a faithful translation
 pub record IsSampled (T : Task) (plan : Plan) (report : List ℕ) : Type 0 where
@@ -20,10 +19,10 @@ pub record IsSampled (T : Task) (plan : Plan) (report : List ℕ) : Type 0 where
   pub told : report ≡ generated_lines T plan (length source) (value written source)
 
 -- nothing is refused of the texts of a task and of a plan, the plan is valid, and the report tells of them
-pub record IsSampleReport (texts : AllTexts) (report : List ℕ) : Type 0 where
+pub record IsSampleReport (d p q report : List ℕ) : Type 0 where
   pub task : Task
   pub plan : Plan
-  pub of : AreOfPlan texts.domain texts.problem texts.plan task plan
+  pub of : AreOfPlan d p q task plan
   pub valid : Valid task plan
   pub sampled : IsSampled task plan report
 
@@ -32,4 +31,4 @@ pub record IsSampling (number : ℕ) (d p q report : List ℕ) : Type 0 where
   pub domain : d ≡ sample_domain
   pub problem : p ≡ sample_problem number
   pub plan : q ≡ sample_plan number
-  pub reported : IsSampleReport (with_plan d p q) report
+  pub reported : IsSampleReport d p q report

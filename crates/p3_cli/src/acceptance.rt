@@ -13,9 +13,8 @@ ghost use Rattle.p3_cli.specs.Refusing.{
   IsOfTask,
   IsRefusedFor,
   IsSpelled,
-  all_texts,
-  task_texts,
 };
+ghost use Rattle.p3_cli.specs.Texts.{all_texts, task_texts};
 ghost use Rattle.p3_cli.specs.Translation.{CanBeCompiled};
 
 use crate::Ending;
@@ -31,7 +30,7 @@ use std::alloc::Global;
 
 /// Reads the task that the texts of a side spell, where they show no refusal by themselves.
 #[tactic(auto, using(crate::proofs::SpelledLemmas::halves_spell))]
-pub(crate) fn spelled_task(alloc: Global, side: Side, texts: &Texts<'_>) -> Result<Task, Ending>
+pub(crate) fn spelled_task(alloc: Global, side: Side, texts: &Texts) -> Result<Task, Ending>
     ensures spelled { IfOk result (IsSpelled (task_texts side (all_texts texts.now))) }
     ensures err { IfErr result
         (IsRefusedFor (all_texts texts.now) (IsOfHalves side (all_texts texts.now))) }
@@ -48,12 +47,12 @@ pub(crate) fn spelled_task(alloc: Global, side: Side, texts: &Texts<'_>) -> Resu
 }
 
 /// Looks through the text of the plan for its first offence.
-pub(crate) fn readable_plan(texts: &Texts<'_>) -> Result<(), Ending>
-    ensures free { OnOk result (plan_offence texts.now.plan.now ≡ None) }
+pub(crate) fn readable_plan(texts: &Texts) -> Result<(), Ending>
+    ensures free { OnOk result (plan_offence texts.now.plan.items ≡ None) }
     ensures err { IfErr result
         (IsRefusedFor (all_texts texts.now) (IsOfPlan (all_texts texts.now))) }
 {
-    match first_plan_offence(texts.plan) {
+    match first_plan_offence(texts.plan()) {
         None => Ok(()),
         Some(refusal) => Err(texts.refused(&refusal)),
     }
@@ -78,7 +77,7 @@ pub(crate) fn plan_of(alloc: Global, text: &[u8]) -> Result<Plan, NoMemory>
 pub(crate) fn accepted(
     alloc: Global,
     side: Side,
-    texts: &Texts<'_>,
+    texts: &Texts,
     task: Task,
 ) -> Result<Accepted, Ending>
     requires { IsSpelled (task_texts side (all_texts texts.now)) task }
@@ -99,7 +98,7 @@ pub(crate) fn accepted(
 pub(crate) fn grounded(
     alloc: Global,
     side: Side,
-    texts: &Texts<'_>,
+    texts: &Texts,
     task: Task,
 ) -> Result<Whole, Ending>
     requires { IsSpelled (task_texts side (all_texts texts.now)) task }
@@ -119,7 +118,7 @@ pub(crate) fn grounded(
 }
 
 /// Checks the task that the texts spell: it is well-formed, or refused.
-fn checked(alloc: Global, side: Side, texts: &Texts<'_>, task: Task) -> Result<Checked, Ending>
+fn checked(alloc: Global, side: Side, texts: &Texts, task: Task) -> Result<Checked, Ending>
     requires { IsSpelled (task_texts side (all_texts texts.now)) task }
     ensures spelled { IfOk result (λ checked.
         IsSpelled (task_texts side (all_texts texts.now)) checked.task) }
@@ -137,7 +136,7 @@ fn checked(alloc: Global, side: Side, texts: &Texts<'_>, task: Task) -> Result<C
 }
 
 /// Gives the ending where a half was not read.
-fn not_read(texts: &Texts<'_>, fail: ReadFail) -> Ending
+fn not_read(texts: &Texts, fail: ReadFail) -> Ending
     ensures { EndsAs (all_texts texts.now) fail result }
 {
     match fail {

@@ -21,7 +21,8 @@ ghost use Rattle.p3_cli.specs.Store.{AreStored};
 
 use crate::asking::asked;
 use crate::ending;
-use crate::product::{product_of, watched};
+use crate::following::follow;
+use crate::product::product_of;
 use crate::request::Request;
 use crate::status::UNPUT;
 use crate::store::{read_all, write_all};
@@ -133,20 +134,14 @@ fn carried_out<F: Files, S: Sink>(
         Err(ending) => return Err(ending),
     };
     if let CommandKind::Watch = request.kind {
-        return watched(alloc, request, texts.as_slice(), out);
+        return follow(alloc, &texts, out);
     }
-    let product = match product_of(alloc, request, texts.as_slice()) {
+    let product = match product_of(alloc, request.kind, request.number, &texts) {
         Ok(product) => product,
         Err(ending) => return Err(ending),
     };
     let roles = row_of(request.kind).writes;
-    match write_all(
-        alloc,
-        files,
-        roles,
-        request.writes,
-        product.texts.as_slice(),
-    ) {
+    match write_all(alloc, files, roles, request.writes, &product.made) {
         Ok(()) => Ok(told(&ending::Ending::Done(product.report), out)),
         Err(ending) => Err(ending),
     }

@@ -1,6 +1,6 @@
 //! What `embed` makes of the texts of a task and of a plan for it.
 
-ghost use Rattle.std.specs.Prelude.{◌≡◌, ◌∷◌, [], IfErr, IfOk, IsTrue, OnOk, length, map, pos};
+ghost use Rattle.std.specs.Prelude.{◌≡◌, IfErr, IfOk, IsTrue, OnOk, length, pos};
 ghost use Rattle.std.specs.List.{list_all};
 ghost use Rattle.p3_tree.specs.PlanTexts.{IsPlanText};
 ghost use Rattle.p3_tree.specs.Reports.Plans.{embedded_lines};
@@ -13,7 +13,8 @@ ghost use Rattle.p3_embed.specs.Plans.{IsEmbeddedPlan};
 ghost use Rattle.p3_reports.specs.Reports.{report_text};
 ghost use Rattle.p3_cli.specs.Embedding.{IsEmbedding};
 ghost use Rattle.p3_cli.specs.Evaluation.{IsFaultOf, IsRejectedPlan};
-ghost use Rattle.p3_cli.specs.Refusing.{IsRejectedBy, all_texts};
+ghost use Rattle.p3_cli.specs.Refusing.{IsRejectedBy};
+ghost use Rattle.p3_cli.specs.Texts.{all_texts};
 ghost use Rattle.p3_cli.specs.Translation.{AreTextsOf, CanBeCompiled, HasLayout};
 ghost use Rattle.p3_cli.specs.WrittenText.{HasPlanLayout};
 
@@ -21,7 +22,7 @@ use crate::Ending;
 use crate::evaluation::{invalid, judged_whole};
 use crate::found::embedded_report;
 use crate::product::Product;
-use crate::texts::Texts;
+use crate::texts::{Made, Texts};
 use p3_base::NoMemory;
 use p3_compile::compile;
 use p3_embed::{EmbedFail, Embedded, embed_steps};
@@ -33,46 +34,20 @@ use p3_writer::{write_domain, write_problem};
 use std::alloc::Global;
 use std::mem::forget;
 
-/// The texts of a translation of a task and of the source of a plan, and the report.
-#[derive(Drop)]
-pub(crate) struct Embedding {
-    /// The domain.
-    pub(crate) domain: Vec<u8>,
-    /// The problem.
-    pub(crate) problem: Vec<u8>,
-    /// The plan.
-    pub(crate) plan: Vec<u8>,
-    /// The report.
-    pub(crate) report: Report,
-}
-
-impl Embedding {
-    /// Gives the texts for the outputs, and the report.
-    pub(crate) fn product(self, alloc: Global) -> Result<Product, NoMemory>
-        ensures texts { IfOk result (λ product. map (λ text. text.items) product.texts.items
-            ≡ self.domain.items ∷ self.problem.items ∷ self.plan.items ∷ []) }
-        ensures report { IfOk result (λ product. product.report ≡ self.report) }
-    {
-        Ok(Product {
-            texts: vec![in alloc; self.domain, self.problem, self.plan]?,
-            report: self.report,
-        })
-    }
-}
-
 /// Translates the task that two texts spell, and with it the plan that the third one spells.
-pub(crate) fn embed(alloc: Global, texts: &Texts<'_>) -> Result<Embedding, Ending>
-    ensures means { IfOk result (λ made. IsEmbedding
-        texts.now.domain.now texts.now.problem.now texts.now.plan.now
-        made.domain.items made.problem.items made.plan.items
-        (report_text made.report)) }
-    ensures layout { IfOk result (λ made. HasLayout texts.now.domain.now texts.now.problem.now
-        made.domain.items made.problem.items) }
-    ensures lines { IfOk result (λ made. HasPlanLayout made.plan.items) }
+pub(crate) fn embed(alloc: Global, texts: &Texts) -> Result<Product, Ending>
+    ensures means { IfOk result (λ product. IsEmbedding
+        texts.now.domain.items texts.now.problem.items texts.now.plan.items
+        product.made.domain.items product.made.problem.items product.made.plan.items
+        (report_text product.report)) }
+    ensures layout { IfOk result (λ product.
+        HasLayout texts.now.domain.items texts.now.problem.items
+        product.made.domain.items product.made.problem.items) }
+    ensures lines { IfOk result (λ product. HasPlanLayout product.made.plan.items) }
     ensures err { IfErr result (IsRejectedPlan (all_texts texts.now)) }
 {
     let whole = judged_whole(alloc, texts)?;
-    let steps = Steps::of_text(alloc, whole.checked(), texts.plan)?;
+    let steps = Steps::of_text(alloc, whole.checked(), texts.plan())?;
     let target = compile(alloc, whole.ground_task(), whole.weights())?;
     let embedded = match embedded(alloc, &whole, &target, &steps) {
         Ok(embedded) => embedded,
@@ -116,22 +91,25 @@ fn embedding_of(
     whole: &Whole,
     target: &Target,
     embedded: &Embedded,
-) -> Result<Embedding, NoMemory>
+) -> Result<Product, NoMemory>
     requires can { CanBeCompiled
         whole.now.checked.task whole.now.ground_task whole.now.weights }
     requires compiled { Compiled whole.now.ground_task whole.now.weights target.now }
     requires named { IsTrue (list_all has_written_words embedded.now.plan) }
-    ensures text { IfOk result (λ made.
-        AreTextsOf target.now made.domain.items made.problem.items) }
-    ensures plan { IfOk result (λ made. IsPlanText made.plan.items embedded.now.plan) }
-    ensures lines { IfOk result (λ made. HasPlanLayout made.plan.items) }
-    ensures report { IfOk result (λ made. report_text made.report ≡ embedded_lines
+    ensures text { IfOk result (λ product.
+        AreTextsOf target.now product.made.domain.items product.made.problem.items) }
+    ensures plan { IfOk result (λ product. IsPlanText product.made.plan.items embedded.now.plan) }
+    ensures lines { IfOk result (λ product. HasPlanLayout product.made.plan.items) }
+    ensures report { IfOk result (λ product. report_text product.report ≡ embedded_lines
         whole.now.checked.task (length embedded.now.plan) embedded.now.cost) }
 {
-    Ok(Embedding {
+    let made = Made {
         domain: write_domain(alloc, target)?,
         problem: write_problem(alloc, target)?,
         plan: write_plan(alloc, &embedded.plan)?,
+    };
+    Ok(Product {
+        made,
         report: Report::Embed(embedded_report(whole, embedded)),
     })
 }

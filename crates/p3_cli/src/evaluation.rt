@@ -1,10 +1,12 @@
 //! What `evaluate` makes of the texts of a task and of a plan for it.
 
 ghost use Rattle.std.specs.Prelude.{◌≡◌, IfErr, IfOk, None, OnOk};
+ghost use Rattle.std.specs.List.{All};
 ghost use Rattle.p3_base.specs.declared.refusal.Side.TheVariants.{Source};
 ghost use Rattle.p3_tree.specs.PlanTexts.{plan_offence};
 ghost use Rattle.p3_reports.specs.Faults.{fault_named};
 ghost use Rattle.p3_reports.specs.Reports.{report_text};
+ghost use Rattle.p3_ground.specs.StandsFor.{LeftOutAt};
 ghost use Rattle.p3_eval.specs.Judged.{fault_in};
 ghost use Rattle.p3_eval.specs.Steps.{AreOfPlan, OfSteps};
 ghost use Rattle.p3_cli.specs.Ending.{Invalid};
@@ -15,14 +17,8 @@ ghost use Rattle.p3_cli.specs.Evaluation.{
   IsReportOf,
   given_plan,
 };
-ghost use Rattle.p3_cli.specs.Refusing.{
-  AreAcceptedFor,
-  IsRefusal,
-  IsRejectedBy,
-  IsSpelled,
-  all_texts,
-  task_texts,
-};
+ghost use Rattle.p3_cli.specs.Refusing.{AreAcceptedFor, IsRefusal, IsRejectedBy, IsSpelled};
+ghost use Rattle.p3_cli.specs.Texts.{all_texts, task_texts};
 ghost use Rattle.p3_cli.specs.Translation.{CanBeCompiled};
 
 use crate::Ending;
@@ -30,7 +26,7 @@ use crate::acceptance::{accepted, grounded, readable_plan, spelled_task};
 use crate::found::evaluated_report;
 use crate::texts::Texts;
 use p3_base::Side;
-use p3_eval::{Accepted, PlanFault, Steps, Whole};
+use p3_eval::{Accepted, Grounded, PlanFault, Steps, Whole};
 use p3_reports::Report;
 use p3_tree::Task;
 use p3_watch::named_fault;
@@ -39,24 +35,24 @@ use std::mem::forget;
 
 /// Judges the plan that a text spells, for the task that the two other texts spell: the report of a
 /// valid plan.
-pub(crate) fn evaluate(alloc: Global, texts: &Texts<'_>) -> Result<Report, Ending>
+pub(crate) fn evaluate(alloc: Global, texts: &Texts) -> Result<Report, Ending>
     ensures report { IfOk result (λ report.
-        IsEvaluation texts.now.domain.now texts.now.problem.now texts.now.plan.now
+        IsEvaluation texts.now.domain.items texts.now.problem.items texts.now.plan.items
         (report_text report)) }
     ensures err { IfErr result (IsRejectedPlan (all_texts texts.now)) }
 {
     let accepted = judged_task(alloc, texts)?;
-    let steps = Steps::of_text(alloc, accepted.checked(), texts.plan)?;
+    let steps = Steps::of_text(alloc, accepted.checked(), texts.plan())?;
     let report = judged(alloc, &accepted, &steps);
     forget((accepted, steps));
     report
 }
 
 /// Accepts the task for which a plan is judged, where nothing is refused of it and of that plan.
-pub(crate) fn judged_task(alloc: Global, texts: &Texts<'_>) -> Result<Accepted, Ending>
+pub(crate) fn judged_task(alloc: Global, texts: &Texts) -> Result<Accepted, Ending>
     ensures accepted { IfOk result (λ accepted.
         AreAcceptedFor Source (all_texts texts.now) accepted.checked.task) }
-    ensures free { OnOk result (plan_offence texts.now.plan.now ≡ None) }
+    ensures free { OnOk result (plan_offence texts.now.plan.items ≡ None) }
     ensures err { IfErr result
         (IsRejectedBy (IsRefusal (given_plan (all_texts texts.now)) (all_texts texts.now))) }
 {
@@ -65,12 +61,12 @@ pub(crate) fn judged_task(alloc: Global, texts: &Texts<'_>) -> Result<Accepted, 
 }
 
 /// Accepts it with its ground task too, by which it can be compiled.
-pub(crate) fn judged_whole(alloc: Global, texts: &Texts<'_>) -> Result<Whole, Ending>
+pub(crate) fn judged_whole(alloc: Global, texts: &Texts) -> Result<Whole, Ending>
     ensures accepted { IfOk result (λ whole.
         AreAcceptedFor Source (all_texts texts.now) whole.checked.task) }
     ensures ready { IfOk result (λ whole.
         CanBeCompiled whole.checked.task whole.ground_task whole.weights) }
-    ensures free { OnOk result (plan_offence texts.now.plan.now ≡ None) }
+    ensures free { OnOk result (plan_offence texts.now.plan.items ≡ None) }
     ensures err { IfErr result
         (IsRejectedBy (IsRefusal (given_plan (all_texts texts.now)) (all_texts texts.now))) }
 {
@@ -79,9 +75,9 @@ pub(crate) fn judged_whole(alloc: Global, texts: &Texts<'_>) -> Result<Whole, En
 }
 
 /// Reads the task for which a plan is judged, where the texts of both show no refusal by themselves.
-fn readable_task(alloc: Global, texts: &Texts<'_>) -> Result<Task, Ending>
+fn readable_task(alloc: Global, texts: &Texts) -> Result<Task, Ending>
     ensures spelled { IfOk result (IsSpelled (task_texts Source (all_texts texts.now))) }
-    ensures free { OnOk result (plan_offence texts.now.plan.now ≡ None) }
+    ensures free { OnOk result (plan_offence texts.now.plan.items ≡ None) }
     ensures err { IfErr result
         (IsRejectedBy (IsRefusal (given_plan (all_texts texts.now)) (all_texts texts.now))) }
 {
@@ -105,9 +101,25 @@ fn judged(alloc: Global, accepted: &Accepted, steps: &Steps) -> Result<Report, E
         (IsFaultOf accepted.now.checked.task how))) }
 {
     let ground_task = accepted.ground_steps(alloc, steps.numbers.as_slice())?;
-    let mut run = accepted.grounded(&ground_task).begin(alloc)?;
+    let report = judged_by(alloc, &accepted.grounded(&ground_task), steps);
+    forget(ground_task);
+    report
+}
+
+/// Judges the plan of these steps, which are grounded: the report, where it is valid.
+fn judged_by(alloc: Global, grounded: &Grounded<'_>, steps: &Steps) -> Result<Report, Ending>
+    requires asked { All (LeftOutAt grounded.now.checked.now.task grounded.now.ground_task.now)
+        steps.now.numbers.items }
+    requires some { AreOfPlan grounded.now.checked.now.task steps.now }
+    ensures report { IfOk result (λ report. OfSteps grounded.now.checked.now.task steps.now
+        (IsReportOf grounded.now.checked.now.task (report_text report))) }
+    ensures err { IfErr result (IsRejectedBy (λ how.
+        OfSteps grounded.now.checked.now.task steps.now
+        (IsFaultOf grounded.now.checked.now.task how))) }
+{
+    let mut run = grounded.begin(alloc)?;
     match run.judge_steps(steps) {
-        None => Ok(Report::Evaluate(evaluated_report(alloc, accepted.checked(), &run)?)),
+        None => Ok(Report::Evaluate(evaluated_report(alloc, grounded.checked(), &run)?)),
         Some(fault) => Err(invalid(fault)),
     }
 }

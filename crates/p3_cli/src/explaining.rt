@@ -19,7 +19,8 @@ ghost use Rattle.p3_cli.specs.Explaining.{
   IsUnfit,
   TellsFail,
 };
-ghost use Rattle.p3_cli.specs.Refusing.{IsRejectedBy, all_texts};
+ghost use Rattle.p3_cli.specs.Refusing.{IsRejectedBy};
+ghost use Rattle.p3_cli.specs.Texts.{all_texts};
 
 use crate::Ending;
 use crate::evaluation::{invalid, judged_task};
@@ -34,14 +35,14 @@ use std::alloc::Global;
 use std::mem::forget;
 
 /// Explains the plan that a text spells, for the task that the two other texts spell.
-pub(crate) fn explain(alloc: Global, texts: &Texts<'_>) -> Result<Report, Ending>
+pub(crate) fn explain(alloc: Global, texts: &Texts) -> Result<Report, Ending>
     ensures report { IfOk result (λ report.
-        IsExplanation texts.now.domain.now texts.now.problem.now texts.now.plan.now
+        IsExplanation texts.now.domain.items texts.now.problem.items texts.now.plan.items
         (report_text report)) }
     ensures err { IfErr result (IsUnexplained (all_texts texts.now)) }
 {
     let accepted = judged_task(alloc, texts)?;
-    let steps = Steps::of_text(alloc, accepted.checked(), texts.plan)?;
+    let steps = Steps::of_text(alloc, accepted.checked(), texts.plan())?;
     let report = report_of(alloc, &accepted, &steps);
     forget((accepted, steps));
     report

@@ -1,12 +1,12 @@
 //! The files that a request reads.
 
 ghost use Rattle.std.specs.Prelude.{◌≡◌, IfOk};
-ghost use Rattle.p3_tree.specs.Commands.{input, inputs, limit_of};
-ghost use Rattle.p3_cli.specs.Asked.{asked_command, asked_input, asked_inputs};
+ghost use Rattle.p3_tree.specs.Commands.{inputs, limit_of};
+ghost use Rattle.p3_cli.specs.Asked.{asked_command, asked_inputs};
 
 use crate::request::{Input, Request};
 use crate::table::row_of;
-use p3_base::{NoMemory, Role, Word};
+use p3_base::{NoMemory, Role};
 use std::alloc::Global;
 
 /// The greatest number of bytes of a file of the task read.
@@ -27,25 +27,17 @@ impl<'a> Request<'a> {
         let roles = row_of(self.kind).reads;
         let mut inputs = Vec::new(alloc);
         for (place, name) in names.iter().enumerate() {
-            inputs.push(input(roles[place], name))?;
+            inputs.push(Input {
+                role: roles[place],
+                name,
+            })?;
         }
         Ok(inputs)
     }
 }
 
-/// Names a file that is read, with its limit.
-fn input(role: Role, name: &Word) -> Input<'_>
-    ensures { asked_input result ≡ input (role, name.now) }
-{
-    Input {
-        role,
-        name,
-        limit: limit_of(role),
-    }
-}
-
 /// Gives the greatest number of bytes of a file of the role.
-fn limit_of(role: Role) -> u32
+pub(crate) fn limit_of(role: Role) -> u32
     ensures { result ≡ limit_of role }
 {
     match role {

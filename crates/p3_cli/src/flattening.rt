@@ -18,14 +18,16 @@ ghost use Rattle.p3_cli.specs.Flattening.{
   IsRefusedFirst,
   IsStoppedFlat,
 };
-ghost use Rattle.p3_cli.specs.Refusing.{IsRefusedFor, all_texts};
+ghost use Rattle.p3_cli.specs.Refusing.{IsRefusedFor};
+ghost use Rattle.p3_cli.specs.Texts.{all_texts};
 ghost use Rattle.p3_formula.specs.Targets.{IsSized, IsWellNamed};
 ghost use Rattle.p3_cli.specs.Translation.{AreTextsOf, CanBeCompiled};
 
 use crate::Ending;
 use crate::acceptance::{grounded, spelled_task};
+use crate::product::Product;
 use crate::texts::Texts;
-use crate::translation::{Translation, written};
+use crate::translation::written;
 use p3_base::{Code, Name, NoMemory, Refusal, Role, Side, owning_step};
 use p3_compile::compile;
 use p3_eval::Whole;
@@ -37,10 +39,10 @@ use std::alloc::Global;
 use std::mem::forget;
 
 /// Translates the task that the two texts spell into one without conditional effects.
-pub(crate) fn flat_translate(alloc: Global, texts: &Texts<'_>) -> Result<Translation, Ending>
-    ensures means { IfOk result (λ made.
-        IsFlatTranslation texts.now.domain.now texts.now.problem.now
-        made.domain.items made.problem.items (report_text made.report)) }
+pub(crate) fn flat_translate(alloc: Global, texts: &Texts) -> Result<Product, Ending>
+    ensures means { IfOk result (λ product.
+        IsFlatTranslation texts.now.domain.items texts.now.problem.items
+        product.made.domain.items product.made.problem.items (report_text product.report)) }
     ensures err { IfErr result (IsStoppedFlat (all_texts texts.now)) }
 {
     let task = spelled_task(alloc, Side::Source, texts)?;
@@ -52,16 +54,12 @@ pub(crate) fn flat_translate(alloc: Global, texts: &Texts<'_>) -> Result<Transla
 
 /// Writes the target of a task of which nothing is refused, its actions split by their conditions,
 /// and makes the report. An action with too many conditions is refused.
-fn flat_translation_of(
-    alloc: Global,
-    texts: &Texts<'_>,
-    whole: &Whole,
-) -> Result<Translation, Ending>
+fn flat_translation_of(alloc: Global, texts: &Texts, whole: &Whole) -> Result<Product, Ending>
     requires { CanBeCompiled whole.now.checked.task whole.now.ground_task whole.now.weights }
-    ensures text { IfOk result (λ made.
-        HasFlatText made.domain.items made.problem.items whole.now.checked.task) }
-    ensures report { IfOk result (λ made.
-        report_text made.report ≡ compiled_lines whole.now.checked.task) }
+    ensures text { IfOk result (λ product.
+        HasFlatText product.made.domain.items product.made.problem.items whole.now.checked.task) }
+    ensures report { IfOk result (λ product.
+        report_text product.report ≡ compiled_lines whole.now.checked.task) }
     ensures err { IfErr result
         (IsRefusedFor (all_texts texts.now) (IsRefusedFirst whole.now.checked.task)) }
 {
@@ -77,15 +75,15 @@ fn flat_translation_of(
 }
 
 /// Writes a target of a task of which nothing is refused, and makes the report.
-fn written_flat(alloc: Global, whole: &Whole, flat: Target) -> Result<Translation, NoMemory>
+fn written_flat(alloc: Global, whole: &Whole, flat: Target) -> Result<Product, NoMemory>
     requires can { CanBeCompiled
         whole.now.checked.task whole.now.ground_task whole.now.weights }
     requires sized { IsSized flat }
     requires named { IsWellNamed flat }
-    ensures text { IfOk result (λ made.
-        AreTextsOf flat made.domain.items made.problem.items) }
-    ensures report { IfOk result (λ made.
-        report_text made.report ≡ compiled_lines whole.now.checked.task) }
+    ensures text { IfOk result (λ product.
+        AreTextsOf flat product.made.domain.items product.made.problem.items) }
+    ensures report { IfOk result (λ product.
+        report_text product.report ≡ compiled_lines whole.now.checked.task) }
 {
     let made = written(alloc, whole, &flat);
     forget(flat);

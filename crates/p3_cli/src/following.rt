@@ -7,7 +7,8 @@ ghost use Rattle.p3_tree.specs.Watching.{lines_of};
 ghost use Rattle.p3_watch.specs.Watching.{AreLinesAsked};
 ghost use Rattle.p3_cli.specs.Ending.{Done, Tells};
 ghost use Rattle.p3_cli.specs.Following.{IsFollowed};
-ghost use Rattle.p3_cli.specs.Refusing.{IsRefusedTask, all_texts};
+ghost use Rattle.p3_cli.specs.Refusing.{IsRefusedTask};
+ghost use Rattle.p3_cli.specs.Texts.{all_texts};
 
 use crate::Ending;
 use crate::acceptance::{accepted, spelled_task};
@@ -20,16 +21,16 @@ use std::alloc::Global;
 
 /// Follows what a text says line by line, for the task that the two other texts spell: puts the
 /// lines as it goes, and answers the status, or the ending of which no line has been put.
-pub(crate) fn follow<S: Sink>(alloc: Global, texts: &Texts<'_>, out: &mut S) -> Result<u8, Ending>
+pub(crate) fn follow<S: Sink>(alloc: Global, texts: &Texts, out: &mut S) -> Result<u8, Ending>
     ensures followed { IfOk result (IsFollowed
-        texts.now.domain.now texts.now.problem.now texts.now.plan.now
+        texts.now.domain.items texts.now.problem.items texts.now.plan.items
         (S.seen out.old) (S.seen out.new)) }
     ensures err { IfErr result (IsRefusedTask (all_texts texts.now)) }
     ensures unput { OnErr result (out.new ≡ out.old) }
 {
     let task = spelled_task(alloc, Side::Source, texts)?;
     let accepted = accepted(alloc, Side::Source, texts, task)?;
-    let status = followed(alloc, &accepted, texts.plan, out)?;
+    let status = followed(alloc, &accepted, texts.plan(), out)?;
     Ok(status)
 }
 

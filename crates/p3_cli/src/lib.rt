@@ -27,7 +27,7 @@ mod texts;
 mod translation;
 
 pub use call::run;
-pub use ending::Ending;
+use ending::Ending;
 pub use laws::{
     compiled_tasks_are_faithful, translating_targets_are_faithful, wide_actions_have_wide_steps,
     written_targets_are_faithful_texts,

@@ -1,6 +1,6 @@
 //! What `lift` makes of the texts of a task, of one that is written for it, and of a plan for that.
 
-ghost use Rattle.std.specs.Prelude.{◌≡◌, ◌≤◌, ◌∷◌, [], IfErr, IfOk, IsTrue, None, OnOk, length, map};
+ghost use Rattle.std.specs.Prelude.{◌≡◌, ◌≤◌, IfErr, IfOk, IsTrue, None, OnOk, length};
 ghost use Rattle.std.specs.List.{list_all};
 ghost use Rattle.p3_base.specs.declared.refusal.Side.TheVariants.{Source};
 ghost use Rattle.p3_base.specs.declared.refusal.Side.TheVariants as side;
@@ -10,14 +10,8 @@ ghost use Rattle.p3_tree.specs.Reports.Plans.{lifted_lines};
 ghost use Rattle.p3_plans.specs.Layout.{has_written_words};
 ghost use Rattle.p3_reports.specs.Reports.{report_text};
 ghost use Rattle.p3_cli.specs.Lifting.{IsLifting, RejectsLift, TellsFail, given_lift};
-ghost use Rattle.p3_cli.specs.Refusing.{
-  AreAcceptedFor,
-  IsRefusal,
-  IsRejectedBy,
-  IsSpelled,
-  all_texts,
-  task_texts,
-};
+ghost use Rattle.p3_cli.specs.Refusing.{AreAcceptedFor, IsRefusal, IsRejectedBy, IsSpelled};
+ghost use Rattle.p3_cli.specs.Texts.{all_texts, task_texts};
 ghost use Rattle.p3_cli.specs.WrittenText.{HasPlanLayout};
 
 use crate::Ending;
@@ -25,7 +19,7 @@ use crate::acceptance::{accepted, plan_of, readable_plan, spelled_task};
 use crate::evaluation::invalid;
 use crate::found::{differing, lifted_report};
 use crate::product::Product;
-use crate::texts::Texts;
+use crate::texts::{Made, Texts};
 use p3_base::{NoMemory, Side};
 use p3_eval::Accepted;
 use p3_lift::{LiftFail, Lifted, lift_by_steps};
@@ -35,40 +29,15 @@ use p3_tree::Task;
 use std::alloc::Global;
 use std::mem::forget;
 
-/// The text of a lifted plan, and the report.
-#[derive(Drop)]
-pub(crate) struct Lifting {
-    /// The plan.
-    pub(crate) plan: Vec<u8>,
-    /// The report.
-    pub(crate) report: Report,
-}
-
-impl Lifting {
-    /// Gives the text for the output, and the report.
-    pub(crate) fn product(self, alloc: Global) -> Result<Product, NoMemory>
-        ensures texts { IfOk result (λ product. map (λ text. text.items) product.texts.items
-            ≡ self.plan.items ∷ []) }
-        ensures report { IfOk result (λ product. product.report ≡ self.report) }
-    {
-        Ok(Product {
-            texts: vec![in alloc; self.plan]?,
-            report: self.report,
-        })
-    }
-}
-
 /// Brings the plan that the last text spells back to the task that the first two texts spell.
-pub(crate) fn lift(alloc: Global, texts: &Texts<'_>) -> Result<Lifting, Ending>
-    ensures means { IfOk result (λ made. IsLifting
-        texts.now.domain.now texts.now.problem.now
-        texts.now.written_domain.now texts.now.written_problem.now texts.now.plan.now
-        made.plan.items (report_text made.report)) }
-    ensures lines { IfOk result (λ made. HasPlanLayout made.plan.items) }
+pub(crate) fn lift(alloc: Global, texts: &Texts) -> Result<Product, Ending>
+    ensures means { IfOk result (λ product. IsLifting
+        (all_texts texts.now) product.made.plan.items (report_text product.report)) }
+    ensures lines { IfOk result (λ product. HasPlanLayout product.made.plan.items) }
     ensures err { IfErr result (IsRejectedBy (RejectsLift (all_texts texts.now))) }
 {
     let (source, written) = both_tasks(alloc, texts)?;
-    let plan = plan_of(alloc, texts.plan)?;
+    let plan = plan_of(alloc, texts.plan())?;
     let lifted = match lift_by_steps(alloc, &source, &written, &plan) {
         Ok(lifted) => lifted,
         Err(fail) => return Err(unlifted(&fail)),
@@ -80,12 +49,12 @@ pub(crate) fn lift(alloc: Global, texts: &Texts<'_>) -> Result<Lifting, Ending>
 }
 
 /// Accepts the two tasks that the texts spell, where nothing is refused of them and of the plan.
-fn both_tasks(alloc: Global, texts: &Texts<'_>) -> Result<(Accepted, Accepted), Ending>
+fn both_tasks(alloc: Global, texts: &Texts) -> Result<(Accepted, Accepted), Ending>
     ensures source { IfOk result (λ both.
         AreAcceptedFor Source (all_texts texts.now) both.0.checked.task) }
     ensures written { IfOk result (λ both.
         AreAcceptedFor side.Written (all_texts texts.now) both.1.checked.task) }
-    ensures free { OnOk result (plan_offence texts.now.plan.now ≡ None) }
+    ensures free { OnOk result (plan_offence texts.now.plan.items ≡ None) }
     ensures err { IfErr result (IsRejectedBy
         (IsRefusal (given_lift (all_texts texts.now)) (all_texts texts.now))) }
 {
@@ -101,12 +70,12 @@ fn both_tasks(alloc: Global, texts: &Texts<'_>) -> Result<(Accepted, Accepted), 
 }
 
 /// Reads the two tasks that the texts spell, where no text shows a refusal by itself.
-fn spelled_tasks(alloc: Global, texts: &Texts<'_>) -> Result<(Task, Task), Ending>
+fn spelled_tasks(alloc: Global, texts: &Texts) -> Result<(Task, Task), Ending>
     ensures source { IfOk result (λ both.
         IsSpelled (task_texts Source (all_texts texts.now)) both.0) }
     ensures written { IfOk result (λ both.
         IsSpelled (task_texts side.Written (all_texts texts.now)) both.1) }
-    ensures free { OnOk result (plan_offence texts.now.plan.now ≡ None) }
+    ensures free { OnOk result (plan_offence texts.now.plan.items ≡ None) }
     ensures err { IfErr result (IsRejectedBy
         (IsRefusal (given_lift (all_texts texts.now)) (all_texts texts.now))) }
 {
@@ -129,16 +98,21 @@ fn unlifted(fail: &LiftFail) -> Ending
 }
 
 /// Writes a lifted plan of an accepted task, and makes the report.
-fn lifting_of(alloc: Global, source: &Accepted, lifted: &Lifted) -> Result<Lifting, NoMemory>
+fn lifting_of(alloc: Global, source: &Accepted, lifted: &Lifted) -> Result<Product, NoMemory>
     requires words { IsTrue (list_all has_written_words lifted.now.plan) }
     requires metric { lifted.now.metric ≡ value source.now.checked.task lifted.now.plan }
-    ensures plan { IfOk result (λ made. IsPlanText made.plan.items lifted.now.plan) }
-    ensures lines { IfOk result (λ made. HasPlanLayout made.plan.items) }
-    ensures report { IfOk result (λ made. report_text made.report
+    ensures plan { IfOk result (λ product. IsPlanText product.made.plan.items lifted.now.plan) }
+    ensures lines { IfOk result (λ product. HasPlanLayout product.made.plan.items) }
+    ensures report { IfOk result (λ product. report_text product.report
         ≡ lifted_lines source.now.checked.task lifted.now.plan lifted.now.cost) }
 {
-    Ok(Lifting {
+    let made = Made {
+        domain: Vec::new(alloc),
+        problem: Vec::new(alloc),
         plan: write_plan(alloc, &lifted.plan)?,
+    };
+    Ok(Product {
+        made,
         report: Report::Lift(lifted_report(source.checked(), lifted)),
     })
 }

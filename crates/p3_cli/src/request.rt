@@ -29,6 +29,4 @@ pub(crate) struct Input<'a> {
     pub(crate) role: Role,
     /// Its name.
     pub(crate) name: &'a Word,
-    /// How many bytes it may have.
-    pub(crate) limit: u32,
 }

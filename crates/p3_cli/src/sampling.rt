@@ -1,15 +1,12 @@
 //! What `generate` makes.
 
-ghost use Rattle.std.specs.Prelude.{◌≡◌, ◌≤◌, ◌∷◌, [], IfErr, IfOk, length, map};
-ghost use Rattle.p3_base.specs.declared.refusal.Side.TheVariants.{Source};
+ghost use Rattle.std.specs.Prelude.{◌≡◌, ◌≤◌, IfErr, IfOk};
 ghost use Rattle.p3_tree.specs.Commands.{sample_limit};
 ghost use Rattle.p3_tree.specs.Metrics.{value};
-ghost use Rattle.p3_tree.specs.Samples.{sample_domain, sample_plan, sample_problem};
-ghost use Rattle.p3_tree.specs.Sides.{byte_limit, plan_byte_limit};
 ghost use Rattle.p3_tree.specs.Validity.{Valid};
 ghost use Rattle.p3_eval.specs.Steps.{AreOfPlan, OfSteps};
-ghost use Rattle.p3_cli.specs.Evaluation.{IsRejectedPlan, RejectsPlan};
-ghost use Rattle.p3_cli.specs.Refusing.{IsRejectedBy, all_texts, with_plan};
+ghost use Rattle.p3_cli.specs.Evaluation.{IsRejectedPlan};
+ghost use Rattle.p3_cli.specs.Texts.{all_texts, sample_texts};
 ghost use Rattle.p3_reports.specs.Reports.{report_text};
 ghost use Rattle.p3_cli.specs.Sampling.{IsSampleReport, IsSampling};
 
@@ -18,84 +15,59 @@ use crate::embedding::embedded;
 use crate::evaluation::judged_whole;
 use crate::found::sampled_report;
 use crate::product::Product;
-use crate::texts::Texts;
+use crate::texts::{Made, Texts};
 use p3_base::NoMemory;
 use p3_compile::compile;
 use p3_eval::{Steps, Whole};
-use p3_gen::{Sample, generate};
+use p3_gen::generate;
 use p3_reports::Report;
 use std::alloc::Global;
 
-/// The texts of a sample, and the report.
-#[derive(Drop)]
-pub(crate) struct Sampling {
-    /// The sample.
-    pub(crate) sample: Sample,
-    /// The report.
-    pub(crate) report: Report,
-}
-
-impl Sampling {
-    /// Gives the texts for the outputs, and the report.
-    pub(crate) fn product(self, alloc: Global) -> Result<Product, NoMemory>
-        ensures texts { IfOk result (λ product. map (λ text. text.items) product.texts.items
-            ≡ self.sample.domain ∷ self.sample.problem ∷ self.sample.plan ∷ []) }
-        ensures report { IfOk result (λ product. product.report ≡ self.report) }
-    {
-        Ok(Product {
-            texts: vec![in alloc;
-                self.sample.domain.into_items(),
-                self.sample.problem.into_items(),
-                self.sample.plan.into_items(),
-            ]?,
-            report: self.report,
-        })
-    }
-}
-
 /// Makes the sample of that number. Its task is compiled, and its plan embedded and judged.
-pub(crate) fn sample(alloc: Global, number: u32) -> Result<Sampling, Ending>
+pub(crate) fn sample(alloc: Global, number: u32) -> Result<Product, Ending>
     requires some { 1 ≤ number }
     requires few { number ≤ sample_limit }
-    ensures means { IfOk result (λ made. IsSampling number
-        made.sample.domain made.sample.problem made.sample.plan
-        (report_text made.report)) }
-    ensures err { IfErr result (IsRejectedBy
-        (RejectsPlan (with_plan sample_domain (sample_problem number) (sample_plan number)))) }
+    ensures means { IfOk result (λ product. IsSampling number product.made.domain.items
+        product.made.problem.items product.made.plan.items (report_text product.report)) }
+    ensures err { IfErr result (IsRejectedPlan (sample_texts number)) }
 {
-    let sample = generate(alloc, number)?;
-    let report = match report_of(alloc, &texts_of(&sample)) {
+    let texts = texts_of(alloc, number)?;
+    let report = match report_of(alloc, &texts) {
         Ok(report) => report,
         Err(ending) => return Err(ending),
     };
-    Ok(Sampling { sample, report })
+    let made = Made {
+        domain: texts.domain,
+        problem: texts.problem,
+        plan: texts.plan,
+    };
+    Ok(Product { made, report })
 }
 
-/// Takes the texts of a sample as those of a task and of a plan for it.
-fn texts_of(sample: &Sample) -> Texts<'_>
-    requires domain { length sample.now.domain ≤ byte_limit Source }
-    requires problem { length sample.now.problem ≤ byte_limit Source }
-    requires plan { length sample.now.plan ≤ plan_byte_limit }
-    ensures { all_texts result
-        ≡ with_plan sample.now.domain sample.now.problem sample.now.plan }
+/// Makes the texts of the sample, as those of a task and of a plan for it.
+fn texts_of(alloc: Global, number: u32) -> Result<Texts, NoMemory>
+    requires some { 1 ≤ number }
+    requires few { number ≤ sample_limit }
+    ensures { IfOk result (λ texts. all_texts texts ≡ sample_texts number) }
 {
-    Texts {
-        domain: sample.domain.items(),
-        problem: sample.problem.items(),
-        written_domain: b"".as_slice(),
-        written_problem: b"".as_slice(),
-        plan: sample.plan.items(),
-    }
+    let sample = generate(alloc, number)?;
+    Ok(Texts {
+        domain: sample.domain.into_items(),
+        problem: sample.problem.into_items(),
+        written_domain: Vec::new(alloc),
+        written_problem: Vec::new(alloc),
+        plan: sample.plan.into_items(),
+    })
 }
 
 /// Makes the report of the task and of the plan that the texts spell.
-fn report_of(alloc: Global, texts: &Texts<'_>) -> Result<Report, Ending>
-    ensures means { IfOk result (λ report.
-        IsSampleReport (all_texts texts.now) (report_text report)) }
+fn report_of(alloc: Global, texts: &Texts) -> Result<Report, Ending>
+    ensures means { IfOk result (λ report. IsSampleReport texts.now.domain.items
+        texts.now.problem.items texts.now.plan.items (report_text report)) }
     ensures err { IfErr result (IsRejectedPlan (all_texts texts.now)) }
 {
     let whole = judged_whole(alloc, texts)?;
-    let steps = Steps::of_text(alloc, whole.checked(), texts.plan)?;
+    let steps = Steps::of_text(alloc, whole.checked(), texts.plan())?;
     let target = compile(alloc, whole.ground_task(), whole.weights())?;
     let embedded = match embedded(alloc, &whole, &target, &steps) {
         Ok(embedded) => embedded,

@@ -12,6 +12,7 @@ ghost use Rattle.p3_cli.specs.Streaming.{
   HasWrittenStep,
 };
 
+use crate::texts::Made;
 use p3_base::NoMemory;
 use p3_compile::{BegunTarget, begun_targets_are_compiled};
 use p3_formula::{GroundStep, GroundTask, Weights};
@@ -19,21 +20,12 @@ use p3_writer::{DomainText, write_problem_of};
 use std::alloc::Global;
 use std::mem::forget;
 
-/// The texts of a target.
-#[derive(Drop)]
-pub(crate) struct TargetTexts {
-    /// The domain.
-    pub(crate) domain: Vec<u8>,
-    /// The problem.
-    pub(crate) problem: Vec<u8>,
-}
-
 /// Writes the target to which a ground task is compiled.
 pub(crate) fn compiled_texts(
     alloc: Global,
     task: &GroundTask,
     weights: &Weights,
-) -> Result<TargetTexts, NoMemory>
+) -> Result<Made, NoMemory>
     requires { IsReady task.now weights.now }
     ensures { IfOk result (λ texts.
         AreCompiledTexts task.now weights.now texts.domain.items texts.problem.items) }
@@ -50,7 +42,7 @@ fn texts_of(
     begun: &BegunTarget,
     task: &GroundTask,
     weights: &Weights,
-) -> Result<TargetTexts, NoMemory>
+) -> Result<Made, NoMemory>
     requires ready { IsReady task.now weights.now }
     requires begun { IsBegun task.now weights.now begun.now }
     ensures { IfOk result (λ texts.
@@ -58,7 +50,11 @@ fn texts_of(
 {
     let domain = domain_of(alloc, begun, task, weights)?;
     let problem = write_problem_of(alloc, begun.names(), begun.initial(), begun.goal())?;
-    Ok(TargetTexts { domain, problem })
+    Ok(Made {
+        domain,
+        problem,
+        plan: Vec::new(alloc),
+    })
 }
 
 /// Writes the domain of a target that is begun.

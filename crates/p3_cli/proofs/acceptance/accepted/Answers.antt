@@ -2,7 +2,8 @@ use Rattle.std.proofs.Common.{◌≡◌, None, Some, sym, subst}
 use Rattle.p3_tree.specs.Refusals.First.{task_refusal}
 use Rattle.p3_types.specs.declared.checked.Checked.{Checked}
 use Rattle.p3_eval.specs.Accepted.{IsFailOf}
-use Rattle.p3_cli.specs.Refusing.{AreAcceptedFor, all_texts}
+use Rattle.p3_cli.specs.Refusing.{AreAcceptedFor}
+use Rattle.p3_cli.specs.Texts.{all_texts}
 use Rattle.p3_cli.proofs.SpelledLemmas.{short_domain, short_problem, spelled_accepted, task_refused}
 use Rattle.p3_cli.proofs.acceptance.accepted.Goals as goal
 

@@ -1,6 +1,6 @@
 use Rattle.std.proofs.Common.{subst}
 use Rattle.p3_types.specs.Checks.{IsFailOf}
-use Rattle.p3_cli.specs.Refusing.{all_texts}
+use Rattle.p3_cli.specs.Texts.{all_texts}
 use Rattle.p3_cli.proofs.SpelledLemmas.{has_texts, offence_refused, short_domain, short_problem}
 use Rattle.p3_cli.proofs.acceptance.checked.Goals as goal
 

@@ -4,7 +4,8 @@ use Rattle.p3_types.specs.declared.checked.Checked.{Checked}
 use Rattle.p3_metric.proofs.AcceptedLaws.{linear_where_accepted}
 use Rattle.p3_eval.specs.Accepted.{IsFailOf}
 use Rattle.p3_eval.proofs.RefusalLaws.{no_metric}
-use Rattle.p3_cli.specs.Refusing.{AreAcceptedFor, all_texts}
+use Rattle.p3_cli.specs.Refusing.{AreAcceptedFor}
+use Rattle.p3_cli.specs.Texts.{all_texts}
 use Rattle.p3_cli.specs.Translation.{CanBeCompiled}
 use Rattle.p3_cli.proofs.SpelledLemmas.{short_domain, short_problem, spelled_accepted, task_refused}
 use Rattle.p3_cli.proofs.acceptance.grounded.Goals as goal

@@ -2,7 +2,7 @@ use Rattle.std.proofs.Common.{subst}
 use Rattle.p3_formula.specs.Targets.{Compiled}
 use Rattle.p3_compile.specs.Compiling.{IsCompiledTo}
 use Rattle.p3_reports.specs.Reports.{report_text}
-use Rattle.p3_cli.specs.Refusing.{all_texts}
+use Rattle.p3_cli.specs.Texts.{all_texts}
 use Rattle.p3_cli.proofs.EmbeddingLemmas.{embedded_words, is_embedded}
 use Rattle.p3_cli.proofs.EvaluationLemmas.{steps_are}
 use Rattle.p3_cli.proofs.ProductLemmas.{its_texts, rejected_plan, the_plan, the_steps}
@@ -14,7 +14,7 @@ returns-in-Err-clause-err c =
     let whole = c.in_ok-whole in
     let steps = c.in_ok-steps in
     rejected_plan (all_texts c.args.texts.now) whole.whole.checked.task whole.ensures.accepted whole.ensures.free steps.steps
-    (steps_are c.args.texts.now.plan.now c.checked.result.now whole.whole.checked steps.steps c.checked.ensures.checked steps.ensures.are) c.in-Err.ending c.in-Err.ensures.err
+    (steps_are _ _ c.checked.result.now whole.whole.checked steps.steps c.plan.ensures.text c.checked.ensures.checked steps.ensures.are) c.in-Err.ending c.in-Err.ensures.err
 
 pub embedding_of-requires-clause-named : goal.embedding_of-requires-clause-named
 embedding_of-requires-clause-named c =
@@ -22,7 +22,7 @@ embedding_of-requires-clause-named c =
     let T = whole.whole.checked.task in
     let X = c.in_ok-target.target in
     let steps = c.in_ok-steps in
-    let are = steps_are c.args.texts.now.plan.now c.checked.result.now whole.whole.checked steps.steps c.checked.ensures.checked steps.ensures.are in
+    let are = steps_are _ _ c.checked.result.now whole.whole.checked steps.steps c.plan.ensures.text c.checked.ensures.checked steps.ensures.are in
     let plan = the_plan (all_texts c.args.texts.now) T whole.ensures.accepted whole.ensures.free steps.steps are in
     let compiled = subst (λ ground. Compiled ground whole.whole.weights X) c.ground_task.ensures (subst (λ weights. Compiled c.ground_task.result.now weights X) c.weights.ensures.weights c.in_ok-target.ensures.compiled) in
     embedded_words T whole.whole.ground_task whole.whole.weights X plan.plan c.in-Ok.embedded.plan compiled
@@ -36,7 +36,7 @@ returns-clause-means c =
     let w = whole.whole.weights in
     let X = c.in_ok-target.target in
     let steps = c.in_ok-steps in
-    let are = steps_are c.args.texts.now.plan.now c.checked.result.now whole.whole.checked steps.steps c.checked.ensures.checked steps.ensures.are in
+    let are = steps_are _ _ c.checked.result.now whole.whole.checked steps.steps c.plan.ensures.text c.checked.ensures.checked steps.ensures.are in
     let plan = the_plan (all_texts c.args.texts.now) T whole.ensures.accepted whole.ensures.free steps.steps are in
     let has = the_steps (all_texts c.args.texts.now) T whole.ensures.accepted whole.ensures.free steps.steps are in
     let source = c.in-Ok in
@@ -49,7 +49,7 @@ returns-clause-means c =
       valid = source.ensures.valid plan.plan has;
       embedded =
           is_embedded T G w X whole.ensures.ready compiled plan.plan source.embedded.plan source.embedded.cost (source.ensures.plan plan.plan has) source.ensures.cost
-          made.made.domain.items made.made.problem.items made.made.plan.items (report_text made.made.report)
+          made.made.made.domain.items made.made.made.problem.items made.made.made.plan.items (report_text made.made.report)
           made.ensures.text.domain_text made.ensures.text.problem_text made.ensures.plan made.ensures.report;
     }
 
@@ -67,5 +67,5 @@ returns-clause-layout c =
     record {
       task = T;
       accepted = whole.ensures.accepted;
-      laid_out = is_laid_out T G w X whole.ensures.ready is made.made.domain.items made.made.problem.items made.ensures.text.domain made.ensures.text.problem;
+      laid_out = is_laid_out T G w X whole.ensures.ready is made.made.made.domain.items made.made.made.problem.items made.ensures.text.domain made.ensures.text.problem;
     }

@@ -1,63 +1,21 @@
-use Rattle.std.proofs.Common.{◌≡◌, ◌∙◌, ap, sym, subst}
-use Rattle.std.specs.Prelude.{option_map}
-use Rattle.p3_tree.specs.Reports.Plans.{evaluated_lines}
-use Rattle.p3_reports.specs.Faults.{fault_named}
-use Rattle.p3_reports.specs.Reports.{evaluate_text}
+use Rattle.std.proofs.Common.{subst, sym}
+use Rattle.std.specs.Prelude.{IfErr, IfOk}
+use Rattle.p3_reports.specs.Reports.{report_text}
 use Rattle.p3_types.specs.declared.checked.Checked.{Checked}
-use Rattle.p3_ground.specs.PlansByNumber.{AreNumbers}
-use Rattle.p3_eval.specs.Judged.{fault_in}
-use Rattle.p3_eval.specs.Runs.{BelongTogether}
-use Rattle.p3_eval.specs.Steps.{OfSteps}
-use Rattle.p3_cli.specs.Ending.{Invalid}
-use Rattle.p3_cli.specs.Evaluation.{IsFaultOf}
-use Rattle.p3_cli.proofs.EvaluationLemmas.{asked_there, plan_judged, still_together, valid_plan}
-use Rattle.p3_cli.proofs.SpelledLemmas.{says_more}
+use Rattle.p3_eval.specs.Steps.{AreOfPlan, OfSteps}
+use Rattle.p3_cli.specs.Evaluation.{IsFaultOf, IsReportOf}
+use Rattle.p3_cli.specs.Refusing.{IsRejectedBy}
 use Rattle.p3_cli.proofs.evaluation.judged.Goals as goal
 
-pub evaluated_report-requires-clause-together : goal.evaluated_report-requires-clause-together
-evaluated_report-requires-clause-together c =
-    let T = c.args.accepted.now.checked.task in
-    let G = c.grounded.result.ground_task.now in
-    let w = c.grounded.result.weights.now in
-    let steps = c.args.steps.now in
-    let together = subst (λ (checked : Checked). BelongTogether checked.task G w) c.grounded.ensures.checked c.in_ok-run.ensures.task in
-    let left = asked_there T c.in_ok-ground_task.ground_task G c.as_slice.result.now steps.numbers.items c.grounded.ensures.ground_task c.as_slice.ensures.value c.in_ok-ground_task.ensures.stands.1 in
-    let new = c.judge_steps.new.self in
-    subst (λ (checked : Checked). BelongTogether checked.task new.task new.weights) (sym c.checked.ensures.checked)
-    (still_together T G w steps c.in_ok-run.run' new c.judge_steps.result together left c.in_ok-run.ensures.begun c.judge_steps.ensures.judged c.requires.plan c.requires.are c.in-None.is)
+pub judged_by-report-requires-clause-some : goal.judged_by-report-requires-clause-some
+judged_by-report-requires-clause-some c = subst (λ (checked : Checked). AreOfPlan checked.task c.args.steps.now) (sym c.grounded.ensures.checked) c.requires
 
-pub returns-in-None-clause-report : goal.returns-in-None-clause-report
-returns-in-None-clause-report c = λ plan are.
-    let T = c.args.accepted.now.checked.task in
-    let G = c.grounded.result.ground_task.now in
-    let w = c.grounded.result.weights.now in
-    let steps = c.args.steps.now in
-    let together = subst (λ (checked : Checked). BelongTogether checked.task G w) c.grounded.ensures.checked c.in_ok-run.ensures.task in
-    let left = asked_there T c.in_ok-ground_task.ground_task G c.as_slice.result.now steps.numbers.items c.grounded.ensures.ground_task c.as_slice.ensures.value c.in_ok-ground_task.ensures.stands.1 in
-    let new = c.judge_steps.new.self in
-    let judged = plan_judged T G w steps c.in_ok-run.run' new c.judge_steps.result together left c.in_ok-run.ensures.begun c.judge_steps.ensures.judged plan are in
-    let numbers = subst (λ (checked : Checked). AreNumbers checked.task plan new.plan) (sym c.checked.ensures.checked) (judged.done c.in-None.is).numbers in
-    record {
-      valid = valid_plan T G w steps c.in_ok-run.run' new c.judge_steps.result together left c.in_ok-run.ensures.begun c.judge_steps.ensures.judged plan are c.in-None.is;
-      told =
-          subst (λ (checked : Checked). evaluate_text c.in_ok-evaluated_report-in-None.field-0 ≡ evaluated_lines checked.task plan) c.checked.ensures.checked
-          (c.in_ok-evaluated_report-in-None.ensures plan numbers);
-    }
+pub returns-clause-report : goal.returns-clause-report
+returns-clause-report c =
+    subst (λ (checked : Checked). IfOk c.judged_by-report.result (λ report. OfSteps checked.task c.args.steps.now (IsReportOf checked.task (report_text report)))) c.grounded.ensures.checked
+    c.judged_by-report.ensures.report
 
 pub returns-clause-err : goal.returns-clause-err
 returns-clause-err c =
-    let T = c.args.accepted.now.checked.task in
-    let G = c.grounded.result.ground_task.now in
-    let w = c.grounded.result.weights.now in
-    let steps = c.args.steps.now in
-    let together = subst (λ (checked : Checked). BelongTogether checked.task G w) c.grounded.ensures.checked c.in_ok-run.ensures.task in
-    let left = asked_there T c.in_ok-ground_task.ground_task G c.as_slice.result.now steps.numbers.items c.grounded.ensures.ground_task c.as_slice.ensures.value c.in_ok-ground_task.ensures.stands.1 in
-    let new = c.judge_steps.new.self in
-    let fault = fault_in c.in-Some.fault in
-    says_more (λ how. how ≡ Invalid (fault_named fault)) (λ how. OfSteps T steps (IsFaultOf T how))
-    (λ how says plan are. record {
-      fault = fault;
-      first = (plan_judged T G w steps c.in_ok-run.run' new c.judge_steps.result together left c.in_ok-run.ensures.begun c.judge_steps.ensures.judged plan are).fault ∙ ap (option_map fault_in) c.in-Some.is;
-      says = says;
-    })
-    c.invalid.result c.invalid.ensures
+    subst (λ (checked : Checked). IfErr c.judged_by-report.result (IsRejectedBy (λ how. OfSteps checked.task c.args.steps.now (IsFaultOf checked.task how)))) c.grounded.ensures.checked
+    c.judged_by-report.ensures.err

@@ -1,4 +1,4 @@
-use Rattle.p3_cli.specs.Refusing.{all_texts}
+use Rattle.p3_cli.specs.Texts.{all_texts}
 use Rattle.p3_cli.proofs.ResultLemmas.{if_err}
 use Rattle.p3_cli.proofs.SpelledLemmas.{plan_of_task}
 use Rattle.p3_cli.proofs.evaluation.judged_whole.Goals as goal

@@ -1,6 +1,7 @@
 use Rattle.std.proofs.Common.{inr}
 use Rattle.p3_cli.specs.Flattening.{IsRefusedFirst, StopsFlat}
-use Rattle.p3_cli.specs.Refusing.{Says, all_texts}
+use Rattle.p3_cli.specs.Refusing.{Says}
+use Rattle.p3_cli.specs.Texts.{all_texts}
 use Rattle.p3_cli.proofs.ResultLemmas.{if_both, if_err}
 use Rattle.p3_cli.proofs.SpelledLemmas.{says_more}
 use Rattle.p3_cli.proofs.flattening.flat_translate.Goals as goal

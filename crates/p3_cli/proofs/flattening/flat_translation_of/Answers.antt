@@ -34,7 +34,7 @@ returns-in-Ok-clause-text c =
     let w = c.weights.result.now in
     let can : CanBeCompiled T G w = subst (λ ground. CanBeCompiled T ground w) (sym c.ground_task.ensures) (subst (λ weights. CanBeCompiled T whole.ground_task weights) (sym c.weights.ensures.weights) c.requires) in
     let made = c.in_ok-written_flat-in-Ok in
-    has_flat_text T G w c.in_ok-target.target c.in-Ok.flat can c.in_ok-target.ensures.compiled c.in-Ok.ensures.flat made.field-0.domain.items made.field-0.problem.items made.ensures.text
+    has_flat_text T G w c.in_ok-target.target c.in-Ok.flat can c.in_ok-target.ensures.compiled c.in-Ok.ensures.flat made.field-0.made.domain.items made.field-0.made.problem.items made.ensures.text
 
 pub wide_action-requires-clause-is : goal.wide_action-requires-clause-is
 wide_action-requires-clause-is c =

@@ -1,4 +1,4 @@
-use Rattle.p3_cli.specs.Refusing.{all_texts}
+use Rattle.p3_cli.specs.Texts.{all_texts}
 use Rattle.p3_cli.proofs.SpelledLemmas.{lift_of_other, lift_of_task}
 use Rattle.p3_cli.proofs.lifting.both_tasks.Goals as goal
 

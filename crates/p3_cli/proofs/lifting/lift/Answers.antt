@@ -1,8 +1,9 @@
 use Rattle.std.proofs.Common.{◌≡◌, subst, sym, true}
 use Rattle.std.specs.List.{list_all}
 use Rattle.p3_tree.specs.Plans.{Plan}
+use Rattle.p3_tree.specs.PlanTexts.{IsPlanText}
 use Rattle.p3_plans.specs.Layout.{has_written_words}
-use Rattle.p3_cli.specs.Refusing.{all_texts}
+use Rattle.p3_cli.specs.Texts.{all_texts}
 use Rattle.p3_cli.proofs.ProductLemmas.{unlifted_plan}
 use Rattle.p3_cli.proofs.WordLaws.{lifted_words}
 use Rattle.p3_cli.proofs.lifting.lift.Goals as goal
@@ -11,11 +12,11 @@ pub returns-in-Err-clause-err : goal.returns-in-Err-clause-err
 returns-in-Err-clause-err c =
     let both = c.in_ok-source in
     unlifted_plan (all_texts c.args.texts.now) both.source.checked.task both.written.checked.task c.in_ok-plan.plan both.ensures.source both.ensures.written
-    c.in_ok-plan.ensures.spelled c.in_ok-plan.ensures.few c.in-Err.fail c.in-Err.ensures.refused c.unlifted.result c.unlifted.ensures
+    (subst (λ text. IsPlanText text c.in_ok-plan.plan) c.plan.ensures.text c.in_ok-plan.ensures.spelled) c.in_ok-plan.ensures.few c.in-Err.fail c.in-Err.ensures.refused c.unlifted.result c.unlifted.ensures
 
 pub lifting_of-requires-clause-words : goal.lifting_of-requires-clause-words
 lifting_of-requires-clause-words c =
     let both = c.in_ok-source in
     let texts = c.args.texts.now in
     subst (λ (plan : Plan). list_all has_written_words plan ≡ true) (sym c.in-Ok.ensures.lifted.plan)
-    (lifted_words texts.domain.now texts.problem.now both.source.checked.task both.ensures.source.task.reads c.in_ok-plan.plan)
+    (lifted_words texts.domain.items texts.problem.items both.source.checked.task both.ensures.source.task.reads c.in_ok-plan.plan)

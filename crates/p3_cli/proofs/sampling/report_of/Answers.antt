@@ -7,7 +7,7 @@ use Rattle.p3_formula.specs.Targets.{Compiled}
 use Rattle.p3_reports.specs.Reports.{generate_text}
 use Rattle.p3_ground.proofs.PlanNumbers.{has_numbers, valid_fits}
 use Rattle.p3_eval.proofs.StepsLemmas.{all_numbered}
-use Rattle.p3_cli.specs.Refusing.{all_texts}
+use Rattle.p3_cli.specs.Texts.{all_texts}
 use Rattle.p3_cli.proofs.EmbeddingLemmas.{is_sampled}
 use Rattle.p3_cli.proofs.EvaluationLemmas.{steps_are}
 use Rattle.p3_cli.proofs.ProductLemmas.{its_texts, rejected_plan, the_plan, the_steps}
@@ -18,7 +18,7 @@ returns-in-Err-clause-err c =
     let whole = c.in_ok-whole in
     let steps = c.in_ok-steps in
     rejected_plan (all_texts c.args.texts.now) whole.whole.checked.task whole.ensures.accepted whole.ensures.free steps.steps
-    (steps_are c.args.texts.now.plan.now c.checked.result.now whole.whole.checked steps.steps c.checked.ensures.checked steps.ensures.are) c.in-Err.ending c.in-Err.ensures.err
+    (steps_are _ _ c.checked.result.now whole.whole.checked steps.steps c.plan.ensures.text c.checked.ensures.checked steps.ensures.are) c.in-Err.ending c.in-Err.ensures.err
 
 pub returns-clause-means : goal.returns-clause-means
 returns-clause-means c =
@@ -29,7 +29,7 @@ returns-clause-means c =
     let X = c.in_ok-target.target in
     let steps = c.in_ok-steps in
     let texts = all_texts c.args.texts.now in
-    let are = steps_are c.args.texts.now.plan.now c.checked.result.now whole.whole.checked steps.steps c.checked.ensures.checked steps.ensures.are in
+    let are = steps_are _ _ c.checked.result.now whole.whole.checked steps.steps c.plan.ensures.text c.checked.ensures.checked steps.ensures.are in
     let plan = (the_plan texts T whole.ensures.accepted whole.ensures.free steps.steps are).plan in
     let has = the_steps texts T whole.ensures.accepted whole.ensures.free steps.steps are in
     let source = c.in-Ok in
