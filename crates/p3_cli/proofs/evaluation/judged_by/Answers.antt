@@ -42,8 +42,8 @@ returns-in-None-clause-report c = λ plan are.
           (c.in_ok-evaluated_report-in-None.ensures plan numbers);
     }
 
-pub returns-in-Some-clause-err : goal.returns-in-Some-clause-err
-returns-in-Some-clause-err c =
+pub returns-clause-err : goal.returns-in-Some-clause-err
+returns-clause-err c =
     let grounded = c.args.grounded.now in
     let T = grounded.checked.now.task in
     let steps = c.args.steps.now in

@@ -20,3 +20,22 @@ lifting_of-requires-clause-words c =
     let texts = c.args.texts.now in
     subst (λ (plan : Plan). list_all has_written_words plan ≡ true) (sym c.in-Ok.ensures.lifted.plan)
     (lifted_words texts.domain.items texts.problem.items both.source.checked.task both.ensures.source.task.reads c.in_ok-plan.plan)
+
+pub returns-clause-means : goal.returns-clause-means
+returns-clause-means c =
+    let both = c.in_ok-source in
+    record {
+      task = both.source.checked.task;
+      written = both.written.checked.task;
+      plan = c.in_ok-plan.plan;
+      of = record {
+        source = both.ensures.source;
+        written = both.ensures.written;
+        spelled = subst (λ text. IsPlanText text c.in_ok-plan.plan) c.plan.ensures.text c.in_ok-plan.ensures.spelled;
+        few = c.in_ok-plan.ensures.few;
+      };
+      lifted = c.in-Ok.lifted;
+      is = c.in-Ok.ensures.lifted;
+      spelled = c.in_ok-made.ensures.plan;
+      told = c.in_ok-made.ensures.report;
+    }
