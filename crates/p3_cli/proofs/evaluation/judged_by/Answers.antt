@@ -42,7 +42,7 @@ returns-in-None-clause-report c = λ plan are.
           (c.in_ok-evaluated_report-in-None.ensures plan numbers);
     }
 
-pub returns-clause-err : goal.returns-in-Some-clause-err
+pub returns-clause-err : goal.returns-clause-err
 returns-clause-err c =
     let grounded = c.args.grounded.now in
     let T = grounded.checked.now.task in
