@@ -20,7 +20,7 @@ ghost use Rattle.p3_cli.specs.WrittenText.{HasPlanLayout};
 
 use crate::Ending;
 use crate::evaluation::{invalid, judged_whole};
-use crate::found::embedded_report;
+use crate::report_parts::embedded_report;
 use crate::product::Product;
 use crate::texts::{Made, Texts};
 use p3_base::NoMemory;

@@ -23,7 +23,7 @@ ghost use Rattle.p3_cli.specs.Translation.{CanBeCompiled};
 
 use crate::Ending;
 use crate::acceptance::{accepted, grounded, readable_plan, spelled_task};
-use crate::found::evaluated_report;
+use crate::report_parts::evaluated_report;
 use crate::texts::Texts;
 use p3_base::Side;
 use p3_eval::{Accepted, Grounded, PlanFault, Steps, Whole};

@@ -24,7 +24,7 @@ ghost use Rattle.p3_cli.specs.Texts.{all_texts};
 
 use crate::Ending;
 use crate::evaluation::{invalid, judged_task};
-use crate::found::copied;
+use crate::report_parts::copied;
 use crate::texts::Texts;
 use p3_base::{List, NoMemory, Reason};
 use p3_eval::{Accepted, Grounded, PlanFault, Steps};

@@ -11,7 +11,7 @@ mod explaining;
 mod files;
 mod flattening;
 mod following;
-mod found;
+mod report_parts;
 mod laws;
 mod lifting;
 mod product;

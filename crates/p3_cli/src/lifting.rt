@@ -17,7 +17,7 @@ ghost use Rattle.p3_cli.specs.WrittenText.{HasPlanLayout};
 use crate::Ending;
 use crate::acceptance::{accepted, plan_of, readable_plan, spelled_task};
 use crate::evaluation::invalid;
-use crate::found::{differing, lifted_report};
+use crate::report_parts::{differing, lifted_report};
 use crate::product::Product;
 use crate::texts::{Made, Texts};
 use p3_base::{NoMemory, Side};

@@ -13,7 +13,7 @@ ghost use Rattle.p3_cli.specs.Sampling.{IsSampleReport, IsSampling};
 use crate::Ending;
 use crate::embedding::embedded;
 use crate::evaluation::judged_whole;
-use crate::found::sampled_report;
+use crate::report_parts::sampled_report;
 use crate::product::Product;
 use crate::texts::{Made, Texts};
 use p3_base::NoMemory;

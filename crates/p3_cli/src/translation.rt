@@ -17,7 +17,7 @@ ghost use Rattle.p3_cli.specs.WrittenText.{HasFaithfulText};
 
 use crate::Ending;
 use crate::acceptance::{grounded, spelled_task};
-use crate::found::compiled_report;
+use crate::report_parts::compiled_report;
 use crate::product::Product;
 use crate::streaming::compiled_texts;
 use crate::texts::{Made, Texts};

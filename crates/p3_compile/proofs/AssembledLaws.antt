@@ -16,12 +16,12 @@ use Rattle.p3_formula.specs.declared.target.TargetAction.{TargetAction}
 use Rattle.p3_formula.specs.declared.target.Weights.{Weights}
 use Rattle.p3_formula.specs.declared.task.GroundStep.{GroundStep}
 use Rattle.p3_formula.specs.declared.task.GroundTask.{GroundTask}
-use Rattle.p3_monitors.specs.declared.watching.Monitor.{Monitor}
+use Rattle.p3_monitors.specs.declared.monitoring.Monitor.{Monitor}
 use Rattle.p3_simulation.specs.Assembled.{AreOfSteps, Assembly, IsAssembled}
 use Rattle.p3_simulation.specs.Naming.{all_numbered, atom_names, current_name, numbered, question_names, wide_steps}
-use Rattle.p3_simulation.specs.Watching.{AreMonitors, all_modals}
+use Rattle.p3_simulation.specs.Monitoring.{AreMonitors, all_modals}
 use Rattle.p3_simulation.proofs.Bounds.{step_more}
-use Rattle.p3_simulation.proofs.Watched.{none_own}
+use Rattle.p3_simulation.proofs.Monitored.{none_own}
 use Rattle.p3_compile.specs.Compiling.{IsBegun, IsFrameOf, first_names, target_of}
 use Rattle.p3_compile.specs.Stepping.{HasStepActions, IsFrame, IsStepReady, current_names}
 use Rattle.p3_compile.specs.declared.begun.BegunTarget.{BegunTarget}

@@ -5,7 +5,7 @@ use Rattle.std.proofs.lemmas.Bool.{cases_lt}
 use Rattle.std.proofs.lemmas.List.{get_or-take, length-take-le, take_all}
 use Rattle.p3_monitors.specs.FormIndex.{IndexesForms}
 use Rattle.p3_monitors.specs.declared.forms.FormsByAtom.{FormsByAtom}
-use Rattle.p3_monitors.specs.declared.watching.Monitor.{Monitor}
+use Rattle.p3_monitors.specs.declared.monitoring.Monitor.{Monitor}
 use Rattle.p3_compile.specs.Readers.{AreByAtom}
 
 -- of the first ones

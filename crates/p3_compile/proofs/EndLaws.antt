@@ -20,13 +20,13 @@ use Rattle.p3_formula.specs.declared.task.GroundTask.{GroundTask}
 use Rattle.p3_formula.proofs.FormLemmas.{truth-And, has_atoms-And}
 use Rattle.p3_endphase.specs.Ends.{AreActions, AreBelow, IsMove, Settles}
 use Rattle.p3_endphase.specs.declared.phase.SoftEnd.{SoftEnd}
-use Rattle.p3_monitors.specs.declared.watching.Monitor.{Monitor}
+use Rattle.p3_monitors.specs.declared.monitoring.Monitor.{Monitor}
 use Rattle.p3_simulation.specs.Parts.{AreBefore}
-use Rattle.p3_simulation.specs.Watching.{AreMonitors, AreSoftEnds, NoneLeft, OneMore, all_accept, all_modals, modals}
+use Rattle.p3_simulation.specs.Monitoring.{AreMonitors, AreSoftEnds, NoneLeft, OneMore, all_accept, all_modals, modals}
 use Rattle.p3_compile.specs.Compiling.{IsFrameOf}
 use Rattle.p3_compile.specs.declared.stepping.Frame.{Frame}
 use Rattle.p3_compile.specs.Ending.{accepting, soft_ends}
-use Rattle.p3_compile.specs.Watched.{soft_modals}
+use Rattle.p3_compile.specs.Monitored.{soft_modals}
 use Rattle.p3_compile.proofs.EndLists.{modals-take, modals-drop}
 
 -- ---- the monitors of a frame

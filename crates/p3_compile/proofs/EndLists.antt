@@ -6,10 +6,10 @@ use Rattle.p3_formula.specs.declared.form.Form.{Form}
 use Rattle.p3_formula.specs.GroundModal.{GroundModal}
 use Rattle.p3_formula.specs.declared.modal.GroundSoft.{GroundSoft}
 use Rattle.p3_endphase.specs.declared.phase.SoftEnd.{SoftEnd}
-use Rattle.p3_monitors.specs.declared.watching.Monitor.{Monitor}
-use Rattle.p3_simulation.specs.Watching.{modals}
+use Rattle.p3_monitors.specs.declared.monitoring.Monitor.{Monitor}
+use Rattle.p3_simulation.specs.Monitoring.{modals}
 use Rattle.p3_compile.specs.Ending.{accepting, soft_ends}
-use Rattle.p3_compile.specs.Watched.{soft_modals}
+use Rattle.p3_compile.specs.Monitored.{soft_modals}
 
 -- the first monitors are those of the first constraints
 pub modals-take : (monitors : List Monitor) (parts more : List GroundModal) → modals monitors ≡ parts ++ more → modals (take (length parts) monitors) ≡ parts

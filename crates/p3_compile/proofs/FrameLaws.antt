@@ -18,19 +18,19 @@ use Rattle.p3_formula.specs.declared.modal.GroundSoft.{GroundSoft}
 use Rattle.p3_formula.specs.declared.task.GroundStep.{GroundStep}
 use Rattle.p3_formula.specs.declared.task.GroundTask.{GroundTask}
 use Rattle.p3_formula.proofs.ReadAtoms.{all_have_more_of}
-use Rattle.p3_monitors.specs.declared.watching.Monitor.{Monitor}
+use Rattle.p3_monitors.specs.declared.monitoring.Monitor.{Monitor}
 use Rattle.p3_simulation.specs.Naming.{all_numbered, is_wide, numbered, question_names, wide_steps}
 use Rattle.p3_simulation.specs.Parts.{AreBefore}
-use Rattle.p3_simulation.specs.Watching.{AreMonitors, all_modals}
+use Rattle.p3_simulation.specs.Monitoring.{AreMonitors, all_modals}
 use Rattle.p3_simulation.proofs.Bounds.{all_weaker}
-use Rattle.p3_simulation.proofs.Watched.{are_before, monitors_rise}
+use Rattle.p3_simulation.proofs.Monitored.{are_before, monitors_rise}
 use Rattle.p3_compile.specs.Compiling.{IsReadyTask, IsFrameOf, IsFramed}
 use Rattle.p3_regress.specs.Readers.{AreRising}
 use Rattle.p3_compile.specs.Readers.{AreByAtom, readers_of}
-use Rattle.p3_compile.specs.Watched.{IsWatched, monitor_atoms, named_more, soft_modals}
+use Rattle.p3_compile.specs.Monitored.{IsWatched, monitor_atoms, named_more, soft_modals}
 use Rattle.p3_compile.specs.declared.stepping.Frame.{Frame}
 use Rattle.p3_compile.proofs.NumberedNames.{length-named, named-join}
-use Rattle.p3_compile.proofs.WatchedLists.{monitors-append}
+use Rattle.p3_compile.proofs.MonitoredLists.{monitors-append}
 
 -- ---- the frame
 

@@ -16,9 +16,9 @@ use Rattle.p3_formula.specs.declared.task.GroundStep.{GroundStep}
 use Rattle.p3_formula.proofs.FormLemmas.{truth-And, has_atoms-And}
 use Rattle.p3_formula.proofs.GuardLaws.{spread_atoms, spread_truth}
 use Rattle.p3_monitors.specs.Guards.{HasGuard, IsGuard}
-use Rattle.p3_monitors.specs.declared.watching.Monitor.{Monitor}
+use Rattle.p3_monitors.specs.declared.monitoring.Monitor.{Monitor}
 use Rattle.p3_simulation.specs.Parts.{AreBefore}
-use Rattle.p3_simulation.specs.Watching.{AreGuards, NoGuards, Unguarded, Guarded, IsGuardedPre}
+use Rattle.p3_simulation.specs.Monitoring.{AreGuards, NoGuards, Unguarded, Guarded, IsGuardedPre}
 use Rattle.p3_compile.specs.Guarding.{HasGuards, HasOneGuard, IsGuardedBy, guarded_by}
 use Rattle.p3_compile.proofs.UpdateLists.{before_back, before_front, parts_inside}
 

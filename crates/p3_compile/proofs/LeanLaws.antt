@@ -23,9 +23,9 @@ use Rattle.p3_formula.proofs.NameLaws.{copy_lifted, other_not_lifted}
 use Rattle.p3_endphase.specs.Ends.{AreActions, IsMove, Settles}
 use Rattle.p3_endphase.specs.declared.phase.EndPhase.{EndPhase}
 use Rattle.p3_endphase.specs.declared.phase.SoftEnd.{SoftEnd}
-use Rattle.p3_monitors.specs.declared.watching.Monitor.{Monitor}
+use Rattle.p3_monitors.specs.declared.monitoring.Monitor.{Monitor}
 use Rattle.p3_simulation.specs.Gadgets.{AreRising}
-use Rattle.p3_simulation.specs.Watching.{all_modals, modals}
+use Rattle.p3_simulation.specs.Monitoring.{all_modals, modals}
 use Rattle.p3_simulation.proofs.GadgetLaws.{found_step}
 use Rattle.p3_compile.specs.Compiling.{IsEnding, IsFrameOf, target_of}
 use Rattle.p3_compile.specs.Lean.{BelongsTo, HasFew, IsLean, IsOfSteps, busy_modals, is_busy}

@@ -10,7 +10,7 @@ use Rattle.p3_formula.specs.declared.modal.GroundPref.{GroundPref}
 use Rattle.p3_formula.specs.declared.target.TargetAction.{TargetAction}
 use Rattle.p3_formula.specs.declared.target.Weights.{Weights}
 use Rattle.p3_formula.specs.declared.task.GroundStep.{GroundStep}
-use Rattle.p3_monitors.specs.declared.watching.Monitor.{Monitor}
+use Rattle.p3_monitors.specs.declared.monitoring.Monitor.{Monitor}
 use Rattle.p3_base.specs.Copies.{Answer, Copy, End, IsNamedFor, Question, answer_name, end_name}
 use Rattle.p3_precprefs.specs.Questions.{AreAnswers, IsChain}
 use Rattle.p3_precprefs.specs.declared.copies.StepCopy.{StepCopy}

@@ -2,7 +2,7 @@ pub mod CopyLists
 pub mod CopyNames
 pub mod NumberedNames
 pub mod ByAtomLists
-pub mod WatchedLists
+pub mod MonitoredLists
 pub mod SimplerChanges
 pub mod Touched
 pub mod UpdateLists

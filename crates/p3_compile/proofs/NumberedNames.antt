@@ -8,7 +8,7 @@ use Rattle.std.proofs.lemmas.List.{map-append}
 use Rattle.std.proofs.lemmas.List.FromFn.{length-map-range_with_len, map-range_with_len_more}
 use Rattle.p3_base.proofs.NameLemmas.{lowered_decimal}
 use Rattle.p3_base.specs.Words.{Name}
-use Rattle.p3_compile.specs.Watched.{named_more}
+use Rattle.p3_compile.specs.Monitored.{named_more}
 use Rattle.p3_simulation.specs.Naming.{numbered}
 
 pub lowered_numbered : (letter : Name) (number : ℕ) → str_to_ascii_lowercase letter ≡ letter → number < 2 ^ 64 → str_to_ascii_lowercase (numbered letter number) ≡ numbered letter number

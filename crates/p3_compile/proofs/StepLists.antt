@@ -18,11 +18,11 @@ use Rattle.p3_formula.specs.declared.target.TargetAction.{TargetAction}
 use Rattle.p3_formula.specs.declared.target.Weights.{Weights}
 use Rattle.p3_formula.specs.declared.task.GroundStep.{GroundStep}
 use Rattle.p3_precprefs.specs.Questions.{AreAnswers, IsChain}
-use Rattle.p3_monitors.specs.declared.watching.Monitor.{Monitor}
+use Rattle.p3_monitors.specs.declared.monitoring.Monitor.{Monitor}
 use Rattle.p3_simulation.specs.Assembled.{AreOfStep, AreOfSteps, Costless, Narrow, Wide, NoSteps, OneStep, IsSplit}
 use Rattle.p3_simulation.specs.Naming.{is_wide, wide_steps}
 use Rattle.p3_simulation.specs.Parts.{AreBefore}
-use Rattle.p3_simulation.specs.Watching.{IsEffects, IsGuardedPre}
+use Rattle.p3_simulation.specs.Monitoring.{IsEffects, IsGuardedPre}
 use Rattle.p3_compile.specs.Lean.{IsOfSteps, IsStepAction}
 use Rattle.p3_compile.specs.Updated.{AreSimpler, HasChanges, HasMade, HasSimpler, HasTidyConditions}
 use Rattle.p3_compile.specs.Stepping.{AreMade, HasActions, busy_in, hard_monitors}

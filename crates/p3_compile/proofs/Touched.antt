@@ -15,9 +15,9 @@ use Rattle.p3_base.specs.declared.operator.Operator.TheVariants.{AtEnd, Always, 
 use Rattle.p3_formula.specs.AtomLists.{atoms_of}
 use Rattle.p3_formula.proofs.AtomLists.{has_listed}
 use Rattle.p3_regress.specs.Readers.{is_at, is_read_at, mentions}
-use Rattle.p3_regress.specs.declared.readers.Reader.{Reader}
+use Rattle.p3_regress.specs.declared.readers.PartReader.{PartReader}
 use Rattle.p3_regress.proofs.ReaderLemmas.{any_alike, inside, mentioned, mentions_it, none_of, outside}
-use Rattle.p3_monitors.specs.declared.watching.Monitor.{Monitor}
+use Rattle.p3_monitors.specs.declared.monitoring.Monitor.{Monitor}
 use Rattle.p3_compile.specs.Readers.{followed, read_atoms, readers_of}
 use Rattle.p3_compile.specs.Lean.{is_busy}
 use Rattle.p3_compile.specs.Updated.{AreTouched}
@@ -49,7 +49,7 @@ module _ (step : List Change) where
   busy_is (SometimeAfter f g) = any_alike _ _ (λ (change : Change). reads_two change.atom f g) step
   busy_is (SometimeBefore f g) = any_alike _ _ (λ (change : Change). reads_two change.atom f g) step
 
-  module _ (monitors : List Monitor) (readers : List Reader) (places : List ℕ) (read : IsPermutation (readers_of monitors) readers) (found : (place : ℕ) → mentions place places ≡ is_read_at step readers place) where
+  module _ (monitors : List Monitor) (readers : List PartReader) (places : List ℕ) (read : IsPermutation (readers_of monitors) readers) (found : (place : ℕ) → mentions place places ≡ is_read_at step readers place) where
     found_by : (place : ℕ) → mentions place places ≡ is_read_at step (readers_of monitors) place
     found_by place = found place ∙ any_alike _ _ (λ (change : Change). sym (list_any-IsPermutation (is_at change.atom place) (readers_of monitors) readers read)) step
 

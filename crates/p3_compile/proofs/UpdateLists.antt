@@ -17,10 +17,10 @@ use Rattle.p3_formula.specs.GroundModal.{GroundModal}
 use Rattle.p3_base.specs.declared.operator.Operator.TheVariants.{AtEnd, Always, Sometime, AtMostOnce, SometimeAfter, SometimeBefore}
 use Rattle.p3_formula.proofs.ReadAtoms.{all_have_more_of}
 use Rattle.p3_monitors.specs.KeepsOn.{AreOwn, HasConditions, HasNone, KeepsOn}
-use Rattle.p3_monitors.specs.declared.watching.Monitor.{Monitor}
+use Rattle.p3_monitors.specs.declared.monitoring.Monitor.{Monitor}
 use Rattle.p3_monitors.proofs.UpdateLaws.{at_end_update}
 use Rattle.p3_simulation.specs.Parts.{AreBefore}
-use Rattle.p3_simulation.specs.Watching.{AreUpdates, NoMore, Untouched, Touched}
+use Rattle.p3_simulation.specs.Monitoring.{AreUpdates, NoMore, Untouched, Touched}
 use Rattle.p3_simulation.proofs.Bounds.{all_weaker, below_more}
 use Rattle.p3_compile.specs.Updated.{AreApart, AreTouched, HasUpdate, HasUpdates, HasOwnAtoms, busy_count}
 use Rattle.p3_compile.specs.Lean.{is_busy}

@@ -17,7 +17,7 @@ use Rattle.p3_endphase.specs.declared.phase.EndPhase.{EndPhase}
 use Rattle.p3_endphase.specs.declared.phase.SoftEnd.{SoftEnd}
 use Rattle.p3_simulation.specs.Assembled.{HasAssembly}
 use Rattle.p3_simulation.specs.Naming.{all_numbered, question_names, wide_steps}
-use Rattle.p3_simulation.specs.Watching.{AreMonitors, AreSoftEnds, all_accept, all_modals, initial_bits}
+use Rattle.p3_simulation.specs.Monitoring.{AreMonitors, AreSoftEnds, all_accept, all_modals, initial_bits}
 use Rattle.p3_compile.specs.Lean.{IsLean}
 use Rattle.p3_regress.specs.Readers.{AreRising}
 use Rattle.p3_compile.specs.Readers.{AreByAtom, readers_of}

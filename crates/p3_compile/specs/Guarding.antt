@@ -7,9 +7,9 @@ use Rattle.p3_formula.specs.Targets.{is_sized_change}
 use Rattle.p3_formula.specs.declared.form.Change.{Change}
 use Rattle.p3_formula.specs.declared.form.Form.{Form}
 use Rattle.p3_formula.specs.declared.form.Form.TheVariants.{And}
-use Rattle.p3_monitors.specs.declared.watching.Monitor.{Monitor}
+use Rattle.p3_monitors.specs.declared.monitoring.Monitor.{Monitor}
 use Rattle.p3_simulation.specs.Parts.{AreBefore}
-use Rattle.p3_simulation.specs.Watching.{AreGuards}
+use Rattle.p3_simulation.specs.Monitoring.{AreGuards}
 
 -- the guards of some of the monitors, which have no atoms but the monitors' own and those of the constraints and of the step
 pub record HasGuards (step : List Change) (monitors : List Monitor) (guards : List Form) : Type 0 where

@@ -16,7 +16,7 @@ use Rattle.p3_formula.specs.declared.target.TargetAction.{TargetAction}
 use Rattle.p3_formula.specs.declared.target.Weights.{Weights}
 use Rattle.p3_formula.specs.declared.task.GroundStep.{GroundStep}
 use Rattle.p3_formula.specs.declared.task.GroundTask.{GroundTask}
-use Rattle.p3_simulation.specs.Watching.{all_modals}
+use Rattle.p3_simulation.specs.Monitoring.{all_modals}
 
 -- a constraint on more than the last state, of which the step may change an atom
 abbrev pub is_busy : List Change → GroundModal → Bool

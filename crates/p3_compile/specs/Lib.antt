@@ -5,4 +5,4 @@ pub mod Lean
 pub mod Readers
 pub mod Stepping
 pub mod Updated
-pub mod Watched
+pub mod Monitored

@@ -4,10 +4,10 @@ use Rattle.p3_formula.specs.AtomLists.{atoms_of}
 use Rattle.p3_formula.specs.GroundModal.{GroundModal}
 use Rattle.p3_base.specs.Operators.{each, is_at_end}
 use Rattle.p3_regress.specs.Readers.{readers_from}
-use Rattle.p3_regress.specs.declared.readers.Reader.{Reader}
+use Rattle.p3_regress.specs.declared.readers.PartReader.{PartReader}
 use Rattle.p3_monitors.specs.FormIndex.{IndexesForms}
 use Rattle.p3_monitors.specs.declared.forms.FormsByAtom.{FormsByAtom}
-use Rattle.p3_monitors.specs.declared.watching.Monitor.{Monitor}
+use Rattle.p3_monitors.specs.declared.monitoring.Monitor.{Monitor}
 
 -- the atoms whose changes a monitor follows: none where only the last state counts
 abbrev pub read_atoms : GroundModal → List ℕ
@@ -17,7 +17,7 @@ abbrev pub followed : Monitor → List ℕ
 followed monitor = read_atoms monitor.modal
 
 -- the monitors as readers of these, by their places
-abbrev pub readers_of : List Monitor → List Reader
+abbrev pub readers_of : List Monitor → List PartReader
 readers_of monitors = readers_from 0 (map followed monitors)
 
 -- there is for each monitor what its constraint's forms have by atom

@@ -9,7 +9,7 @@ use Rattle.p3_formula.specs.Weighted.{AreNamedBelow}
 use Rattle.p3_formula.specs.declared.target.TargetAction.{TargetAction}
 use Rattle.p3_formula.specs.declared.target.Weights.{Weights}
 use Rattle.p3_formula.specs.declared.task.GroundStep.{GroundStep}
-use Rattle.p3_monitors.specs.declared.watching.Monitor.{Monitor}
+use Rattle.p3_monitors.specs.declared.monitoring.Monitor.{Monitor}
 use Rattle.p3_simulation.specs.Assembled.{AreOfStep, AreOfSteps}
 use Rattle.p3_simulation.specs.Naming.{current_name, is_wide, wide_steps}
 use Rattle.p3_simulation.specs.Parts.{AreBefore}

@@ -12,10 +12,10 @@ use Rattle.p3_formula.specs.declared.form.Change.{Change}
 use Rattle.p3_formula.specs.declared.form.Form.{Form}
 use Rattle.p3_formula.specs.declared.target.TargetAction.{TargetAction}
 use Rattle.p3_monitors.specs.KeepsOn.{HasNone, HasConditions, AreOwn, KeepsOn}
-use Rattle.p3_monitors.specs.declared.watching.Monitor.{Monitor}
+use Rattle.p3_monitors.specs.declared.monitoring.Monitor.{Monitor}
 use Rattle.p3_precprefs.specs.declared.copies.StepCopy.{StepCopy}
 use Rattle.p3_simulation.specs.Parts.{AreBefore}
-use Rattle.p3_simulation.specs.Watching.{AreUpdates}
+use Rattle.p3_simulation.specs.Monitoring.{AreUpdates}
 use Rattle.p3_compile.specs.Lean.{is_busy, is_conditional}
 
 -- the changes are of no monitor's own atoms

@@ -2,8 +2,8 @@
 
 ghost use Rattle.std.specs.Prelude.{◌≡◌, ◌++◌, IfOk};
 ghost use Rattle.std.specs.List.{flat_map};
-ghost use Rattle.p3_monitors.specs.declared.watching.Monitor.{Monitor};
-ghost use Rattle.p3_simulation.specs.Watching.{initial_bits};
+ghost use Rattle.p3_monitors.specs.declared.monitoring.Monitor.{Monitor};
+ghost use Rattle.p3_simulation.specs.Monitoring.{initial_bits};
 
 use p3_base::NoMemory;
 use p3_formula::Bits;

@@ -4,9 +4,9 @@ ghost use Rattle.std.specs.Prelude.{◌≡◌, ◌++◌, ◌≤◌, ◌&&◌, []
 ghost use Rattle.std.specs.List.{All};
 ghost use Rattle.p3_formula.specs.Weighted.{HasNameBelow};
 ghost use Rattle.p3_formula.specs.declared.modal.GroundSoft.{GroundSoft};
-ghost use Rattle.p3_simulation.specs.Watching.{modals};
+ghost use Rattle.p3_simulation.specs.Monitoring.{modals};
 ghost use Rattle.p3_compile.specs.Ending.{accepting, soft_ends};
-ghost use Rattle.p3_compile.specs.Watched.{soft_modals};
+ghost use Rattle.p3_compile.specs.Monitored.{soft_modals};
 
 use crate::weighing::named_weight;
 use p3_base::{List, NoMemory};

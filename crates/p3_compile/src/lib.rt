@@ -10,9 +10,9 @@ mod guarding;
 mod laws;
 mod names;
 mod narrow;
-mod reading;
+mod monitor_readers;
 mod stepping;
-mod watching;
+mod monitoring;
 mod weighing;
 
 pub use begun::BegunTarget;

@@ -2,7 +2,7 @@
 
 ghost use Rattle.std.specs.Prelude.{◌≡◌, ◌≤◌, length, IfOk, OnOk};
 ghost use Rattle.std.specs.Str.{str_to_ascii_lowercase};
-ghost use Rattle.p3_compile.specs.Watched.{named_more};
+ghost use Rattle.p3_compile.specs.Monitored.{named_more};
 ghost use Rattle.p3_simulation.specs.Naming.{numbered};
 
 use itoa::Buffer;

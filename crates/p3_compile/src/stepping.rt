@@ -18,7 +18,7 @@ use p3_base::{List, NoMemory};
 use p3_formula::{Effects, GroundStep, TargetAction, Weights};
 use p3_monitors::{FormsByAtom, Monitor};
 use p3_precprefs::ask;
-use p3_regress::Reader;
+use p3_regress::PartReader;
 use std::alloc::Global;
 
 /// What the actions of all steps share.
@@ -29,7 +29,7 @@ pub(crate) struct Frame {
     /// How many of them are of hard constraints.
     pub(crate) hard: usize,
     /// Which of them read an atom, by rising atom.
-    pub(crate) readers: Vec<Reader>,
+    pub(crate) readers: Vec<PartReader>,
     /// The parts of the forms of each by the atoms that they read.
     pub(crate) by_atom: Vec<FormsByAtom>,
     /// The running atom.

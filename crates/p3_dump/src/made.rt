@@ -8,7 +8,7 @@ ghost use Rattle.p3_tree.specs.Sides.{byte_limit, step_count_limit};
 use p3_base::Side;
 use p3_eval::Whole;
 use p3_expansion::{Atoms, Statics, Work, hard_constraints, hard_form, soft_constraints};
-use p3_steps::{Costs, steps};
+use p3_steps::{EffectCosts, steps};
 use p3_syntax::{read_domain, read_problem};
 use p3_types::{Checked, check};
 use std::alloc::Global;
@@ -49,7 +49,7 @@ pub(crate) fn numbered_atoms(alloc: Global, task: &Checked) -> Option<Atoms>
     let _ = task.task();
     let numbered = task.numbered();
     let statics = Statics::of(alloc, numbered).ok()?;
-    let costs = Costs::of(alloc, numbered.values.items(), 0).ok()?;
+    let costs = EffectCosts::of(alloc, numbered.values.items(), 0).ok()?;
     let mut work = Work::new(alloc);
     steps(numbered, &statics, &costs, &mut work).ok()?;
     hard_form(&numbered.numbers, &statics, &mut work, &[], &numbered.goal).ok()?;

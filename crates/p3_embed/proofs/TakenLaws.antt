@@ -20,7 +20,7 @@ use Rattle.p3_formula.specs.declared.target.Weights.{Weights}
 use Rattle.p3_formula.specs.declared.task.GroundTask.{GroundTask}
 use Rattle.p3_formula.proofs.NextLaws.{length-after}
 use Rattle.p3_embed.specs.declared.actions.Actions.{Actions}
-use Rattle.p3_embed.specs.declared.walking.Walk.{Walk}
+use Rattle.p3_embed.specs.declared.walking.EmbeddingWalk.{EmbeddingWalk}
 use Rattle.p3_embed.specs.Actions.{AreActionsOf, FitsAt, NoneFits}
 use Rattle.p3_embed.specs.Embeds.{CanEmbed, IsEmbedded, IsOnWay, names_at, plan_length}
 use Rattle.p3_embed.specs.Walking.{HasTaken, IsBegun, IsWalk}
@@ -81,14 +81,14 @@ names_more X places place action at = map-append (λ p. slice_index_or (action_n
 -- ---- an action taken
 
 module _ (G : GroundTask) (weights : Weights) (X : Target) (numbers : GroundPlan) (able : CanEmbed G weights X numbers) (actions : Actions) (are : AreActionsOf G X actions)
-    (count : ℕ) (walk : Walk) (is : IsWalk G X numbers count walk) where
+    (count : ℕ) (walk : EmbeddingWalk) (is : IsWalk G X numbers count walk) where
   abbrev done : TargetPlan
   done = names_at X walk.places.items
 
   long : length done ≡ length walk.places.items
   long = length-map walk.places.items (λ p. slice_index_or (action_names X) p [])
 
-  taken : (next : ℕ) (new : Walk) (place : ℕ) (action : TargetAction) → slice_get X.actions place ≡ Some action → HasTaken X place walk new
+  taken : (next : ℕ) (new : EmbeddingWalk) (place : ℕ) (action : TargetAction) → slice_get X.actions place ≡ Some action → HasTaken X place walk new
       → IsOnWay G X numbers next (done ++ action.name ∷ []) (after walk.state action.effects) → IsWalk G X numbers next new
   taken next new place action at took way =
       let state = took.state action at in
@@ -106,14 +106,14 @@ module _ (G : GroundTask) (weights : Weights) (X : Target) (numbers : GroundPlan
 
   -- a copy of the next step
   pub copy_taken : (number : ℕ) (more : List ℕ) → drop count numbers ≡ number ∷ more → take count numbers ++ number ∷ [] ≡ take (count + 1) numbers
-      → (place : ℕ) → FitsAt actions.counts.items X walk.state (Some number) place → (new : Walk) → HasTaken X place walk new → IsWalk G X numbers (count + 1) new
+      → (place : ℕ) → FitsAt actions.counts.items X walk.state (Some number) place → (new : EmbeddingWalk) → HasTaken X place walk new → IsWalk G X numbers (count + 1) new
   copy_taken number more left one place fit new took =
       taken (count + 1) new place fit.action fit.at took
       (copy_next G weights X able.compiled numbers count done walk.state is.way number more left one fit.action (fits (Some number) place fit) (counts_so G X actions are walk.state (Some number) place fit))
 
   module _ (others : OthersNext G weights X able.compiled numbers count done walk.state is.way) where
     -- an action that counts as none
-    pub other_taken : (place : ℕ) → FitsAt actions.counts.items X walk.state None place → (new : Walk) → HasTaken X place walk new → IsWalk G X numbers count new
+    pub other_taken : (place : ℕ) → FitsAt actions.counts.items X walk.state None place → (new : EmbeddingWalk) → HasTaken X place walk new → IsWalk G X numbers count new
     other_taken place fit new took =
         taken count new place fit.action fit.at took
         (other_next G weights X able.compiled numbers count done walk.state is.way others fit.action (fits None place fit) (counts_so G X actions are walk.state None place fit))
@@ -132,7 +132,7 @@ module _ (G : GroundTask) (weights : Weights) (X : Target) (numbers : GroundPlan
     left : drop count numbers ≡ get_or numbers count 0 ∷ drop (suc count) numbers
     left = drop-cons numbers count 0 next
 
-    pub step_taken : (place : ℕ) → FitsAt actions.counts.items X walk.state (Some (get_or numbers count 0)) place → (new : Walk) → HasTaken X place walk new → IsWalk G X numbers (count + 1) new
+    pub step_taken : (place : ℕ) → FitsAt actions.counts.items X walk.state (Some (get_or numbers count 0)) place → (new : EmbeddingWalk) → HasTaken X place walk new → IsWalk G X numbers (count + 1) new
     step_taken place fit new took = copy_taken (get_or numbers count 0) (drop (suc count) numbers) left (sym (take_more numbers count 0 next)) place fit new took
 
     pub others_of_step : NoneFits actions.counts.items X walk.state (Some (get_or numbers count 0)) → OthersNext G weights X able.compiled numbers count done walk.state is.way
@@ -149,7 +149,7 @@ module _ (G : GroundTask) (weights : Weights) (X : Target) (numbers : GroundPlan
     pub embedded : truth walk.state X.goal ≡ true → IsEmbedded G X numbers done
     embedded goal = at_end G weights X able.compiled numbers count done walk.state is.way (sym all) able.valid goal
 
-pub begins_walk : (G : GroundTask) (weights : Weights) (X : Target) (numbers : GroundPlan) → CanEmbed G weights X numbers → (walk : Walk) → IsBegun X walk → IsWalk G X numbers 0 walk
+pub begins_walk : (G : GroundTask) (weights : Weights) (X : Target) (numbers : GroundPlan) → CanEmbed G weights X numbers → (walk : EmbeddingWalk) → IsBegun X walk → IsWalk G X numbers 0 walk
 unfolding target_cost
 begins_walk G weights X numbers able walk begun = record {
   way = subst (λ (places : List ℕ). IsOnWay G X numbers 0 (names_at X places) walk.state) (sym begun.places) (subst (IsOnWay G X numbers 0 []) (sym begun.state) (at_start G weights X able.compiled numbers));

@@ -9,7 +9,7 @@ ghost use Rattle.p3_embed.specs.Sought.{IsSought, IsWalkFor};
 
 use crate::actions::{Actions, actions_of};
 use crate::fitting::{fitting_copy, fitting_other};
-use crate::walking::{Walk, begun, take};
+use crate::walking::{EmbeddingWalk, begun, take};
 use p3_base::{List, Name, NoMemory};
 use p3_formula::{GroundTask, Target, Weights, eval};
 use std::alloc::Global;
@@ -94,7 +94,7 @@ fn name_at(alloc: Global, target: &Target, place: usize) -> Result<Name, NoMemor
 }
 
 /// Where the next action is looked for first: behind the last one.
-fn behind_last(walk: &Walk) -> usize {
+fn behind_last(walk: &EmbeddingWalk) -> usize {
     match walk.places.last() {
         Some(place) => place.saturating_add(1),
         None => 0,
@@ -102,7 +102,7 @@ fn behind_last(walk: &Walk) -> usize {
 }
 
 /// Walks on until the next step is taken.
-fn take_step(alloc: Global, sought: &Sought<'_>, walk: &mut Walk, at: usize) -> Result<(), NoMemory>
+fn take_step(alloc: Global, sought: &Sought<'_>, walk: &mut EmbeddingWalk, at: usize) -> Result<(), NoMemory>
     requires sought { IsSought sought.now }
     requires walk { IsWalkFor sought.now at walk.old }
     requires next { at < length sought.now.numbers.now }
@@ -124,7 +124,7 @@ fn take_step(alloc: Global, sought: &Sought<'_>, walk: &mut Walk, at: usize) -> 
 }
 
 /// Walks on until the goal is reached, behind the last step.
-fn take_rest(alloc: Global, sought: &Sought<'_>, walk: &mut Walk) -> Result<(), NoMemory>
+fn take_rest(alloc: Global, sought: &Sought<'_>, walk: &mut EmbeddingWalk) -> Result<(), NoMemory>
     requires sought { IsSought sought.now }
     requires walk { IsWalkFor sought.now (length sought.now.numbers.now) walk.old }
     ensures walk { OnOk result (IsWalkFor sought.now (length sought.now.numbers.now) walk.new) }

@@ -14,7 +14,7 @@ use std::alloc::Global;
 
 /// How far a walk has come.
 #[derive(Drop)]
-pub(crate) struct Walk {
+pub(crate) struct EmbeddingWalk {
     /// The state that the actions lead to.
     pub(crate) state: Bits,
     /// The places of the actions.
@@ -24,10 +24,10 @@ pub(crate) struct Walk {
 }
 
 /// A walk before the first action.
-pub(crate) fn begun(alloc: Global, target: &Target) -> Result<Walk, NoMemory>
+pub(crate) fn begun(alloc: Global, target: &Target) -> Result<EmbeddingWalk, NoMemory>
     ensures { IfOk result (IsBegun target.now) }
 {
-    Ok(Walk {
+    Ok(EmbeddingWalk {
         state: target.initial.copied(alloc)?,
         places: Vec::new(alloc),
         cost: 0,
@@ -85,7 +85,7 @@ fn change_state(alloc: Global, state: &mut Bits, changes: &[Change]) -> Result<(
 pub(crate) fn take(
     alloc: Global,
     target: &Target,
-    walk: &mut Walk,
+    walk: &mut EmbeddingWalk,
     place: usize,
 ) -> Result<(), NoMemory>
     requires place { place < length target.now.actions }

@@ -16,8 +16,8 @@ use Rattle.p3_numbers.specs.Conditions.{met}
 use Rattle.p3_numbers.specs.Effects.{NumberedLiteral, under, numbered_literals}
 use Rattle.p3_numbers.specs.Folds.{fold_effect, fold_effects}
 use Rattle.p3_numbers.specs.Slots.{Slots, bound}
-use Rattle.p3_numbers.specs.declared.condition.Argument.{Argument}
-use Rattle.p3_numbers.specs.declared.condition.Condition.{Condition}
+use Rattle.p3_numbers.specs.declared.condition.NumberedArgument.{NumberedArgument}
+use Rattle.p3_numbers.specs.declared.condition.NumberedCondition.{NumberedCondition}
 use Rattle.p3_numbers.specs.declared.effect.NumberedAmount.{NumberedAmount}
 use Rattle.p3_numbers.specs.declared.effect.NumberedEffect.{NumberedEffect, NumberedEffect-F, Row_of-NumberedEffect, end_of-NumberedEffect, more_of-NumberedEffect, items-the_row-NumberedEffect, items_hidden-the_row-NumberedEffect-0}
 use Rattle.p3_numbers.specs.declared.effect.NumberedEffect.TheBlock.{hidden-the_row-NumberedEffect-0, hidden-the_row-NumberedEffect-1}
@@ -53,11 +53,11 @@ all-assoc true b c = refl
 all-assoc false b c = refl
 
 module _ (N : Numbers) (slots : Slots) where
-  pub atoms-Add : (predicate : ℕ) (args : List Argument) → effect_atoms N slots (Add predicate args) ≡ atom_at slots predicate args ∷ []
+  pub atoms-Add : (predicate : ℕ) (args : List NumberedArgument) → effect_atoms N slots (Add predicate args) ≡ atom_at slots predicate args ∷ []
   unfolding effect_atoms
   atoms-Add predicate args = refl
 
-  pub atoms-Del : (predicate : ℕ) (args : List Argument) → effect_atoms N slots (Del predicate args) ≡ atom_at slots predicate args ∷ []
+  pub atoms-Del : (predicate : ℕ) (args : List NumberedArgument) → effect_atoms N slots (Del predicate args) ≡ atom_at slots predicate args ∷ []
   unfolding effect_atoms
   atoms-Del predicate args = refl
 
@@ -69,16 +69,16 @@ module _ (N : Numbers) (slots : Slots) where
   unfolding effect_atoms hidden-the_row-NumberedEffect-1 hidden
   atoms-Each ranges body = refl
 
-  pub atoms-If : (condition : Condition) (body : NumberedEffect) → effect_atoms N slots (If condition body) ≡ condition_atoms N slots condition ++ effect_atoms N slots body
+  pub atoms-If : (condition : NumberedCondition) (body : NumberedEffect) → effect_atoms N slots (If condition body) ≡ condition_atoms N slots condition ++ effect_atoms N slots body
   unfolding effect_atoms hidden-the_row-NumberedEffect-1 hidden
   atoms-If condition body = refl
 
   module _ (above : Meaning) (is_free : Bool) where
-    pub guarded-Add : (predicate : ℕ) (args : List Argument) → guarded_literals N above is_free slots (Add predicate args) ≡ record { add = true; atom = atom_at slots predicate args; takes_place = both above (conditions_meaning N []); is_free = is_free && true } ∷ []
+    pub guarded-Add : (predicate : ℕ) (args : List NumberedArgument) → guarded_literals N above is_free slots (Add predicate args) ≡ record { add = true; atom = atom_at slots predicate args; takes_place = both above (conditions_meaning N []); is_free = is_free && true } ∷ []
     unfolding numbered_literals
     guarded-Add predicate args = refl
 
-    pub guarded-Del : (predicate : ℕ) (args : List Argument) → guarded_literals N above is_free slots (Del predicate args) ≡ record { add = false; atom = atom_at slots predicate args; takes_place = both above (conditions_meaning N []); is_free = is_free && true } ∷ []
+    pub guarded-Del : (predicate : ℕ) (args : List NumberedArgument) → guarded_literals N above is_free slots (Del predicate args) ≡ record { add = false; atom = atom_at slots predicate args; takes_place = both above (conditions_meaning N []); is_free = is_free && true } ∷ []
     unfolding numbered_literals
     guarded-Del predicate args = refl
 
@@ -96,7 +96,7 @@ module _ (N : Numbers) (slots : Slots) where
         ap (map (guarded N above is_free)) (numbered_literals-Each N slots ranges body) ∙ joined (guarded N above is_free) (λ inner. numbered_literals N inner body) (bound N slots ranges)
         ∙ flat_map-map (λ found. found) (λ inner. guarded_literals N above is_free inner body) (bound N slots ranges)
 
-    narrowed-one : (condition : Condition) (literal : NumberedLiteral) → guarded N above is_free (under condition slots literal) ≡ guarded N (both above (condition_meaning N slots condition)) false literal
+    narrowed-one : (condition : NumberedCondition) (literal : NumberedLiteral) → guarded N above is_free (under condition slots literal) ≡ guarded N (both above (condition_meaning N slots condition)) false literal
     narrowed-one condition literal = λ i. record {
       add = literal.add;
       atom = literal.predicate ∷ literal.objects;
@@ -107,11 +107,11 @@ module _ (N : Numbers) (slots : Slots) where
       is_free = and-false is_free i;
     }
 
-    narrowed-all : (condition : Condition) (literals : List NumberedLiteral) → map (guarded N above is_free) (map (under condition slots) literals) ≡ map (guarded N (both above (condition_meaning N slots condition)) false) literals
+    narrowed-all : (condition : NumberedCondition) (literals : List NumberedLiteral) → map (guarded N above is_free) (map (under condition slots) literals) ≡ map (guarded N (both above (condition_meaning N slots condition)) false) literals
     narrowed-all condition [] = refl
     narrowed-all condition (literal ∷ literals) = λ i. narrowed-one condition literal i ∷ narrowed-all condition literals i
 
-    pub guarded-If : (condition : Condition) (body : NumberedEffect) → guarded_literals N above is_free slots (If condition body) ≡ guarded_literals N (both above (condition_meaning N slots condition)) false slots body
+    pub guarded-If : (condition : NumberedCondition) (body : NumberedEffect) → guarded_literals N above is_free slots (If condition body) ≡ guarded_literals N (both above (condition_meaning N slots condition)) false slots body
     guarded-If condition body = ap (map (guarded N above is_free)) (numbered_literals-If N slots condition body) ∙ narrowed-all condition (numbered_literals N slots body)
 
 module _ (N : Numbers) (S : Statics) where
@@ -196,7 +196,7 @@ module _ (N : Numbers) (S : Statics) where
         }));
   }
 
-  module _ (slots : Slots) (guard narrow : Guard) (condition : Condition) (body : NumberedEffect) (made : Form) (old mid : Work)
+  module _ (slots : Slots) (guard narrow : Guard) (condition : NumberedCondition) (body : NumberedEffect) (made : Form) (old mid : Work)
       (makes : Makes N S old mid (condition_meaning N slots condition) made) (join : IsJoined true guard.form made narrow.form) (free : narrow.is_free ≡ false)
     where
       abbrev reads : List GroundAtom

@@ -18,8 +18,8 @@ use Rattle.p3_formula.proofs.FormLemmas.{truth-Atom, has_atoms-Atom}
 use Rattle.p3_formula.proofs.NodeLemmas.{take-next}
 use Rattle.p3_formula.proofs.TruthLaws.{negated_truth}
 use Rattle.p3_numbers.specs.Slots.{Slots}
-use Rattle.p3_numbers.specs.declared.condition.Argument.{Argument}
-use Rattle.p3_numbers.specs.declared.condition.Condition.TheVariants.{Atom}
+use Rattle.p3_numbers.specs.declared.condition.NumberedArgument.{NumberedArgument}
+use Rattle.p3_numbers.specs.declared.condition.NumberedCondition.TheVariants.{Atom}
 use Rattle.p3_numbers.specs.declared.numbers.Numbers.{Numbers}
 use Rattle.p3_expansion.specs.Atoms.{GroundAtom, fact_of, atom_at, Keeps}
 use Rattle.p3_expansion.specs.Expansions.{Stands, Grows, IsJoined, IsSound, Gathers, junction_form}
@@ -123,7 +123,7 @@ module _ (N : Numbers) (S : Statics) where
 
   -- ---- atoms
 
-  module _ (old new : Work) (slots : Slots) (predicate : ℕ) (args : List Argument) where
+  module _ (old new : Work) (slots : Slots) (predicate : ℕ) (args : List NumberedArgument) where
     holds-atom : (s : State) → (condition_meaning N slots (Atom predicate args)).test s ≡ has_fact s (fact_of N (atom_at slots predicate args))
     holds-atom s = ap (λ (m : Meaning). m.test s) (meaning-Atom N slots predicate args)
 
@@ -132,7 +132,7 @@ module _ (N : Numbers) (S : Statics) where
     makes-decided value made decided is grows stands =
         makes-constant old new (condition_meaning N slots (Atom predicate args)) made value grows stands (λ s settled. is ∙ sym (settled.same (atom_at slots predicate args) decided) ∙ sym (holds-atom s))
 
-  pub makes-added : (old mid new : Work) (slots : Slots) (predicate : ℕ) (args : List Argument) (words : List ℕ) (made : Form) → words ≡ atom_at slots predicate args → Grows [] old mid → Grows (words ∷ []) mid new
+  pub makes-added : (old mid new : Work) (slots : Slots) (predicate : ℕ) (args : List NumberedArgument) (words : List ℕ) (made : Form) → words ≡ atom_at slots predicate args → Grows [] old mid → Grows (words ∷ []) mid new
       → Stands N S new.atoms (atom_meaning N words) made → IsTrue (is_tidy made) → Makes N S old new (condition_meaning N slots (Atom predicate args)) made
   makes-added old mid new slots predicate args words made is before grows stands tidy =
       makes-by old new made (condition_meaning N slots (Atom predicate args)) (atom_meaning N words) (meaning-Atom N slots predicate args ∙ ap (atom_meaning N) (sym is)) (record {

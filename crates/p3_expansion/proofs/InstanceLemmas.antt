@@ -11,7 +11,7 @@ use Rattle.p3_numbers.specs.Slots.{Slots, bound}
 use Rattle.p3_numbers.specs.declared.constraint.NumberedConstraint.{NumberedConstraint}
 use Rattle.p3_numbers.specs.declared.constraint.NumberedConstraint.TheVariants.{Both, Each, Single}
 use Rattle.p3_numbers.specs.NumberedModal.{NumberedModal}
-use Rattle.p3_numbers.specs.declared.goal.Goal.{Goal}
+use Rattle.p3_numbers.specs.declared.goal.NumberedGoal.{NumberedGoal}
 use Rattle.p3_numbers.specs.declared.numbers.Numbers.{Numbers}
 use Rattle.p3_numbers.proofs.ConstraintLemmas.{soft_instances-Both, soft_instances-Each}
 use Rattle.p3_expansion.specs.Atoms.{GroundAtom, Keeps}
@@ -93,7 +93,7 @@ module _ (N : Numbers) (S : Statics) where
   stand-at-end atoms (placed ∷ meant) [] all = absurd all
   stand-at-end atoms (placed ∷ meant) (one ∷ made) all = (stands-at-end atoms placed one all.0, stand-at-end atoms meant made all.1)
 
-  pub pushes-at-end : (slots : Slots) (goal : Goal) (old new : Work) (none made : List GroundPref) (before after : List GroundSoft) → none ≡ [] → Pushes (PreferencesStand N S) (preference_atoms N slots goal) old new (preferences N slots goal) none made → after ≡ before ++ map made_at_end made
+  pub pushes-at-end : (slots : Slots) (goal : NumberedGoal) (old new : Work) (none made : List GroundPref) (before after : List GroundSoft) → none ≡ [] → Pushes (PreferencesStand N S) (preference_atoms N slots goal) old new (preferences N slots goal) none made → after ≡ before ++ map made_at_end made
       → PushesInstances N S (map at_end (preferences N slots goal)) old new before after
   unfolding preference_atoms
   pushes-at-end slots goal old new none made before after empty pushes is = record {

@@ -14,10 +14,10 @@ use Rattle.p3_tree.specs.States.{State}
 use Rattle.p3_numbers.specs.Conditions.{met}
 use Rattle.p3_numbers.specs.Folds.{fold_condition, fold_conditions}
 use Rattle.p3_numbers.specs.Slots.{Slots, value_of, bound}
-use Rattle.p3_numbers.specs.declared.condition.Argument.{Argument}
-use Rattle.p3_numbers.specs.declared.condition.Condition.{Condition, Condition-F, Row_of-Condition, end_of-Condition, more_of-Condition, items-the_row-Condition, items_hidden-the_row-Condition-0}
-use Rattle.p3_numbers.specs.declared.condition.Condition.TheBlock.{hidden-the_row-Condition-0, hidden-the_row-Condition-1}
-use Rattle.p3_numbers.specs.declared.condition.Condition.TheVariants.{Atom, Equal, And, Or, Not, Imply, Exists, Forall}
+use Rattle.p3_numbers.specs.declared.condition.NumberedArgument.{NumberedArgument}
+use Rattle.p3_numbers.specs.declared.condition.NumberedCondition.{NumberedCondition, NumberedCondition-F, Row_of-NumberedCondition, end_of-NumberedCondition, more_of-NumberedCondition, items-the_row-NumberedCondition, items_hidden-the_row-NumberedCondition-0}
+use Rattle.p3_numbers.specs.declared.condition.NumberedCondition.TheBlock.{hidden-the_row-NumberedCondition-0, hidden-the_row-NumberedCondition-1}
+use Rattle.p3_numbers.specs.declared.condition.NumberedCondition.TheVariants.{Atom, Equal, And, Or, Not, Imply, Exists, Forall}
 use Rattle.p3_numbers.specs.declared.numbers.Numbers.{Numbers}
 use Rattle.p3_numbers.proofs.ConditionLemmas.{met-And, met-Or, met-Not, met-Imply, met-Exists, met-Forall}
 use Rattle.p3_formula.proofs.FormLemmas.{list_any-map}
@@ -65,57 +65,57 @@ covers-last meanings meaning passes all =
 
 -- ---- conditions
 
-module _ {A : Type 0} (layer : Condition-F A → A) where
-  row_conditions : {n : Count} (row : Row_of-Condition n) → fold_conditions layer row ≡ map (fold_condition layer) (items-the_row-Condition n row)
-  row_conditions end_of-Condition = refl
-  row_conditions (more_of-Condition part rest) = λ i. fold_condition layer part ∷ row_conditions rest i
+module _ {A : Type 0} (layer : NumberedCondition-F A → A) where
+  row_conditions : {n : Count} (row : Row_of-NumberedCondition n) → fold_conditions layer row ≡ map (fold_condition layer) (items-the_row-NumberedCondition n row)
+  row_conditions end_of-NumberedCondition = refl
+  row_conditions (more_of-NumberedCondition part rest) = λ i. fold_condition layer part ∷ row_conditions rest i
 
-  pub hidden_conditions : (parts : List Condition) → fold_conditions layer (hidden-the_row-Condition-0 parts) ≡ map (fold_condition layer) parts
-  hidden_conditions parts = row_conditions (hidden-the_row-Condition-0 parts) ∙ ap (map (fold_condition layer)) (items_hidden-the_row-Condition-0 parts)
+  pub hidden_conditions : (parts : List NumberedCondition) → fold_conditions layer (hidden-the_row-NumberedCondition-0 parts) ≡ map (fold_condition layer) parts
+  hidden_conditions parts = row_conditions (hidden-the_row-NumberedCondition-0 parts) ∙ ap (map (fold_condition layer)) (items_hidden-the_row-NumberedCondition-0 parts)
 
 module _ (N : Numbers) (slots : Slots) where
-  pub meaning-Atom : (predicate : ℕ) (args : List Argument) → condition_meaning N slots (Atom predicate args) ≡ atom_meaning N (atom_at slots predicate args)
+  pub meaning-Atom : (predicate : ℕ) (args : List NumberedArgument) → condition_meaning N slots (Atom predicate args) ≡ atom_meaning N (atom_at slots predicate args)
   unfolding met condition_atoms
   meaning-Atom predicate args = refl
 
-  pub meaning-Equal : (left right : Argument) (s : State) → (condition_meaning N slots (Equal left right)).test s ≡ (value_of slots left == value_of slots right)
+  pub meaning-Equal : (left right : NumberedArgument) (s : State) → (condition_meaning N slots (Equal left right)).test s ≡ (value_of slots left == value_of slots right)
   unfolding met
   meaning-Equal left right s = refl
 
-  pub atoms-And : (parts : List Condition) → condition_atoms N slots (And parts) ≡ flat_map (condition_atoms N slots) parts
+  pub atoms-And : (parts : List NumberedCondition) → condition_atoms N slots (And parts) ≡ flat_map (condition_atoms N slots) parts
   unfolding condition_atoms
   atoms-And parts = ap (flat_map (λ part. part slots)) (hidden_conditions (atoms_layer N) parts) ∙ flat_map-map (λ part. part slots) (fold_condition (atoms_layer N)) parts
 
-  pub atoms-Or : (parts : List Condition) → condition_atoms N slots (Or parts) ≡ flat_map (condition_atoms N slots) parts
+  pub atoms-Or : (parts : List NumberedCondition) → condition_atoms N slots (Or parts) ≡ flat_map (condition_atoms N slots) parts
   unfolding condition_atoms
   atoms-Or parts = ap (flat_map (λ part. part slots)) (hidden_conditions (atoms_layer N) parts) ∙ flat_map-map (λ part. part slots) (fold_condition (atoms_layer N)) parts
 
-  pub atoms-Not : (part : Condition) → condition_atoms N slots (Not part) ≡ condition_atoms N slots part
-  unfolding condition_atoms hidden-the_row-Condition-1 hidden
+  pub atoms-Not : (part : NumberedCondition) → condition_atoms N slots (Not part) ≡ condition_atoms N slots part
+  unfolding condition_atoms hidden-the_row-NumberedCondition-1 hidden
   atoms-Not part = refl
 
-  pub atoms-Imply : (first second : Condition) → condition_atoms N slots (Imply first second) ≡ condition_atoms N slots first ++ condition_atoms N slots second
-  unfolding condition_atoms hidden-the_row-Condition-1 hidden
+  pub atoms-Imply : (first second : NumberedCondition) → condition_atoms N slots (Imply first second) ≡ condition_atoms N slots first ++ condition_atoms N slots second
+  unfolding condition_atoms hidden-the_row-NumberedCondition-1 hidden
   atoms-Imply first second = refl
 
-  pub atoms-Exists : (ranges : List ℕ) (body : Condition) → condition_atoms N slots (Exists ranges body) ≡ flat_map (λ inner. condition_atoms N inner body) (bound N slots ranges)
-  unfolding condition_atoms hidden-the_row-Condition-1 hidden
+  pub atoms-Exists : (ranges : List ℕ) (body : NumberedCondition) → condition_atoms N slots (Exists ranges body) ≡ flat_map (λ inner. condition_atoms N inner body) (bound N slots ranges)
+  unfolding condition_atoms hidden-the_row-NumberedCondition-1 hidden
   atoms-Exists ranges body = refl
 
-  pub atoms-Forall : (ranges : List ℕ) (body : Condition) → condition_atoms N slots (Forall ranges body) ≡ flat_map (λ inner. condition_atoms N inner body) (bound N slots ranges)
-  unfolding condition_atoms hidden-the_row-Condition-1 hidden
+  pub atoms-Forall : (ranges : List ℕ) (body : NumberedCondition) → condition_atoms N slots (Forall ranges body) ≡ flat_map (λ inner. condition_atoms N inner body) (bound N slots ranges)
+  unfolding condition_atoms hidden-the_row-NumberedCondition-1 hidden
   atoms-Forall ranges body = refl
 
-  pub meaning-And : (parts : List Condition) → condition_meaning N slots (And parts) ≡ joined true (parts_meanings (condition_meaning N slots) parts)
+  pub meaning-And : (parts : List NumberedCondition) → condition_meaning N slots (And parts) ≡ joined true (parts_meanings (condition_meaning N slots) parts)
   meaning-And parts = joined-parts (condition_meaning N slots) true parts (λ s. met N s slots (And parts)) (condition_atoms N slots (And parts)) (λ s. met-And N s slots parts) (atoms-And parts)
 
-  pub meaning-Or : (parts : List Condition) → condition_meaning N slots (Or parts) ≡ joined false (parts_meanings (condition_meaning N slots) parts)
+  pub meaning-Or : (parts : List NumberedCondition) → condition_meaning N slots (Or parts) ≡ joined false (parts_meanings (condition_meaning N slots) parts)
   meaning-Or parts = joined-parts (condition_meaning N slots) false parts (λ s. met N s slots (Or parts)) (condition_atoms N slots (Or parts)) (λ s. met-Or N s slots parts) (atoms-Or parts)
 
-  pub meaning-Not : (part : Condition) → condition_meaning N slots (Not part) ≡ opposite (condition_meaning N slots part)
+  pub meaning-Not : (part : NumberedCondition) → condition_meaning N slots (Not part) ≡ opposite (condition_meaning N slots part)
   meaning-Not part = λ i. record { test = λ s. met-Not N s slots part i; reads = atoms-Not part i }
 
-  pub meaning-Imply : (first second : Condition) → condition_meaning N slots (Imply first second) ≡ joined false (opposite (condition_meaning N slots first) ∷ condition_meaning N slots second ∷ [])
+  pub meaning-Imply : (first second : NumberedCondition) → condition_meaning N slots (Imply first second) ≡ joined false (opposite (condition_meaning N slots first) ∷ condition_meaning N slots second ∷ [])
   meaning-Imply first second = λ i. record {
     test = λ s. (met-Imply N s slots first second ∙ implied (met N s slots first) (met N s slots second)) i;
     reads = (atoms-Imply first second ∙ ap (λ rest. condition_atoms N slots first ++ rest) (sym (append-nil (condition_atoms N slots second)))) i;
@@ -125,12 +125,12 @@ module _ (N : Numbers) (slots : Slots) where
       implied true b = sym (or-false b)
       implied false b = refl
 
-  pub meaning-Exists : (ranges : List ℕ) (body : Condition) → condition_meaning N slots (Exists ranges body) ≡ joined false (parts_meanings (λ inner. condition_meaning N inner body) (bound N slots ranges))
+  pub meaning-Exists : (ranges : List ℕ) (body : NumberedCondition) → condition_meaning N slots (Exists ranges body) ≡ joined false (parts_meanings (λ inner. condition_meaning N inner body) (bound N slots ranges))
   meaning-Exists ranges body =
       joined-parts (λ inner. condition_meaning N inner body) false (bound N slots ranges) (λ s. met N s slots (Exists ranges body)) (condition_atoms N slots (Exists ranges body))
       (λ s. met-Exists N s slots ranges body) (atoms-Exists ranges body)
 
-  pub meaning-Forall : (ranges : List ℕ) (body : Condition) → condition_meaning N slots (Forall ranges body) ≡ joined true (parts_meanings (λ inner. condition_meaning N inner body) (bound N slots ranges))
+  pub meaning-Forall : (ranges : List ℕ) (body : NumberedCondition) → condition_meaning N slots (Forall ranges body) ≡ joined true (parts_meanings (λ inner. condition_meaning N inner body) (bound N slots ranges))
   meaning-Forall ranges body =
       joined-parts (λ inner. condition_meaning N inner body) true (bound N slots ranges) (λ s. met N s slots (Forall ranges body)) (condition_atoms N slots (Forall ranges body))
       (λ s. met-Forall N s slots ranges body) (atoms-Forall ranges body)

@@ -17,7 +17,7 @@ use Rattle.p3_formula.specs.GroundModal.{GroundModal}
 use Rattle.p3_numbers.specs.Conditions.{met}
 use Rattle.p3_numbers.specs.Constraints.{PlacedModal, ModalMeaning, numbered_modal_meaning, test_at, placed_modal_meaning, hard_operators, all_operators}
 use Rattle.p3_numbers.specs.Slots.{Slots, bound}
-use Rattle.p3_numbers.specs.declared.condition.Condition.{Condition}
+use Rattle.p3_numbers.specs.declared.condition.NumberedCondition.{NumberedCondition}
 use Rattle.p3_numbers.specs.declared.constraint.NumberedConstraint.{NumberedConstraint}
 use Rattle.p3_numbers.specs.declared.constraint.NumberedConstraint.TheVariants.{Both, Each, Single, Soft}
 use Rattle.p3_numbers.specs.NumberedModal.{NumberedModal}
@@ -64,7 +64,7 @@ module _ (N : Numbers) (slots : Slots) where
 module _ (N : Numbers) (S : Statics) where
   -- ---- one operator
 
-  module _ (slots : Slots) (f : Condition) where
+  module _ (slots : Slots) (f : NumberedCondition) where
     one-condition : (operator : NumberedModal) → formulas_of operator ≡ f ∷ [] → flat_map (condition_atoms N slots) (formulas_of operator) ≡ condition_atoms N slots f
     one-condition operator is = ap (flat_map (condition_atoms N slots)) is ∙ append-nil (condition_atoms N slots f)
 
@@ -80,7 +80,7 @@ module _ (N : Numbers) (S : Statics) where
     pub stands-AtEnd : (atoms : List GroundAtom) (form : Form) → Stands N S atoms (condition_meaning N slots f) form → is_tidy form ≡ true → OperatorStands N S atoms (record { modal = modal.AtEnd f; slots = slots }) (modal.AtEnd form)
     stands-AtEnd atoms form stands tidy = one-stands atoms form stands tidy (modal.AtEnd f) (modal.AtEnd form) refl refl stands.truth
 
-  module _ (slots : Slots) (f : Condition) (old new : Work) (form : Form) (makes : Makes N S old new (condition_meaning N slots f) form) where
+  module _ (slots : Slots) (f : NumberedCondition) (old new : Work) (form : Form) (makes : Makes N S old new (condition_meaning N slots f) form) where
     one_form : (operator : NumberedModal) (modal : GroundModal) → formulas_of operator ≡ f ∷ [] → formulas_of modal ≡ form ∷ [] → HasTruths N S new.atoms (numbered_modal_meaning N slots operator) modal → MakesOperator N S (record { modal = operator; slots = slots }) old new modal
     one_form operator modal conditions forms truths = record {
       grows = subst (λ atoms. Grows atoms old new) (sym (one-condition slots f operator conditions)) makes.grows;
@@ -91,7 +91,7 @@ module _ (N : Numbers) (S : Statics) where
     makes-unary kind = one_form (unary kind f) (unary kind form) (formulas_unary kind f) (formulas_unary kind form)
         (subst (λ (meaning : ModalMeaning). HasTruths N S new.atoms meaning (unary kind form)) (sym (over_unary (test_at N slots) kind f)) (pairs_unary (HasTruth N S new.atoms) kind (test_at N slots f) form makes.stands.truth))
 
-  module _ (slots : Slots) (f g : Condition) (old mid new : Work) (form other : Form) (first : Makes N S old mid (condition_meaning N slots f) form) (second : Makes N S mid new (condition_meaning N slots g) other) where
+  module _ (slots : Slots) (f g : NumberedCondition) (old mid new : Work) (form other : Form) (first : Makes N S old mid (condition_meaning N slots f) form) (second : Makes N S mid new (condition_meaning N slots g) other) where
     two_forms : (operator : NumberedModal) (modal : GroundModal) → formulas_of operator ≡ f ∷ g ∷ [] → formulas_of modal ≡ form ∷ other ∷ [] → HasTruths N S new.atoms (numbered_modal_meaning N slots operator) modal → MakesOperator N S (record { modal = operator; slots = slots }) old new modal
     two_forms operator modal reads forms truths = record {
       grows = grows-trans all old mid new (grows-wider all (condition_atoms N slots f) old mid (λ passes those. (split passes those).0) first.grows) (grows-wider all (condition_atoms N slots g) mid new (λ passes those. (split passes those).1) second.grows);

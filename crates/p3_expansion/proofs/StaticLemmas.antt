@@ -33,8 +33,8 @@ use Rattle.p3_numbers.specs.Places.{Variables, number_in, ranges_of, words_of}
 use Rattle.p3_numbers.specs.Slots.{name_at}
 use Rattle.p3_numbers.specs.Starts.{fact_by}
 use Rattle.p3_numbers.specs.Tasks.{IsNumberedTask, numbered_action}
-use Rattle.p3_numbers.specs.declared.condition.Argument.{Argument}
-use Rattle.p3_numbers.specs.declared.condition.Condition.{Condition}
+use Rattle.p3_numbers.specs.declared.condition.NumberedArgument.{NumberedArgument}
+use Rattle.p3_numbers.specs.declared.condition.NumberedCondition.{NumberedCondition}
 use Rattle.p3_numbers.specs.declared.effect.NumberedAmount.{NumberedAmount}
 use Rattle.p3_numbers.specs.declared.effect.NumberedEffect.{NumberedEffect}
 use Rattle.p3_numbers.specs.declared.effect.NumberedEffect.TheBlock.{hidden-the_row-NumberedEffect-1}
@@ -56,11 +56,11 @@ use Rattle.p3_expansion.proofs.TaskLemmas.{known}
 
 -- ---- the predicates of an effect that is built of given parts
 
-pub predicates-Add : (predicate : ℕ) (args : List Argument) → changed_predicates (Add predicate args) ≡ predicate ∷ []
+pub predicates-Add : (predicate : ℕ) (args : List NumberedArgument) → changed_predicates (Add predicate args) ≡ predicate ∷ []
 unfolding changed_predicates
 predicates-Add predicate args = refl
 
-pub predicates-Del : (predicate : ℕ) (args : List Argument) → changed_predicates (Del predicate args) ≡ predicate ∷ []
+pub predicates-Del : (predicate : ℕ) (args : List NumberedArgument) → changed_predicates (Del predicate args) ≡ predicate ∷ []
 unfolding changed_predicates
 predicates-Del predicate args = refl
 
@@ -72,7 +72,7 @@ pub predicates-Each : (ranges : List ℕ) (body : NumberedEffect) → changed_pr
 unfolding changed_predicates hidden-the_row-NumberedEffect-1 hidden
 predicates-Each ranges body = refl
 
-pub predicates-If : (condition : Condition) (body : NumberedEffect) → changed_predicates (If condition body) ≡ changed_predicates body
+pub predicates-If : (condition : NumberedCondition) (body : NumberedEffect) → changed_predicates (If condition body) ≡ changed_predicates body
 unfolding changed_predicates hidden-the_row-NumberedEffect-1 hidden
 predicates-If condition body = refl
 

@@ -3,7 +3,7 @@ use Rattle.std.specs.Prelude.{◌≡◌, ℕ, ◌≤◌, nat_lt, Bool, true, fal
 use Rattle.std.specs.List.{list_any, list_all}
 use Rattle.p3_tree.specs.declared.state.Fact.{Fact}
 use Rattle.p3_numbers.specs.Slots.{Slots, values_of, name_at, object_names}
-use Rattle.p3_numbers.specs.declared.condition.Argument.{Argument}
+use Rattle.p3_numbers.specs.declared.condition.NumberedArgument.{NumberedArgument}
 use Rattle.p3_numbers.specs.declared.numbers.Numbers.{Numbers}
 
 -- the number of the predicate, and then those of the objects
@@ -11,7 +11,7 @@ abbrev pub GroundAtom : Type 0
 GroundAtom = List ℕ
 
 -- a predicate at what its arguments mean
-abbrev pub atom_at : Slots → ℕ → List Argument → GroundAtom
+abbrev pub atom_at : Slots → ℕ → List NumberedArgument → GroundAtom
 atom_at slots predicate args = predicate ∷ values_of slots args
 
 -- what the atom says

@@ -5,8 +5,8 @@ use Rattle.p3_tree.specs.States.{State, has_fact}
 use Rattle.p3_numbers.specs.Conditions.{met}
 use Rattle.p3_numbers.specs.Folds.{fold_condition}
 use Rattle.p3_numbers.specs.Slots.{Slots, bound}
-use Rattle.p3_numbers.specs.declared.condition.Condition.{Condition, Condition-F}
-use Rattle.p3_numbers.specs.declared.condition.Condition.TheOpen as layer
+use Rattle.p3_numbers.specs.declared.condition.NumberedCondition.{NumberedCondition, NumberedCondition-F}
+use Rattle.p3_numbers.specs.declared.condition.NumberedCondition.TheOpen as layer
 use Rattle.p3_numbers.specs.declared.numbers.Numbers.{Numbers}
 use Rattle.p3_expansion.specs.Atoms.{GroundAtom, fact_of, atom_at}
 
@@ -44,7 +44,7 @@ atom_meaning N atom = record { test = λ s. has_fact s (fact_of N atom); reads =
 -- ---- of conditions
 
 -- the atoms of a condition at objects, under all choices of its quantifiers
-abbrev pub atoms_layer : Numbers → Condition-F (Slots → List GroundAtom) → Slots → List GroundAtom
+abbrev pub atoms_layer : Numbers → NumberedCondition-F (Slots → List GroundAtom) → Slots → List GroundAtom
 atoms_layer N (layer.Atom predicate args) slots = atom_at slots predicate args ∷ []
 atoms_layer N (layer.Equal left right) slots = []
 atoms_layer N (layer.And parts) slots = flat_map (λ part. part slots) parts
@@ -54,10 +54,10 @@ atoms_layer N (layer.Imply first second) slots = first slots ++ second slots
 atoms_layer N (layer.Exists ranges body) slots = flat_map body (bound N slots ranges)
 atoms_layer N (layer.Forall ranges body) slots = flat_map body (bound N slots ranges)
 
-unfoldable pub condition_atoms : Numbers → Slots → Condition → List GroundAtom
+unfoldable pub condition_atoms : Numbers → Slots → NumberedCondition → List GroundAtom
 condition_atoms N slots condition = fold_condition (atoms_layer N) condition slots
 
-abbrev pub condition_meaning : Numbers → Slots → Condition → Meaning
+abbrev pub condition_meaning : Numbers → Slots → NumberedCondition → Meaning
 condition_meaning N slots condition = record { test = λ s. met N s slots condition; reads = condition_atoms N slots condition }
 
 -- ---- of parts of a tree
@@ -66,9 +66,9 @@ abbrev pub parts_meanings : {A : Type 0} → (A → Meaning) → List A → List
 parts_meanings meaning parts = flat_map (λ part. meaning part ∷ []) parts
 
 -- the bodies of a quantifier
-abbrev pub quantified : Numbers → Slots → List ℕ → Condition → List Meaning
+abbrev pub quantified : Numbers → Slots → List ℕ → NumberedCondition → List Meaning
 quantified N slots ranges body = parts_meanings (λ inner. condition_meaning N inner body) (bound N slots ranges)
 
 -- the parts of a conjunction or a disjunction
-abbrev pub combined : Numbers → Slots → List Condition → List Meaning
+abbrev pub combined : Numbers → Slots → List NumberedCondition → List Meaning
 combined N slots parts = parts_meanings (condition_meaning N slots) parts

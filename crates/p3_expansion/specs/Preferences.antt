@@ -5,7 +5,7 @@ use Rattle.p3_formula.specs.Tidy.{is_tidy}
 use Rattle.p3_formula.specs.declared.modal.GroundPref.{GroundPref}
 use Rattle.p3_numbers.specs.Goals.{PlacedPreference, preferences}
 use Rattle.p3_numbers.specs.Slots.{Slots}
-use Rattle.p3_numbers.specs.declared.goal.Goal.{Goal}
+use Rattle.p3_numbers.specs.declared.goal.NumberedGoal.{NumberedGoal}
 use Rattle.p3_numbers.specs.declared.numbers.Numbers.{Numbers}
 use Rattle.p3_expansion.specs.Atoms.{GroundAtom}
 use Rattle.p3_expansion.specs.Expansions.{Stands}
@@ -13,7 +13,7 @@ use Rattle.p3_expansion.specs.Meanings.{condition_atoms, condition_meaning}
 use Rattle.p3_expansion.specs.declared.statics.Statics.{Statics}
 
 -- the atoms of its preferences
-unfoldable pub preference_atoms : Numbers → Slots → Goal → List GroundAtom
+unfoldable pub preference_atoms : Numbers → Slots → NumberedGoal → List GroundAtom
 preference_atoms N slots tree = flat_map (λ (placed : PlacedPreference). condition_atoms N placed.slots placed.body) (preferences N slots tree)
 
 -- the same name, and a tidy form of what is preferred

@@ -12,7 +12,7 @@ use crate::work::are_same;
 use crate::{Statics, Work};
 use p3_base::NoMemory;
 use p3_formula::Form;
-use p3_numbers::{Argument, Condition, Numbers};
+use p3_numbers::{NumberedArgument, NumberedCondition, Numbers};
 
 /// The form of an atom.
 fn atom_form(
@@ -21,10 +21,10 @@ fn atom_form(
     work: &mut Work,
     slots: &[u32],
     predicate: u32,
-    args: &[Argument],
+    args: &[NumberedArgument],
 ) -> Result<Form, NoMemory>
     ensures { IfOk result (Makes numbers.now statics.now work.old work.new
-        (condition_meaning numbers.now slots.now (Condition.Atom predicate args.now))) }
+        (condition_meaning numbers.now slots.now (NumberedCondition.Atom predicate args.now))) }
 {
     work.spell(slots, predicate, args)?;
     if statics.is_decided(numbers, work.words.as_slice()) {
@@ -43,31 +43,31 @@ pub(crate) fn condition_form(
     statics: &Statics,
     work: &mut Work,
     slots: &[u32],
-    condition: &Condition,
+    condition: &NumberedCondition,
 ) -> Result<Form, NoMemory>
     ensures { IfOk result (Makes numbers.now statics.now work.old work.new
         (condition_meaning numbers.now slots.now condition.now)) }
 {
     match condition {
-        Condition::Atom { predicate, args } => {
+        NumberedCondition::Atom { predicate, args } => {
             let form = atom_form(numbers, statics, work, slots, *predicate, args.items())?;
             Ok(form)
         }
-        Condition::Equal(left, right) => Ok(constant(are_same(slots, *left, *right))),
-        Condition::And(parts) => {
+        NumberedCondition::Equal(left, right) => Ok(constant(are_same(slots, *left, *right))),
+        NumberedCondition::And(parts) => {
             let gathered = gathered_parts(numbers, statics, work, slots, true, parts.items())?;
             Ok(gathered.finish())
         }
-        Condition::Or(parts) => {
+        NumberedCondition::Or(parts) => {
             let gathered = gathered_parts(numbers, statics, work, slots, false, parts.items())?;
             Ok(gathered.finish())
         }
-        Condition::Not(part) => {
+        NumberedCondition::Not(part) => {
             let part = condition_form(numbers, statics, work, slots, part.get())?;
             let form = negated(work.alloc, part)?;
             Ok(form)
         }
-        Condition::Imply(first, second) => {
+        NumberedCondition::Imply(first, second) => {
             let first = condition_form(numbers, statics, work, slots, first.get())?;
             let first = negated(work.alloc, first)?;
             if is_value(&first, true) {
@@ -77,12 +77,12 @@ pub(crate) fn condition_form(
             let form = either(work.alloc, first, second)?;
             Ok(form)
         }
-        Condition::Exists(ranges, body) => {
+        NumberedCondition::Exists(ranges, body) => {
             let (ranges, body) = (ranges.items(), body.get());
             let gathered = gathered_body(numbers, statics, work, slots, false, ranges, body)?;
             Ok(gathered.finish())
         }
-        Condition::Forall(ranges, body) => {
+        NumberedCondition::Forall(ranges, body) => {
             let (ranges, body) = (ranges.items(), body.get());
             let gathered = gathered_body(numbers, statics, work, slots, true, ranges, body)?;
             Ok(gathered.finish())
@@ -98,7 +98,7 @@ fn gathered_parts(
     work: &mut Work,
     slots: &[u32],
     every: bool,
-    parts: &[Condition],
+    parts: &[NumberedCondition],
 ) -> Result<Junction, NoMemory>
     ensures { IfOk result (Gathers numbers.now statics.now
         (reads_of (combined numbers.now slots.now parts.now)) work.old work.new every
@@ -124,7 +124,7 @@ fn gathered_body(
     slots: &[u32],
     every: bool,
     ranges: &[u32],
-    body: &Condition,
+    body: &NumberedCondition,
 ) -> Result<Junction, NoMemory>
     ensures { IfOk result (Gathers numbers.now statics.now
         (reads_of (quantified numbers.now slots.now ranges.now body.now)) work.old work.new every

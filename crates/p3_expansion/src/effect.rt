@@ -14,7 +14,7 @@ use crate::junction::both;
 use crate::{Statics, Work};
 use p3_base::{List, NoMemory};
 use p3_formula::{Change, Effects, Form, fitted};
-use p3_numbers::{Argument, NumberedEffect, Numbers};
+use p3_numbers::{NumberedArgument, NumberedEffect, Numbers};
 use std::alloc::Global;
 
 /// The conditions that stand above a part of an effect.
@@ -33,7 +33,7 @@ fn push_change(
     slots: &[u32],
     add: bool,
     predicate: u32,
-    args: &[Argument],
+    args: &[NumberedArgument],
     made: &mut Effects,
 ) -> Result<(), NoMemory>
     requires { IsTrue (is_tidy cond) }

@@ -12,7 +12,7 @@ use crate::junction::Junction;
 use crate::{Statics, Work};
 use p3_base::NoMemory;
 use p3_formula::Form;
-use p3_numbers::{Goal, Numbers};
+use p3_numbers::{NumberedGoal, Numbers};
 
 /// The tidy form of the hard part of a goal at the objects in the slots.
 #[cycle(hard)]
@@ -21,35 +21,35 @@ pub fn hard_form(
     statics: &Statics,
     work: &mut Work,
     slots: &[u32],
-    goal: &Goal,
+    goal: &NumberedGoal,
 ) -> Result<Form, NoMemory>
     ensures { IfOk result (Makes numbers.now statics.now work.old work.new
         (hard_meaning numbers.now slots.now goal.now)) }
 {
     match goal {
-        Goal::Plain(condition) => {
+        NumberedGoal::Plain(condition) => {
             let form = condition_form(numbers, statics, work, slots, condition)?;
             Ok(form)
         }
-        Goal::Both(parts) => {
+        NumberedGoal::Both(parts) => {
             let gathered = hard_parts(numbers, statics, work, slots, parts.items())?;
             Ok(gathered.finish())
         }
-        Goal::Each(ranges, body) => {
+        NumberedGoal::Each(ranges, body) => {
             let (ranges, body) = (ranges.items(), body.get());
             let gathered = hard_bodies(numbers, statics, work, slots, ranges, body)?;
             Ok(gathered.finish())
         }
-        Goal::Soft(_) => Ok(Form::True),
+        NumberedGoal::Soft(_) => Ok(Form::True),
     }
 }
 
 /// How many of the goals are more than a preference.
-fn hard_count(parts: &[Goal]) -> usize {
+fn hard_count(parts: &[NumberedGoal]) -> usize {
     let mut count = 0usize;
     for part in parts {
         match part {
-            Goal::Soft(_) => {}
+            NumberedGoal::Soft(_) => {}
             _ => count = count.wrapping_add(1),
         }
     }
@@ -63,7 +63,7 @@ fn hard_parts(
     statics: &Statics,
     work: &mut Work,
     slots: &[u32],
-    parts: &[Goal],
+    parts: &[NumberedGoal],
 ) -> Result<Junction, NoMemory>
     ensures { IfOk result (Gathers numbers.now statics.now
         (reads_of (parts_of numbers.now slots.now parts.now)) work.old work.new true
@@ -88,7 +88,7 @@ fn hard_bodies(
     work: &mut Work,
     slots: &[u32],
     ranges: &[u32],
-    body: &Goal,
+    body: &NumberedGoal,
 ) -> Result<Junction, NoMemory>
     ensures { IfOk result (Gathers numbers.now statics.now
         (reads_of (bodies_of numbers.now slots.now ranges.now body.now)) work.old work.new true

@@ -19,7 +19,7 @@ use crate::preference::push_preferences;
 use crate::{Statics, Work};
 use p3_base::{List, NoMemory};
 use p3_formula::{GroundModal, GroundPref, GroundSoft};
-use p3_numbers::{Goal, NumberedConstraint, Numbers};
+use p3_numbers::{NumberedGoal, NumberedConstraint, Numbers};
 use std::alloc::Global;
 
 /// Puts the preference at the objects in the slots behind those made.
@@ -155,7 +155,7 @@ pub(crate) fn push_goal_instances(
     statics: &Statics,
     work: &mut Work,
     slots: &[u32],
-    goal: &Goal,
+    goal: &NumberedGoal,
     made: &mut List<GroundSoft>,
 ) -> Result<(), NoMemory>
     ensures { OnOk result (PushesInstances numbers.now statics.now

@@ -11,22 +11,22 @@ use crate::condition::condition_form;
 use crate::{Statics, Work};
 use p3_base::{List, NoMemory};
 use p3_formula::GroundPref;
-use p3_numbers::{Goal, Numbers, Preference};
+use p3_numbers::{NumberedGoal, Numbers, NumberedPreference};
 
 /// How many preferences the goal has, where each body is taken once.
 #[cycle(count)]
-pub fn preference_count(goal: &Goal) -> usize {
+pub fn preference_count(goal: &NumberedGoal) -> usize {
     match goal {
-        Goal::Plain(_) => 0,
-        Goal::Both(parts) => preference_sum(parts.items()),
-        Goal::Each(_, body) => preference_count(body.get()),
-        Goal::Soft(_) => 1,
+        NumberedGoal::Plain(_) => 0,
+        NumberedGoal::Both(parts) => preference_sum(parts.items()),
+        NumberedGoal::Each(_, body) => preference_count(body.get()),
+        NumberedGoal::Soft(_) => 1,
     }
 }
 
 /// How many preferences the goals have together.
 #[cycle(count)]
-fn preference_sum(parts: &[Goal]) -> usize {
+fn preference_sum(parts: &[NumberedGoal]) -> usize {
     let mut sum = 0usize;
     for part in parts {
         sum = sum.saturating_add(preference_count(part));
@@ -40,12 +40,12 @@ fn push_preference(
     statics: &Statics,
     work: &mut Work,
     slots: &[u32],
-    preference: &Preference,
+    preference: &NumberedPreference,
     made: &mut List<GroundPref>,
 ) -> Result<(), NoMemory>
     ensures { OnOk result (Pushes (PreferencesStand numbers.now statics.now)
-        (preference_atoms numbers.now slots.now (Goal.Soft preference.now)) work.old work.new
-        (preferences numbers.now slots.now (Goal.Soft preference.now)) made.old made.new) }
+        (preference_atoms numbers.now slots.now (NumberedGoal.Soft preference.now)) work.old work.new
+        (preferences numbers.now slots.now (NumberedGoal.Soft preference.now)) made.old made.new) }
 {
     let body = condition_form(numbers, statics, work, slots, &preference.body)?;
     made.push(GroundPref {
@@ -62,7 +62,7 @@ pub fn push_preferences(
     statics: &Statics,
     work: &mut Work,
     slots: &[u32],
-    goal: &Goal,
+    goal: &NumberedGoal,
     made: &mut List<GroundPref>,
 ) -> Result<(), NoMemory>
     ensures { OnOk result (Pushes (PreferencesStand numbers.now statics.now)
@@ -70,17 +70,17 @@ pub fn push_preferences(
         (preferences numbers.now slots.now goal.now) made.old made.new) }
 {
     match goal {
-        Goal::Plain(_) => Ok(()),
-        Goal::Both(parts) => {
+        NumberedGoal::Plain(_) => Ok(()),
+        NumberedGoal::Both(parts) => {
             push_parts(numbers, statics, work, slots, parts.items(), made)?;
             Ok(())
         }
-        Goal::Each(ranges, body) => {
+        NumberedGoal::Each(ranges, body) => {
             let (ranges, body) = (ranges.items(), body.get());
             push_bodies(numbers, statics, work, slots, ranges, body, made)?;
             Ok(())
         }
-        Goal::Soft(preference) => {
+        NumberedGoal::Soft(preference) => {
             push_preference(numbers, statics, work, slots, preference, made)?;
             Ok(())
         }
@@ -94,7 +94,7 @@ fn push_parts(
     statics: &Statics,
     work: &mut Work,
     slots: &[u32],
-    parts: &[Goal],
+    parts: &[NumberedGoal],
     made: &mut List<GroundPref>,
 ) -> Result<(), NoMemory>
     ensures { OnOk result (Pushes (PreferencesStand numbers.now statics.now)
@@ -115,7 +115,7 @@ fn push_bodies(
     work: &mut Work,
     slots: &[u32],
     ranges: &[u32],
-    body: &Goal,
+    body: &NumberedGoal,
     made: &mut List<GroundPref>,
 ) -> Result<(), NoMemory>
     ensures { OnOk result (Pushes (PreferencesStand numbers.now statics.now)

@@ -12,7 +12,7 @@ ghost use Rattle.p3_expansion.specs.declared.statics.Statics.{Statics as AllStat
 use crate::Atoms;
 use p3_base::NoMemory;
 use p3_formula::Form;
-use p3_numbers::Argument;
+use p3_numbers::NumberedArgument;
 use std::alloc::Global;
 
 /// The atoms that have numbers so far.
@@ -44,7 +44,7 @@ impl Work {
         &mut self,
         slots: &[u32],
         predicate: u32,
-        args: &[Argument],
+        args: &[NumberedArgument],
     ) -> Result<(), NoMemory>
         ensures words { OnOk result (self.new.words.items ≡ atom_at slots.now predicate args.now) }
         ensures grows { Grows [] self.old self.new }
@@ -77,20 +77,20 @@ impl Work {
 }
 
 /// The object that an argument means.
-fn value_of(slots: &[u32], argument: Argument) -> u32
+fn value_of(slots: &[u32], argument: NumberedArgument) -> u32
     ensures { result ≡ meaning_of slots.now argument }
 {
     match argument {
-        Argument::Slot(place) => match slots.get(place as usize) {
+        NumberedArgument::Slot(place) => match slots.get(place as usize) {
             Some(object) => *object,
             None => 0,
         },
-        Argument::Object(object) => object,
+        NumberedArgument::Object(object) => object,
     }
 }
 
 /// Whether two arguments mean the same object.
-pub fn are_same(slots: &[u32], left: Argument, right: Argument) -> bool
+pub fn are_same(slots: &[u32], left: NumberedArgument, right: NumberedArgument) -> bool
     ensures { result ≡ (meaning_of slots.now left == meaning_of slots.now right) }
 {
     value_of(slots, left) == value_of(slots, right)
@@ -101,7 +101,7 @@ pub fn spell(
     words: &mut Vec<u32>,
     slots: &[u32],
     predicate: u32,
-    args: &[Argument],
+    args: &[NumberedArgument],
 ) -> Result<(), NoMemory>
     ensures { OnOk result (words.new.items ≡ atom_at slots.now predicate args.now) }
 {

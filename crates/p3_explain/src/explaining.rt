@@ -20,7 +20,7 @@ use crate::walking::walk;
 use p3_base::{List, NoMemory, Reason};
 use p3_eval::{Grounded, PlanFault, Run, Steps, Whole};
 use p3_formula::GroundTask;
-use p3_marks::Marks;
+use p3_marks::OperatorMarks;
 use p3_tree::Plan;
 use std::alloc::Global;
 
@@ -79,7 +79,7 @@ pub fn explain_steps(
 {
     let task = grounded.ground_task();
     let mut run = grounded.begin(alloc)?;
-    let mut marks = Marks::open(alloc, task)?;
+    let mut marks = OperatorMarks::open(alloc, task)?;
     let mut prefs = List::new(alloc);
     match walk(&mut run, &mut marks, &mut prefs, task, steps) {
         Ok(()) => {
@@ -95,7 +95,7 @@ pub fn explain_steps(
 fn gathered(
     alloc: Global,
     run: &Run<'_>,
-    marks: &Marks,
+    marks: &OperatorMarks,
     prefs: &List<Reason>,
     task: &GroundTask,
 ) -> Result<List<Reason>, NoMemory>

@@ -17,7 +17,7 @@ use crate::ExplainFail;
 use p3_base::{List, NoMemory, Reason};
 use p3_eval::{PlanFault, Run, Steps};
 use p3_formula::{GroundStep, GroundTask};
-use p3_marks::{Marks, push_false_prefs};
+use p3_marks::{OperatorMarks, push_false_prefs};
 use p3_run::step_at;
 use p3_types::Found;
 
@@ -46,7 +46,7 @@ fn look(prefs: &mut List<Reason>, run: &Run<'_>, step: &GroundStep) -> Result<()
 }
 
 /// The operators that read what the last step names are in one state more.
-fn mark(marks: &mut Marks, run: &Run<'_>, task: &GroundTask, step: &GroundStep)
+fn mark(marks: &mut OperatorMarks, run: &Run<'_>, task: &GroundTask, step: &GroundStep)
     requires can { CanFollow task.now marks.old }
     requires bits { length (ground_state run.now.task run.now.plan) ≡ task.now.atoms }
     requires sized { IsTrue (list_all
@@ -61,7 +61,7 @@ fn mark(marks: &mut Marks, run: &Run<'_>, task: &GroundTask, step: &GroundStep)
 /// Does the step that is found so, where it fits, and marks the operators.
 fn walk_step(
     run: &mut Run<'_>,
-    marks: &mut Marks,
+    marks: &mut OperatorMarks,
     prefs: &mut List<Reason>,
     task: &GroundTask,
     found: Found,
@@ -92,7 +92,7 @@ fn walk_step(
 /// Does steps until one does not fit, and marks the operators.
 pub(crate) fn walk(
     run: &mut Run<'_>,
-    marks: &mut Marks,
+    marks: &mut OperatorMarks,
     prefs: &mut List<Reason>,
     task: &GroundTask,
     steps: &Steps,

@@ -43,18 +43,18 @@ zeros zero = []
 zeros (suc steps) = 0 ∷ zeros steps
 
 -- an action has the name, or none has
-data Found (name : Name) : Type 0 where
-  Is : (kind : Kind) → named_action target name ≡ Some (action_of kind) → name ≡ (action_of kind).name → Found name
-  Missing : named_action target name ≡ None → Found name
+data Lookup (name : Name) : Type 0 where
+  Is : (kind : Kind) → named_action target name ≡ Some (action_of kind) → name ≡ (action_of kind).name → Lookup name
+  Missing : named_action target name ≡ None → Lookup name
 
 abbrev picked : Bool → Bool → Bool → Bool → Option TargetAction
 picked s f c g = cond s (Some (action_of Step)) (cond f (Some (action_of Finish)) (cond c (Some (action_of Collect)) (cond g (Some (action_of Forgo)) None)))
 
-found : (name : Name) → Found name
+found : (name : Name) → Lookup name
 found name =
     by (bytes_eq (action_of Step).name name) (bytes_eq (action_of Finish).name name) (bytes_eq (action_of Collect).name name) (bytes_eq (action_of Forgo).name name) refl refl refl refl
   where
-    by : (s f c g : Bool) → bytes_eq (action_of Step).name name ≡ s → bytes_eq (action_of Finish).name name ≡ f → bytes_eq (action_of Collect).name name ≡ c → bytes_eq (action_of Forgo).name name ≡ g → Found name
+    by : (s f c g : Bool) → bytes_eq (action_of Step).name name ≡ s → bytes_eq (action_of Finish).name name ≡ f → bytes_eq (action_of Collect).name name ≡ c → bytes_eq (action_of Forgo).name name ≡ g → Lookup name
     by true f c g es ef ec eg = Is Step (λ i. picked (es i) (ef i) (ec i) (eg i)) (sym ((bytes_eq-Decides (action_of Step).name name).0 es))
     by false true c g es ef ec eg = Is Finish (λ i. picked (es i) (ef i) (ec i) (eg i)) (sym ((bytes_eq-Decides (action_of Finish).name name).0 ef))
     by false false true g es ef ec eg = Is Collect (λ i. picked (es i) (ef i) (ec i) (eg i)) (sym ((bytes_eq-Decides (action_of Collect).name name).0 ec))
@@ -91,7 +91,7 @@ settled bit (name ∷ plan) reaches = by (found name)
     idle Collect fit = fit
     idle Forgo fit = fit
 
-    by : Found name → name ∷ plan ≡ []
+    by : Lookup name → name ∷ plan ≡ []
     by (Is kind is same) = absurd (true≢false (sym (idle kind (goes Settled bit name plan reaches kind is).fit)))
     by (Missing is) = absurd (true≢false (sym (missing Settled bit name plan reaches is)))
 
@@ -115,7 +115,7 @@ settling bit (name ∷ plan) reaches = by (found name)
     last Collect b fit = refl
     last Forgo b fit = refl
 
-    by : Found name → name ∷ plan ≡ settle bit ∷ []
+    by : Lookup name → name ∷ plan ≡ settle bit ∷ []
     by (Is kind is same) =
         let on = goes Settling bit name plan reaches kind is in
         let none = settled (next_bit kind bit) plan (subst (λ stage. reaches_goal target (state_at stage (next_bit kind bit)) plan ≡ true) (last kind bit on.fit) on.rest) in
@@ -132,7 +132,7 @@ unfolding computes
 running [] bit reaches = absurd (true≢false (sym reaches))
 running (name ∷ plan) bit reaches = by (found name) (running plan true)
   where
-    by : Found name → (reaches_goal target (state_at Running true) plan ≡ true → Run true plan) → Run bit (name ∷ plan)
+    by : Lookup name → (reaches_goal target (state_at Running true) plan ≡ true → Run true plan) → Run bit (name ∷ plan)
     by (Is Step is same) later = let rest = later (goes Running bit name plan reaches Step is).rest in record { steps = suc rest.steps; is = λ i. same i ∷ rest.is i }
     by (Is Finish is same) later = let rest = settling bit plan (goes Running bit name plan reaches Finish is).rest in record { steps = 0; is = λ i. same i ∷ rest i }
     by (Is Collect is same) later = absurd (true≢false (sym (goes Running bit name plan reaches Collect is).fit))

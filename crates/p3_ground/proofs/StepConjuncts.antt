@@ -28,10 +28,10 @@ use Rattle.p3_numbers.specs.Goals.{goal_of, goal_layer, is_known_goal, known_goa
 use Rattle.p3_numbers.specs.Places.{Variables, Fills, environment_of, words_of, number_in, slot_of, place_after, slot_or_first, numbered_term, numbered_terms, is_known_term, are_known_terms}
 use Rattle.p3_numbers.specs.Slots.{Slots, name_at}
 use Rattle.p3_numbers.specs.Tasks.{numbered_action}
-use Rattle.p3_numbers.specs.declared.condition.Condition.{Condition}
-use Rattle.p3_numbers.specs.declared.condition.Condition.TheVariants as condition
-use Rattle.p3_numbers.specs.declared.goal.Goal.{Goal}
-use Rattle.p3_numbers.specs.declared.goal.Goal.TheVariants as numbered_goal
+use Rattle.p3_numbers.specs.declared.condition.NumberedCondition.{NumberedCondition}
+use Rattle.p3_numbers.specs.declared.condition.NumberedCondition.TheVariants as condition
+use Rattle.p3_numbers.specs.declared.goal.NumberedGoal.{NumberedGoal}
+use Rattle.p3_numbers.specs.declared.goal.NumberedGoal.TheVariants as numbered_goal
 use Rattle.p3_numbers.specs.declared.numbers.Numbers.{Numbers}
 use Rattle.p3_numbers.specs.declared.task.NumberedTask.{NumberedTask}
 use Rattle.p3_numbers.proofs.PlaceLemmas.{fact_means}
@@ -86,11 +86,11 @@ record Joined (N : Numbers) (atoms : List GroundAtom) (facts : List Fact) : Type
 abbrev conjunct : Environment → NamedAtom → Fact
 conjunct env atom = states.fact_of env atom.pred atom.args
 
-joined-And : (slots : Slots) (parts : List Condition) → joined_atoms slots (condition.And parts) ≡ flat_map (joined_atoms slots) parts
+joined-And : (slots : Slots) (parts : List NumberedCondition) → joined_atoms slots (condition.And parts) ≡ flat_map (joined_atoms slots) parts
 unfolding joined_atoms
 joined-And slots parts = ap (flat_map (λ part. part)) (hidden_conditions (joined_atoms_layer slots) parts) ∙ flat_map-map (λ part. part) (fold_condition (joined_atoms_layer slots)) parts
 
-joined-Both : (slots : Slots) (parts : List Goal) → goal_joined_atoms slots (numbered_goal.Both parts) ≡ flat_map (goal_joined_atoms slots) parts
+joined-Both : (slots : Slots) (parts : List NumberedGoal) → goal_joined_atoms slots (numbered_goal.Both parts) ≡ flat_map (goal_joined_atoms slots) parts
 unfolding goal_joined_atoms
 joined-Both slots parts = ap (flat_map (λ part. part)) (hidden_goals (goal_joined_layer slots) parts) ∙ flat_map-map (λ part. part) (fold_goal (goal_joined_layer slots)) parts
 

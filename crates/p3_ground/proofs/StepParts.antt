@@ -18,7 +18,7 @@ use Rattle.p3_numbers.specs.Known.{is_known_action}
 use Rattle.p3_numbers.specs.Places.{Variables, are_known_types, environment_of, words_of}
 use Rattle.p3_numbers.specs.Slots.{Slots, object_names}
 use Rattle.p3_numbers.specs.Tasks.{IsNumberedTask, numbered_action}
-use Rattle.p3_numbers.specs.declared.goal.Goal.{Goal}
+use Rattle.p3_numbers.specs.declared.goal.NumberedGoal.{NumberedGoal}
 use Rattle.p3_numbers.specs.declared.numbers.Numbers.{Numbers}
 use Rattle.p3_numbers.specs.declared.task.NumberedTask.{NumberedTask}
 use Rattle.p3_numbers.proofs.BindingLemmas.{extended-paired}
@@ -66,7 +66,7 @@ module _ (T : Task) (X : NumberedTask) (well : WellFormed T) (numbered : IsNumbe
 pub never-begins : OfSteps NeverBegins
 never-begins T X S action slots step whole is cannot s reached =
     let N : Numbers = X.numbers in
-    let pre : Goal = (numbered_action X.numbers action).pre in
+    let pre : NumberedGoal = (numbered_action X.numbers action).pre in
     let told : TellStatics T X.numbers S = tell-statics T X S whole.well whole.numbered whole.statics in
     begins-by-number T X whole.well whole.numbered action slots step is s ∙ by (hard_met N s slots pre) refl told
   where

@@ -62,7 +62,7 @@ use Rattle.p3_ground.specs.Pruned.{pruned, steps_over}
 use Rattle.p3_ground.specs.Expanded.{facts_of}
 use Rattle.p3_ground.specs.Sparse.{IsGroundingAmong, IsGroundingOf}
 use Rattle.p3_ground.specs.Whole.{HasFewSteps, ArePartsOf, IsWhole}
-use Rattle.p3_ground.specs.declared.parts.Parts.{Parts}
+use Rattle.p3_ground.specs.declared.parts.ExpandedParts.{ExpandedParts}
 use Rattle.p3_ground.proofs.GroundingLaws.{have-possible-conjuncts, is-grounding, leaves-out-there}
 use Rattle.p3_ground.proofs.PutTogether.{what-is-put-together-stands}
 use Rattle.p3_ground.proofs.PlannedSteps.{planned-steps-are-all, planned-steps-read-names, steps-are-counted}
@@ -141,7 +141,7 @@ module _ (T : Task) (X : NumberedTask) (S : Statics) (places : ℕ) (well : Well
   named = is_named X.numbers
 
   -- what is expanded in turn, from no atom on
-  pub parts-are : (wanted : Option (List ℕ)) (old first second third new : Work) (parts : Parts) → old.atoms ≡ [] → AreDistinct new.atoms → parts.atoms ≡ length new.atoms
+  pub parts-are : (wanted : Option (List ℕ)) (old first second third new : Work) (parts : ExpandedParts) → old.atoms ≡ [] → AreDistinct new.atoms → parts.atoms ≡ length new.atoms
       → MakesSteps X S places (wanted_steps X S wanted) old first parts.steps → Makes X.numbers S first second (hard_meaning X.numbers [] X.goal) parts.goal
       → MakesHard X S second third parts.hard → MakesSoft X S third new parts.soft → ArePartsOf T X S places new.atoms wanted parts
   parts-are wanted old first second third new parts none distinct count steps goal hard soft =
@@ -168,7 +168,7 @@ min-within : (count : ℕ) → count ≤ step_count_limit → min count too_many
 min-within count few = omega (arith, few)
 
 -- with the numbers of the task they make up a ground task of the wanted steps that may begin
-pub whole-is : (T : Task) (X : NumberedTask) (S : Statics) (places : ℕ) (atoms : List GroundAtom) (wanted : Option (List ℕ)) (parts : Parts) (G : GroundTask) → HasFewSteps X → places ≡ cost_places T → ArePartsOf T X S places atoms wanted parts
+pub whole-is : (T : Task) (X : NumberedTask) (S : Statics) (places : ℕ) (atoms : List GroundAtom) (wanted : Option (List ℕ)) (parts : ExpandedParts) (G : GroundTask) → HasFewSteps X → places ≡ cost_places T → ArePartsOf T X S places atoms wanted parts
     → G.atoms ≡ parts.atoms → G.initial ≡ start_bits S atoms → G.initial_cost ≡ initial_cost T → G.step_count ≡ min (length (steps T)) too_many
     → G.steps ≡ parts.steps → G.goal ≡ parts.goal → G.hard ≡ parts.hard → G.soft ≡ parts.soft → G.names ≡ length (ordered_names T) → IsWhole T X wanted G
 whole-is T X S places atoms wanted parts G few units are count initial cost steps_count steps_are goal_is hard_are soft_are names =

@@ -23,7 +23,7 @@ use Rattle.p3_ground.specs.Planned.{IsWanted, wanted_steps}
 use Rattle.p3_ground.specs.StandsFor.{LeftOutAt}
 use Rattle.p3_ground.specs.declared.error.GroundFail.{GroundFail}
 use Rattle.p3_ground.specs.declared.error.GroundFail.TheVariants.{Refused, NoMemory}
-use Rattle.p3_ground.specs.declared.parts.Parts.{Parts}
+use Rattle.p3_ground.specs.declared.parts.ExpandedParts.{ExpandedParts}
 
 -- no limit is passed by the sizes of the task
 abbrev pub IsWithinLimits : Side → Task → Type 0
@@ -39,7 +39,7 @@ abbrev pub HasFewSteps : NumberedTask → Type 0
 HasFewSteps X = count_of_steps X.numbers X.actions ≤ step_count_limit
 
 -- the expanded parts of a task stand for those of its numbered trees, with the wanted steps
-pub record ArePartsOf (T : Task) (X : NumberedTask) (S : Statics) (places : ℕ) (atoms : List GroundAtom) (wanted : Option (List ℕ)) (parts : Parts) : Type 0 where
+pub record ArePartsOf (T : Task) (X : NumberedTask) (S : Statics) (places : ℕ) (atoms : List GroundAtom) (wanted : Option (List ℕ)) (parts : ExpandedParts) : Type 0 where
   pub expanded : AreExpanded T X S atoms
   pub count : parts.atoms ≡ length atoms
   pub steps : StepsAreMade X S places atoms (wanted_steps X S wanted) parts.steps

@@ -6,7 +6,7 @@ use p3_formula::{Form, GroundModal, GroundSoft, GroundStep};
 /// What is expanded of a task: its steps that may begin, the hard part of its goal, and its hard and
 /// soft constraints.
 #[derive(Drop)]
-pub(crate) struct Parts {
+pub(crate) struct ExpandedParts {
     /// How many atoms there are.
     pub(crate) atoms: usize,
     /// The steps.

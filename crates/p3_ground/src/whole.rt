@@ -11,14 +11,14 @@ ghost use Rattle.p3_ground.specs.Planned.{wanted_steps};
 ghost use Rattle.p3_ground.specs.Whole.{ArePartsOf, IsWhole, HasFewSteps};
 
 use crate::initial::{initial_cost, places_of};
-use crate::parts::Parts;
+use crate::parts::ExpandedParts;
 use p3_base::{List, NoMemory};
 use p3_expansion::{
     Atoms, Statics, Work, hard_constraints, hard_form, initial_bits, soft_constraints,
 };
 use p3_formula::{Bits, GroundStep, GroundTask};
 use p3_numbers::NumberedTask;
-use p3_steps::{Costs, steps, steps_among};
+use p3_steps::{EffectCosts, steps, steps_among};
 use p3_types::Checked;
 use std::alloc::Global;
 
@@ -26,7 +26,7 @@ use std::alloc::Global;
 fn steps_of(
     task: &NumberedTask,
     statics: &Statics,
-    costs: &Costs,
+    costs: &EffectCosts,
     work: &mut Work,
     wanted: Option<&[u32]>,
 ) -> Result<List<GroundStep>, NoMemory>
@@ -46,10 +46,10 @@ fn steps_of(
 fn parts_of(
     task: &Checked,
     statics: &Statics,
-    costs: &Costs,
+    costs: &EffectCosts,
     work: &mut Work,
     wanted: Option<&[u32]>,
-) -> Result<Parts, NoMemory>
+) -> Result<ExpandedParts, NoMemory>
     requires well { WellFormed task.now.task }
     requires few { HasFewSteps task.now.numbered }
     requires statics { AreStatics task.now.numbered statics.now }
@@ -65,7 +65,7 @@ fn parts_of(
     let hard = hard_constraints(numbered, statics, work)?;
     let soft = soft_constraints(numbered, statics, work)?;
     let atoms = work.atoms.len();
-    Ok(Parts {
+    Ok(ExpandedParts {
         atoms,
         steps,
         goal,
@@ -76,7 +76,7 @@ fn parts_of(
 
 /// How a task starts: its initial state and its total cost then.
 #[derive(Drop)]
-struct Start {
+struct GroundStart {
     initial: Bits,
     cost: u64,
 }
@@ -87,23 +87,23 @@ fn start_of(
     task: &Checked,
     statics: &Statics,
     atoms: &Atoms,
-) -> Result<Start, NoMemory>
+) -> Result<GroundStart, NoMemory>
     ensures initial { IfOk result (λ start. start.initial ≡ start_bits statics.now atoms.now) }
     ensures cost { IfOk result (λ start. start.cost ≡ cost_at_start task.now.task) }
 {
     let cost = initial_cost(task)?;
     let initial = initial_bits(alloc, statics, atoms)?;
-    Ok(Start { initial, cost })
+    Ok(GroundStart { initial, cost })
 }
 
 /// The parts with the initial state and the numbers of the task.
 fn together(
     task: &Checked,
     statics: &Statics,
-    costs: &Costs,
+    costs: &EffectCosts,
     atoms: &Atoms,
-    parts: Parts,
-    start: Start,
+    parts: ExpandedParts,
+    start: GroundStart,
 ) -> GroundTask
     requires few { HasFewSteps task.now.numbered }
     requires places { costs.now.places ≡ places_of_costs task.now.task }
@@ -131,7 +131,7 @@ fn whole_by(
     alloc: Global,
     task: &Checked,
     statics: &Statics,
-    costs: &Costs,
+    costs: &EffectCosts,
     wanted: Option<&[u32]>,
 ) -> Result<GroundTask, NoMemory>
     requires well { WellFormed task.now.task }
@@ -161,7 +161,7 @@ pub(crate) fn whole(
 {
     let numbered = task.numbered();
     let statics = Statics::of(alloc, numbered)?;
-    let costs = Costs::of(alloc, numbered.values.items(), places_of(task))?;
+    let costs = EffectCosts::of(alloc, numbered.values.items(), places_of(task))?;
     let whole = whole_by(alloc, task, &statics, &costs, wanted)?;
     Ok(whole)
 }

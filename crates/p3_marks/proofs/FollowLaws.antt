@@ -24,7 +24,7 @@ use Rattle.p3_formula.proofs.NextLaws.{is_set-unchanged}
 use Rattle.p3_formula.proofs.ReadAtoms.{same_number}
 use Rattle.p3_run.specs.Groups.{IsReader, modal_at, modals_at, modals_of}
 use Rattle.p3_run.specs.Readers.{AreReaders, is_same, readers_at}
-use Rattle.p3_run.specs.declared.readers.Reader.{Reader}
+use Rattle.p3_run.specs.declared.readers.OperatorReader.{OperatorReader}
 use Rattle.p3_run.proofs.ReaderLaws.{modal_below, same_reader}
 use Rattle.p3_marks.specs.Marks.{mark_of, next_mark, no_mark}
 use Rattle.p3_marks.specs.Marked.{AreMarks, CanMark, HasShape, Marked, all_begun, begun, followed, group_at, later, mark_at, named_by, place_in, renewed_all, renewed_at}
@@ -33,7 +33,7 @@ use Rattle.p3_marks.proofs.MarkLaws.{mark_begins, mark_next, mark_stays, mark_tw
 
 -- ---- the shape stays
 
-pub shape_kept : (G : GroundTask) (next : ℕ) (state : State) (groups : List (List Mark)) → HasShape G groups → (reader : Reader) → IsReader G reader → HasShape G (renewed_at G next state groups reader)
+pub shape_kept : (G : GroundTask) (next : ℕ) (state : State) (groups : List (List Mark)) → HasShape G groups → (reader : OperatorReader) → IsReader G reader → HasShape G (renewed_at G next state groups reader)
 shape_kept G next state groups shape reader is = record { count = length-set groups reader.group then_is ∙ shape.count; places = places } where
   then_is : List Mark
   then_is = later (modal_at G reader) next state groups reader
@@ -49,7 +49,7 @@ shape_kept G next state groups shape reader is = record { count = length-set gro
         ∙ ap (λ (g : ℕ). length (modals_at G g)) (sym same)
     by (inr other) = ap length (get_or-set_other groups reader.group group (later (modal_at G reader) next state groups reader) _ other) ∙ shape.places group
 
-module _ (G : GroundTask) (state : State) (groups : List (List Mark)) (can : CanMark G groups) (reader : Reader) (is : IsReader G reader) where
+module _ (G : GroundTask) (state : State) (groups : List (List Mark)) (can : CanMark G groups) (reader : OperatorReader) (is : IsReader G reader) where
   pub group_within : reader.group < length groups
   group_within = let g = is.group in let s = can.shape.count in omega (arith, g, s)
 
@@ -64,11 +64,11 @@ module _ (G : GroundTask) (state : State) (groups : List (List Mark)) (can : Can
 
 -- ---- one operator after others were renewed
 
-module _ (G : GroundTask) (next : ℕ) (state : State) (reader : Reader) (is : IsReader G reader) where
+module _ (G : GroundTask) (next : ℕ) (state : State) (reader : OperatorReader) (is : IsReader G reader) where
   abbrev N : Mark → Mark
   N mark = next_mark next state (modal_at G reader) mark
 
-  one_renewed : (groups : List (List Mark)) (other : Reader) → HasShape G groups → IsReader G other
+  one_renewed : (groups : List (List Mark)) (other : OperatorReader) → HasShape G groups → IsReader G other
       → mark_at (renewed_at G next state groups other) reader ≡ cond (is_same reader other) (N (mark_at groups reader)) (mark_at groups reader)
   one_renewed groups other shape is_other = by (cases_eq reader.group other.group) (cases_eq reader.place other.place) where
     within : other.group < length groups
@@ -105,7 +105,7 @@ module _ (G : GroundTask) (next : ℕ) (state : State) (reader : Reader) (is : I
   twice false true mark = refl
   twice false false mark = refl
 
-  pub all_renewed : (others : List Reader) (groups : List (List Mark)) → HasShape G groups → All (IsReader G) others
+  pub all_renewed : (others : List OperatorReader) (groups : List (List Mark)) → HasShape G groups → All (IsReader G) others
       → mark_at (renewed_all G next state groups others) reader ≡ cond (list_any (is_same reader) others) (N (mark_at groups reader)) (mark_at groups reader)
   all_renewed [] groups shape all = refl
   all_renewed (other ∷ others) groups shape all =
@@ -114,19 +114,19 @@ module _ (G : GroundTask) (next : ℕ) (state : State) (reader : Reader) (is : I
       ∙ twice (list_any (is_same reader) others) (is_same reader other) (mark_at groups reader)
 
 module _ (G : GroundTask) (next : ℕ) (state : State) where
-  pub shape_after : (others : List Reader) (groups : List (List Mark)) → HasShape G groups → All (IsReader G) others → HasShape G (renewed_all G next state groups others)
+  pub shape_after : (others : List OperatorReader) (groups : List (List Mark)) → HasShape G groups → All (IsReader G) others → HasShape G (renewed_all G next state groups others)
   shape_after [] groups shape all = shape
   shape_after (other ∷ others) groups shape all =
       shape_after others (renewed_at G next state groups other) (shape_kept G next state groups shape other (all 0 other (omega arith))) (λ k d within. all (suc k) d (omega (arith, within)))
 
 -- ---- the operators that read a named atom
 
-module _ (G : GroundTask) (readers : List (List Reader)) (are : AreReaders G readers) where
+module _ (G : GroundTask) (readers : List (List OperatorReader)) (are : AreReaders G readers) where
   pub named_within : (effects : List Change) → All (IsReader G) (named_by readers effects)
   named_within [] = All-nil (IsReader G)
   named_within (change ∷ effects) = All-append (IsReader G) (readers_at readers change.atom) (named_by readers effects) (are.within change.atom) (named_within effects)
 
-  reached : (reader : Reader) → IsReader G reader → (atom : ℕ) → is_read (modal_at G reader) atom ≡ true → (effects : List Change)
+  reached : (reader : OperatorReader) → IsReader G reader → (atom : ℕ) → is_read (modal_at G reader) atom ≡ true → (effects : List Change)
       → list_any (λ (change : Change). change.atom == atom) effects ≡ true → list_any (is_same reader) (named_by readers effects) ≡ true
   reached reader is atom read [] named = absurd (cc)
   reached reader is atom read (change ∷ effects) named =
@@ -139,7 +139,7 @@ module _ (G : GroundTask) (readers : List (List Reader)) (are : AreReaders G rea
 
 -- ---- one change more
 
-module _ (readers : List (List Reader)) (effects : List Change) (place : ℕ) (within : place < length effects) (one : Change) where
+module _ (readers : List (List OperatorReader)) (effects : List Change) (place : ℕ) (within : place < length effects) (one : Change) where
   abbrev change : Change
   change = get_or effects place one
 
@@ -166,13 +166,13 @@ module _ (G : GroundTask) (V : List State) (before : State) (effects : List Chan
   abbrev then_state : State
   then_state = after before effects
 
-  abbrev those : List Reader
+  abbrev those : List OperatorReader
   those = named_by marked.readers effects
 
   within : All (IsReader G) those
   within = named_within G marked.readers all.follows.readers effects
 
-  module _ (reader : Reader) (is : IsReader G reader) where
+  module _ (reader : OperatorReader) (is : IsReader G reader) where
     agree : list_any (is_same reader) those ≡ false → (atom : ℕ) → is_read (modal_at G reader) atom ≡ true → is_set then_state atom ≡ is_set before atom
     agree none atom read = by (list_any (λ (change : Change). change.atom == atom) effects) refl where
       by : (b : Bool) → list_any (λ (change : Change). change.atom == atom) effects ≡ b → is_set then_state atom ≡ is_set before atom
@@ -220,7 +220,7 @@ module _ (G : GroundTask) where
       by (inl lt) = ap length (group_begins group lt) ∙ length-map (modals_at G group) (begun G.initial)
       by (inr beyond) = ap length (get_or-eq_default (all_begun G) [] (let c = count in omega (arith, beyond, c))) ∙ ap length (sym (get_or-eq_default (modals_of G) [] beyond))
 
-  pub all_begin : HasAtomsBelow G → length G.soft ≤ instance_limit → (readers : List (List Reader)) → AreReaders G readers → AreMarks G (G.initial ∷ []) (record { readers = readers; groups = all_begun G })
+  pub all_begin : HasAtomsBelow G → length G.soft ≤ instance_limit → (readers : List (List OperatorReader)) → AreReaders G readers → AreMarks G (G.initial ∷ []) (record { readers = readers; groups = all_begun G })
   all_begin below few readers are = record {
     follows = record { can = record { below = below; few = few; shape = shape_begins }; readers = are };
     right = λ reader is.

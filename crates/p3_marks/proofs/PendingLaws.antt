@@ -12,7 +12,7 @@ use Rattle.p3_formula.specs.declared.task.GroundTask.{GroundTask}
 use Rattle.p3_run.specs.Groups.{IsReader, modal_at, modals_of}
 use Rattle.p3_run.specs.Pending.{is_named}
 use Rattle.p3_run.specs.Readers.{AreReaders, is_same, readers_at}
-use Rattle.p3_run.specs.declared.readers.Reader.{Reader}
+use Rattle.p3_run.specs.declared.readers.OperatorReader.{OperatorReader}
 use Rattle.p3_marks.specs.Marked.{HasShape, group_at, mark_at, named_by, renewed_all, renewed_at}
 use Rattle.p3_marks.specs.Marks.{next_mark, no_mark}
 use Rattle.p3_marks.specs.declared.mark.Mark.{Mark}
@@ -21,8 +21,8 @@ use Rattle.p3_marks.proofs.MarkLaws.{mark_twice}
 
 -- ---- those that were renewed are renewed once more
 
-module _ (G : GroundTask) (next : ℕ) (state : State) (groups : List (List Mark)) (shape : HasShape G groups) (others more : List Reader) (others_are : All (IsReader G) others) (more_are : All (IsReader G) more)
-    (within : (reader : Reader) → list_any (is_same reader) more ≡ true → list_any (is_same reader) others ≡ true) where
+module _ (G : GroundTask) (next : ℕ) (state : State) (groups : List (List Mark)) (shape : HasShape G groups) (others more : List OperatorReader) (others_are : All (IsReader G) others) (more_are : All (IsReader G) more)
+    (within : (reader : OperatorReader) → list_any (is_same reader) more ≡ true → list_any (is_same reader) others ≡ true) where
   abbrev once : List (List Mark)
   once = renewed_all G next state groups others
 
@@ -35,7 +35,7 @@ module _ (G : GroundTask) (next : ℕ) (state : State) (groups : List (List Mark
   shape_again : HasShape G again
   shape_again = shape_after G next state more once shape_once more_are
 
-  module _ (reader : Reader) (is : IsReader G reader) where
+  module _ (reader : OperatorReader) (is : IsReader G reader) where
     abbrev N : Mark → Mark
     N mark = next_mark next state (modal_at G reader) mark
 
@@ -60,7 +60,7 @@ module _ (G : GroundTask) (next : ℕ) (state : State) (groups : List (List Mark
 -- ---- a change of an atom that was looked at
 
 -- what reads a named atom is among those that read one
-read_named : (readers : List (List Reader)) (reader : Reader) (atom : ℕ) (effects : List Change) → is_named atom effects ≡ true
+read_named : (readers : List (List OperatorReader)) (reader : OperatorReader) (atom : ℕ) (effects : List Change) → is_named atom effects ≡ true
     → list_any (is_same reader) (readers_at readers atom) ≡ true → list_any (is_same reader) (named_by readers effects) ≡ true
 read_named readers reader atom [] named there = absurd (cc)
 read_named readers reader atom (change ∷ effects) named there =
@@ -72,7 +72,7 @@ read_named readers reader atom (change ∷ effects) named there =
     (λ later. or_right (list_any (is_same reader) first) (list_any (is_same reader) (named_by readers effects)) (read_named readers reader atom effects later there))
     (or_cases (change.atom == atom) (is_named atom effects) named)
 
-module _ (G : GroundTask) (readers : List (List Reader)) (are : AreReaders G readers) (effects : List Change) (place : ℕ) (within : place < length effects) (one : Change) where
+module _ (G : GroundTask) (readers : List (List OperatorReader)) (are : AreReaders G readers) (effects : List Change) (place : ℕ) (within : place < length effects) (one : Change) where
   abbrev change : Change
   change = get_or effects place one
 

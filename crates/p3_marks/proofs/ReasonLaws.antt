@@ -17,7 +17,7 @@ use Rattle.p3_formula.specs.declared.modal.GroundPref.{GroundPref}
 use Rattle.p3_formula.specs.declared.modal.GroundSoft.{GroundSoft}
 use Rattle.p3_formula.specs.declared.task.GroundTask.{GroundTask}
 use Rattle.p3_run.specs.Groups.{modal_at, modals_at, modals_of}
-use Rattle.p3_run.specs.declared.readers.Reader.{Reader}
+use Rattle.p3_run.specs.declared.readers.OperatorReader.{OperatorReader}
 use Rattle.p3_marks.specs.Marks.{mark_of, shown_by}
 use Rattle.p3_marks.specs.Marked.{AreMarks, Marked, group_at, mark_at, shown_all, shown_reason, shown_reasons, shown_soft, subject_by}
 use Rattle.p3_marks.specs.Reasons.{ground_shown, is_false_in, modal_reason, modal_reasons, operator_reasons, pref_reason, pref_reasons, soft_reasons}
@@ -113,7 +113,7 @@ module _ (G : GroundTask) (W : List State) (marked : Marked) (are : AreMarks G W
     one : (place : ℕ) (modal : GroundModal) → place < length (modals_at G group) → modal ≡ get_or (modals_at G group) place modal
         → shown_reason (length W) (group_at marked.groups group) subject (place, modal) ≡ modal_reason W subject (place, modal)
     one place modal within is =
-        let reader : Reader = record { group = group; place = place } in
+        let reader : OperatorReader = record { group = group; place = place } in
         let at : modal_at G reader ≡ modal = sym (is ∙ get_or_default (modals_at G group) place modal (AtEnd True) within) in
         let right : mark_at marked.groups reader ≡ mark_of W modal = are.right reader (record { group = lt; place = within }) ∙ ap (mark_of W) at in
         let shows : shown_by (length W) modal (mark_at marked.groups reader) ≡ ground_shown W modal = ap (shown_by (length W) modal) right ∙ sym (shown_is W modal) in

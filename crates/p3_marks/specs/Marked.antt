@@ -13,7 +13,7 @@ use Rattle.p3_formula.specs.declared.modal.GroundSoft.{GroundSoft}
 use Rattle.p3_formula.specs.declared.task.GroundTask.{GroundTask}
 use Rattle.p3_run.specs.Groups.{IsReader, modal_at, modals_at, modals_of}
 use Rattle.p3_run.specs.Readers.{AreReaders, readers_at}
-use Rattle.p3_run.specs.declared.readers.Reader.{Reader}
+use Rattle.p3_run.specs.declared.readers.OperatorReader.{OperatorReader}
 use Rattle.p3_marks.specs.Marks.{mark_of, next_mark, no_mark, shown_by}
 use Rattle.p3_marks.specs.declared.mark.Mark.{Mark}
 use Rattle.p3_marks.specs.declared.reasons.Owner.{Owner}
@@ -27,7 +27,7 @@ group_at marks group = slice_index_or marks group []
 abbrev pub place_in : List Mark → ℕ → Mark
 place_in group place = slice_index_or group place no_mark
 
-abbrev pub mark_at : List (List Mark) → Reader → Mark
+abbrev pub mark_at : List (List Mark) → OperatorReader → Mark
 mark_at marks reader = place_in (group_at marks reader.group) reader.place
 
 -- ---- one state more, at the next place
@@ -35,27 +35,27 @@ mark_at marks reader = place_in (group_at marks reader.group) reader.place
 abbrev pub renewed : ℕ → State → GroundModal → List Mark → ℕ → List Mark
 renewed next state modal group place = slice_set group place (next_mark next state modal (place_in group place))
 
-abbrev pub later : GroundModal → ℕ → State → List (List Mark) → Reader → List Mark
+abbrev pub later : GroundModal → ℕ → State → List (List Mark) → OperatorReader → List Mark
 later modal next state marks reader = renewed next state modal (group_at marks reader.group) reader.place
 
-abbrev pub put_renewed : GroundModal → ℕ → State → List (List Mark) → Reader → List (List Mark)
+abbrev pub put_renewed : GroundModal → ℕ → State → List (List Mark) → OperatorReader → List (List Mark)
 put_renewed modal next state marks reader = slice_set marks reader.group (later modal next state marks reader)
 
-abbrev pub renewed_at : GroundTask → ℕ → State → List (List Mark) → Reader → List (List Mark)
+abbrev pub renewed_at : GroundTask → ℕ → State → List (List Mark) → OperatorReader → List (List Mark)
 renewed_at G next state marks reader = put_renewed (modal_at G reader) next state marks reader
 
 -- so are those of a list
-abbrev pub renewed_all : GroundTask → ℕ → State → List (List Mark) → List Reader → List (List Mark)
+abbrev pub renewed_all : GroundTask → ℕ → State → List (List Mark) → List OperatorReader → List (List Mark)
 renewed_all G next state marks readers = fold (renewed_at G next state) marks readers
 
 -- the operators that read an atom which a change names
-abbrev pub named_by : List (List Reader) → List Change → List Reader
+abbrev pub named_by : List (List OperatorReader) → List Change → List OperatorReader
 named_by readers effects = flat_map (λ (change : Change). readers_at readers change.atom) effects
 
 -- ---- all marks, and the operators that read an atom
 
 pub record Marked : Type 0 where
-  pub readers : List (List Reader)
+  pub readers : List (List OperatorReader)
   pub groups : List (List Mark)
 
 -- in the first state
@@ -90,7 +90,7 @@ pub record CanFollow (G : GroundTask) (marked : Marked) : Type 0 where
 -- each mark is right of the states visited so far
 pub record AreMarks (G : GroundTask) (W : List State) (marked : Marked) : Type 0 where
   pub follows : CanFollow G marked
-  pub right : (reader : Reader) → IsReader G reader → mark_at marked.groups reader ≡ mark_of W (modal_at G reader)
+  pub right : (reader : OperatorReader) → IsReader G reader → mark_at marked.groups reader ≡ mark_of W (modal_at G reader)
 
 -- ---- what the marks show of so many states
 

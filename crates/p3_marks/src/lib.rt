@@ -9,5 +9,5 @@ mod prefs;
 mod reasons;
 
 pub use mark::Mark;
-pub use marks::Marks;
+pub use marks::OperatorMarks;
 pub use prefs::push_false_prefs;

@@ -16,21 +16,21 @@ use crate::group::Group;
 use crate::reasons::{Owner, push_reasons};
 use p3_base::{List, NoMemory, Reason, as_number};
 use p3_formula::{Bits, Change, GroundModal, GroundTask};
-use p3_run::{Pending, Reader, modal_at, modals_at, readers_of};
+use p3_run::{Pending, OperatorReader, modal_at, modals_at, readers_of};
 use std::alloc::Global;
 use std::marker::Model;
 
 /// The marks of all operators of a task, and for each atom the operators that read it.
 #[derive(Drop)]
-pub struct Marks {
-    readers: Vec<List<Reader>>,
+pub struct OperatorMarks {
+    readers: Vec<List<OperatorReader>>,
     // The atoms of a step whose readers have still to follow.
     pending: Pending,
     // Those of the hard constraints, and behind them those of each instance.
     groups: Vec<Group>,
 }
 
-impl Model for Marks {
+impl Model for OperatorMarks {
     ghost use Rattle.p3_marks.specs.Marked.{Marked};
 
     ghost Value = { Marked };
@@ -41,13 +41,13 @@ impl Model for Marks {
     } };
 }
 
-impl Marks {
+impl OperatorMarks {
     /// The marks in the first state. It takes all memory that following needs.
     ///
     /// # Errors
     ///
     /// Want of memory.
-    pub fn open(alloc: Global, task: &GroundTask) -> Result<Marks, NoMemory>
+    pub fn open(alloc: Global, task: &GroundTask) -> Result<OperatorMarks, NoMemory>
         requires below { HasAtomsBelow task.now }
         requires bits { length task.now.initial ≡ task.now.atoms }
         requires few { length task.now.soft ≤ instance_limit }
@@ -56,7 +56,7 @@ impl Marks {
         let readers = readers_of(alloc, task)?;
         let pending = Pending::of(alloc, task.atoms)?;
         let groups = groups_of(alloc, task)?;
-        Ok(Marks {
+        Ok(OperatorMarks {
             readers,
             pending,
             groups,
@@ -118,7 +118,7 @@ fn groups_of(alloc: Global, task: &GroundTask) -> Result<Vec<Group>, NoMemory>
 }
 
 /// The operator at a place of a group is in one state more.
-fn renew_one(groups: &mut Vec<Group>, modal: &GroundModal, state: &Bits, next: u32, reader: Reader)
+fn renew_one(groups: &mut Vec<Group>, modal: &GroundModal, state: &Bits, next: u32, reader: OperatorReader)
     requires group { reader.group < length groups.old.items }
     requires place { reader.place < length (marked.group_at groups.old.items reader.group) }
     requires below { IsModalBelow (length state.now) modal.now }
@@ -130,7 +130,7 @@ fn renew_one(groups: &mut Vec<Group>, modal: &GroundModal, state: &Bits, next: u
 }
 
 /// The operator that reads is in one state more.
-fn renew_at(groups: &mut Vec<Group>, task: &GroundTask, state: &Bits, next: u32, reader: Reader)
+fn renew_at(groups: &mut Vec<Group>, task: &GroundTask, state: &Bits, next: u32, reader: OperatorReader)
     requires can { CanMark task.now groups.old.items }
     requires bits { length state.now ≡ task.now.atoms }
     requires reader { IsReader task.now reader }
@@ -146,7 +146,7 @@ fn renew_at(groups: &mut Vec<Group>, task: &GroundTask, state: &Bits, next: u32,
 fn renew_all(
     groups: &mut Vec<Group>,
     task: &GroundTask,
-    readers: &[Reader],
+    readers: &[OperatorReader],
     state: &Bits,
     next: u32,
 )
@@ -166,7 +166,7 @@ fn renew_all(
 fn follow_atom(
     groups: &mut Vec<Group>,
     task: &GroundTask,
-    readers: &[List<Reader>],
+    readers: &[List<OperatorReader>],
     atom: usize,
     state: &Bits,
     next: u32,
@@ -187,7 +187,7 @@ fn follow_atom(
 fn follow_all(
     groups: &mut Vec<Group>,
     task: &GroundTask,
-    readers: &[List<Reader>],
+    readers: &[List<OperatorReader>],
     pending: &mut Pending,
     effects: &[Change],
     state: &Bits,

@@ -14,8 +14,8 @@ use Rattle.p3_numbers.specs.Effects.{amount_of, effect_of, effect_layer, is_know
 use Rattle.p3_numbers.specs.Folds.{fold_effect}
 use Rattle.p3_numbers.specs.Places.{Variables, are_known_terms, number_in, numbered_terms, ranges_of, words_of}
 use Rattle.p3_numbers.specs.Slots.{name_at}
-use Rattle.p3_numbers.specs.declared.condition.Argument.{Argument}
-use Rattle.p3_numbers.specs.declared.condition.Condition.{Condition}
+use Rattle.p3_numbers.specs.declared.condition.NumberedArgument.{NumberedArgument}
+use Rattle.p3_numbers.specs.declared.condition.NumberedCondition.{NumberedCondition}
 use Rattle.p3_numbers.specs.declared.effect.NumberedAmount.{NumberedAmount}
 use Rattle.p3_numbers.specs.declared.effect.NumberedEffect.{NumberedEffect}
 use Rattle.p3_numbers.specs.declared.effect.NumberedEffect.TheVariants as numbered
@@ -35,11 +35,11 @@ use Rattle.p3_metric.specs.Bounds.{greatest_at, greatest_cost, greatest_cost_lay
 -- ---- effects by their forms
 
 module _ (T : Task) (functions : List Name) where
-  pub cost-Add : (predicate : ℕ) (args : List Argument) → greatest_cost T functions (numbered.Add predicate args) ≡ 0
+  pub cost-Add : (predicate : ℕ) (args : List NumberedArgument) → greatest_cost T functions (numbered.Add predicate args) ≡ 0
   unfolding greatest_cost
   cost-Add predicate args = refl
 
-  pub cost-Del : (predicate : ℕ) (args : List Argument) → greatest_cost T functions (numbered.Del predicate args) ≡ 0
+  pub cost-Del : (predicate : ℕ) (args : List NumberedArgument) → greatest_cost T functions (numbered.Del predicate args) ≡ 0
   unfolding greatest_cost
   cost-Del predicate args = refl
 
@@ -51,7 +51,7 @@ module _ (T : Task) (functions : List Name) where
   unfolding greatest_cost
   cost-Each ranges body = refl
 
-  pub cost-If : (condition : Condition) (body : NumberedEffect) → greatest_cost T functions (numbered.If condition body) ≡ 0
+  pub cost-If : (condition : NumberedCondition) (body : NumberedEffect) → greatest_cost T functions (numbered.If condition body) ≡ 0
   unfolding greatest_cost
   cost-If condition body = refl
 

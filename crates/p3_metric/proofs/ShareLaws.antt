@@ -17,11 +17,11 @@ use Rattle.p3_numbers.specs.Conditions.{condition_of}
 use Rattle.p3_numbers.specs.Folds.{fold_goal}
 use Rattle.p3_numbers.specs.Goals.{goal_of, goal_layer, numbered_name, is_known_goal, known_goal_layer}
 use Rattle.p3_numbers.specs.Places.{Variables, ranges_of, words_of, are_known_types, IsNumbering}
-use Rattle.p3_numbers.specs.declared.condition.Condition.{Condition}
-use Rattle.p3_numbers.specs.declared.goal.Preference.{Preference}
-use Rattle.p3_numbers.specs.declared.goal.Goal.{Goal}
-use Rattle.p3_numbers.specs.declared.goal.Goal.TheBlock.{hidden-the_row-Goal-1}
-use Rattle.p3_numbers.specs.declared.goal.Goal.TheVariants as numbered
+use Rattle.p3_numbers.specs.declared.condition.NumberedCondition.{NumberedCondition}
+use Rattle.p3_numbers.specs.declared.goal.NumberedPreference.{NumberedPreference}
+use Rattle.p3_numbers.specs.declared.goal.NumberedGoal.{NumberedGoal}
+use Rattle.p3_numbers.specs.declared.goal.NumberedGoal.TheBlock.{hidden-the_row-NumberedGoal-1}
+use Rattle.p3_numbers.specs.declared.goal.NumberedGoal.TheVariants as numbered
 use Rattle.p3_numbers.specs.declared.numbers.Numbers.{Numbers}
 use Rattle.p3_tree.proofs.PreferenceNameLaws.{prefs-names}
 use Rattle.p3_tree.specs.Bindings.{bind}
@@ -39,19 +39,19 @@ use Rattle.p3_metric.specs.declared.measure.Measure.{Measure}
 -- ---- goals by their forms
 
 module _ (measure : Measure) (by_name : List ℕ) (N : Numbers) where
-  pub shares-Plain : (body : Condition) → shares measure by_name N (numbered.Plain body) ≡ 0
+  pub shares-Plain : (body : NumberedCondition) → shares measure by_name N (numbered.Plain body) ≡ 0
   unfolding shares
   shares-Plain body = refl
 
-  pub shares-Both : (parts : List Goal) → shares measure by_name N (numbered.Both parts) ≡ cut_total (shares measure by_name N) 0 parts
+  pub shares-Both : (parts : List NumberedGoal) → shares measure by_name N (numbered.Both parts) ≡ cut_total (shares measure by_name N) 0 parts
   unfolding shares
   shares-Both parts = ap (cut_sum 0) (hidden_goals (shares_layer measure by_name N) parts) ∙ cut_total-map (fold_goal (shares_layer measure by_name N)) 0 parts
 
-  pub shares-Each : (ranges : List ℕ) (body : Goal) → shares measure by_name N (numbered.Each ranges body) ≡ cut (cut_choices N ranges * shares measure by_name N body)
-  unfolding shares hidden-the_row-Goal-1 hidden
+  pub shares-Each : (ranges : List ℕ) (body : NumberedGoal) → shares measure by_name N (numbered.Each ranges body) ≡ cut (cut_choices N ranges * shares measure by_name N body)
+  unfolding shares hidden-the_row-NumberedGoal-1 hidden
   shares-Each ranges body = refl
 
-  pub shares-Soft : (preference : Preference) → shares measure by_name N (numbered.Soft preference) ≡ cut (share_of measure by_name preference.name)
+  pub shares-Soft : (preference : NumberedPreference) → shares measure by_name N (numbered.Soft preference) ≡ cut (share_of measure by_name preference.name)
   unfolding shares
   shares-Soft preference = refl
 

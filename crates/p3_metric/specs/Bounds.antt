@@ -13,8 +13,8 @@ use Rattle.p3_numbers.specs.declared.effect.NumberedAmount.{NumberedAmount}
 use Rattle.p3_numbers.specs.declared.effect.NumberedAmount.TheVariants as amount
 use Rattle.p3_numbers.specs.declared.effect.NumberedEffect.{NumberedEffect}
 use Rattle.p3_numbers.specs.declared.effect.NumberedEffect.TheOpen as effect
-use Rattle.p3_numbers.specs.declared.goal.Goal.{Goal}
-use Rattle.p3_numbers.specs.declared.goal.Goal.TheOpen as goal
+use Rattle.p3_numbers.specs.declared.goal.NumberedGoal.{NumberedGoal}
+use Rattle.p3_numbers.specs.declared.goal.NumberedGoal.TheOpen as goal
 use Rattle.p3_numbers.specs.declared.numbers.Numbers.{Numbers}
 use Rattle.p3_numbers.specs.declared.task.NumberedAction.{NumberedAction}
 use Rattle.p3_tree.specs.Costs.{cost_units}
@@ -43,13 +43,13 @@ abbrev pub share_of : Measure → List ℕ → Option ℕ → ℕ
 share_of measure by_name name = share measure (weight_at by_name name)
 
 -- what the preferences count for together, each once for each choice of objects outside it
-abbrev pub shares_layer : Measure → List ℕ → Numbers → goal.Goal-F ℕ → ℕ
+abbrev pub shares_layer : Measure → List ℕ → Numbers → goal.NumberedGoal-F ℕ → ℕ
 shares_layer measure by_name N (goal.Plain body) = 0
 shares_layer measure by_name N (goal.Both parts) = cut_sum 0 parts
 shares_layer measure by_name N (goal.Each ranges body) = cut (cut_choices N ranges * body)
 shares_layer measure by_name N (goal.Soft preference) = cut (share_of measure by_name preference.name)
 
-unfoldable pub shares : Measure → List ℕ → Numbers → Goal → ℕ
+unfoldable pub shares : Measure → List ℕ → Numbers → NumberedGoal → ℕ
 shares measure by_name N tree = fold_goal (shares_layer measure by_name N) tree
 
 -- ---- increases

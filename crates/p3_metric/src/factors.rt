@@ -14,7 +14,7 @@ use p3_tree::Num;
 
 /// What is found in an expression, or in several.
 #[derive(Clone, Copy)]
-pub(crate) struct Found {
+pub(crate) struct Mentions {
     /// Whether a count or the total cost is mentioned.
     pub(crate) mention: bool,
     /// The offset of the first product with two factors that each mention one.
@@ -23,9 +23,9 @@ pub(crate) struct Found {
 
 /// What is found in several expressions.
 #[derive(Clone, Copy)]
-struct FoundIn {
+struct MentionsIn {
     /// What is found in all of them together.
-    found: Found,
+    found: Mentions,
     /// Whether two of them each mention a count or the total cost.
     two_mentions: bool,
 }
@@ -33,20 +33,20 @@ struct FoundIn {
 /// What is found in the expression, an outer product before an inner one.
 #[cycle(factors)]
 #[tactic(auto, using(crate::proofs::FactorLemmas::factor_laws))]
-pub(crate) fn found_in(tree: &Num) -> Found
+pub(crate) fn found_in(tree: &Num) -> Mentions
     ensures mention { result.mention ≡ has_mention tree.now }
     ensures product { result.product ≡ first_product tree.now }
 {
     match tree {
-        Num::Number(_) => Found {
+        Num::Number(_) => Mentions {
             mention: false,
             product: None,
         },
-        Num::TotalCost(_) => Found {
+        Num::TotalCost(_) => Mentions {
             mention: true,
             product: None,
         },
-        Num::Violated(_) => Found {
+        Num::Violated(_) => Mentions {
             mention: true,
             product: None,
         },
@@ -58,23 +58,23 @@ pub(crate) fn found_in(tree: &Num) -> Found
 }
 
 /// What is found in two expressions.
-fn both(first: Found, second: Found) -> Found
+fn both(first: Mentions, second: Mentions) -> Mentions
     ensures mention { result.mention ≡ (first.mention || second.mention) }
     ensures product { result.product ≡ option_or first.product second.product }
 {
-    Found {
+    Mentions {
         mention: first.mention || second.mention,
         product: first.product.or(second.product),
     }
 }
 
 /// What is found in a product of such factors.
-fn product_of(at: u32, factors: FoundIn) -> Found
+fn product_of(at: u32, factors: MentionsIn) -> Mentions
     ensures mention { result.mention ≡ factors.found.mention }
     ensures product { result.product
         ≡ (if factors.two_mentions then Some at else factors.found.product) }
 {
-    Found {
+    Mentions {
         mention: factors.found.mention,
         product: if factors.two_mentions {
             Some(at)
@@ -87,12 +87,12 @@ fn product_of(at: u32, factors: FoundIn) -> Found
 /// What is found in the expressions.
 #[cycle(factors)]
 #[tactic(auto, using(crate::proofs::FactorLemmas::more_laws))]
-fn found_in_all(parts: &[Num]) -> FoundIn
+fn found_in_all(parts: &[Num]) -> MentionsIn
     ensures mention { result.found.mention ≡ list_any has_mention parts.now }
     ensures product { result.found.product ≡ first_product_in parts.now }
     ensures two_mentions { result.two_mentions ≡ have_two_mentions parts.now }
 {
-    let mut all = Found {
+    let mut all = Mentions {
         mention: false,
         product: None,
     };
@@ -102,7 +102,7 @@ fn found_in_all(parts: &[Num]) -> FoundIn
         two_mentions |= all.mention & found.mention;
         all = both(all, found);
     }
-    FoundIn {
+    MentionsIn {
         found: all,
         two_mentions,
     }

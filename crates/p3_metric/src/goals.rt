@@ -5,7 +5,7 @@ ghost use Rattle.p3_types.specs.Cuts.{cut_total};
 ghost use Rattle.p3_metric.specs.Bounds as bounds;
 
 use crate::measure::Measure;
-use p3_numbers::{Goal, Numbers};
+use p3_numbers::{NumberedGoal, Numbers};
 use p3_types::{choice_count, cut_product, cut_sum};
 
 /// The weight of a preference's name by its number; one without a name has none.
@@ -25,23 +25,23 @@ fn weight_at(by_name: &[u64], name: Option<u32>) -> u64
 /// memory.
 #[cycle(shares)]
 #[tactic(auto, using(crate::proofs::ShareLaws::share_forms))]
-pub(crate) fn shares(measure: Measure, by_name: &[u64], numbers: &Numbers, goal: &Goal) -> u64
+pub(crate) fn shares(measure: Measure, by_name: &[u64], numbers: &Numbers, goal: &NumberedGoal) -> u64
     ensures { result ≡ bounds.shares measure by_name.now numbers.now goal.now }
 {
     match goal {
-        Goal::Plain(_) => 0,
-        Goal::Both(parts) => parts_shares(measure, by_name, numbers, parts.items()),
-        Goal::Each(ranges, body) => {
+        NumberedGoal::Plain(_) => 0,
+        NumberedGoal::Both(parts) => parts_shares(measure, by_name, numbers, parts.items()),
+        NumberedGoal::Each(ranges, body) => {
             let choices = choice_count(numbers, ranges.items());
             cut_product(choices, shares(measure, by_name, numbers, body.get()))
         }
-        Goal::Soft(preference) => measure.share(weight_at(by_name, preference.name)),
+        NumberedGoal::Soft(preference) => measure.share(weight_at(by_name, preference.name)),
     }
 }
 
 /// What the preferences of all parts count for together.
 #[cycle(shares)]
-fn parts_shares(measure: Measure, by_name: &[u64], numbers: &Numbers, parts: &[Goal]) -> u64
+fn parts_shares(measure: Measure, by_name: &[u64], numbers: &Numbers, parts: &[NumberedGoal]) -> u64
     ensures { result ≡ cut_total (bounds.shares measure by_name.now numbers.now) 0 parts.now }
 {
     let mut total = 0;

@@ -17,7 +17,7 @@ use Rattle.p3_formula.specs.Modals.{is_read, IsModalBelow}
 use Rattle.p3_monitors.specs.KeepsOn.{HasNone, AreOwn, AreOthers}
 use Rattle.p3_monitors.specs.Riders.{AreRiders, AreKept, AreBeside, RideTogether}
 use Rattle.p3_formula.specs.Alike.{AgreeBelow}
-use Rattle.p3_monitors.specs.declared.watching.Monitor.{Monitor}
+use Rattle.p3_monitors.specs.declared.monitoring.Monitor.{Monitor}
 use Rattle.p3_formula.proofs.ReadAtoms.{read_below}
 use Rattle.p3_monitors.proofs.ChangeLaws.{none_named, unnamed_stays}
 

@@ -7,7 +7,7 @@ use Rattle.p3_formula.specs.declared.form.Change.{Change}
 use Rattle.p3_formula.specs.Kept.{Kept, is_own, atom_count}
 use Rattle.p3_formula.specs.Modals.{IsModalBelow, touches}
 use Rattle.p3_monitors.specs.KeepsOn.{KeepsOn, HasNone, AreOwn}
-use Rattle.p3_monitors.specs.declared.watching.Monitor.{Monitor}
+use Rattle.p3_monitors.specs.declared.monitoring.Monitor.{Monitor}
 
 -- the constraint has only source atoms, of which there are so many, the monitor's own atoms stand from a number on, and the changes are of these and keep it on
 pub record IsRider (sources from : ℕ) (step : List Change) (monitor : Monitor) (effects : List Change) : Type 0 where

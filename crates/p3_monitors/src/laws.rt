@@ -5,7 +5,7 @@ ghost use Rattle.p3_formula.specs.Forms.{State, truth};
 ghost use Rattle.p3_formula.specs.GroundSat.{ground_sat};
 ghost use Rattle.p3_formula.specs.Kept.{Kept};
 ghost use Rattle.p3_monitors.specs.Riders.{RideTogether, RidesUntouched};
-ghost use Rattle.p3_monitors.specs.declared.watching.Monitor.{Monitor};
+ghost use Rattle.p3_monitors.specs.declared.monitoring.Monitor.{Monitor};
 
 /// Where a monitor's atoms are right of the states visited so far, its accept form is satisfaction.
 pub fn accepting_is_satisfaction()

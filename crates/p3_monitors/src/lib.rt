@@ -9,11 +9,11 @@ mod forms;
 mod guards;
 mod laws;
 mod making;
-mod reading;
+mod constraint_atoms;
 mod updates;
-mod watching;
+mod monitoring;
 
 pub use forms::FormsByAtom;
 pub use laws::{accepting_is_satisfaction, monitors_ride_together, untouched_monitors_ride};
 pub use making::monitor;
-pub use watching::Monitor;
+pub use monitoring::Monitor;

@@ -10,7 +10,7 @@ ghost use Rattle.p3_monitors.specs.KeepsOn.{Rides, HasAccept};
 use crate::accepting::accept_form;
 use crate::beginning::initial_bits;
 use crate::copying::modal_copied;
-use crate::watching::Monitor;
+use crate::monitoring::Monitor;
 use p3_base::NoMemory;
 use p3_formula::{Bits, GroundModal};
 use std::alloc::Global;

@@ -10,7 +10,7 @@ use Rattle.p3_tree.specs.declared.term.Term.{Term}
 use Rattle.p3_tree.specs.declared.term.Typed.{Typed}
 use Rattle.p3_numbers.specs.Conditions.{condition_of, condition_layer}
 use Rattle.p3_numbers.specs.Places.{Variables, number_in, numbered_term, numbered_terms, ranges_of, words_of}
-use Rattle.p3_numbers.specs.declared.condition.Condition.TheVariants as condition
+use Rattle.p3_numbers.specs.declared.condition.NumberedCondition.TheVariants as condition
 use Rattle.p3_numbers.specs.declared.numbers.Numbers.{Numbers}
 
 module _ (N : Numbers) (scope : Variables) where

@@ -11,7 +11,7 @@ use Rattle.p3_tree.specs.declared.term.Typed.{Typed}
 use Rattle.p3_numbers.specs.Conditions.{condition_of}
 use Rattle.p3_numbers.specs.Goals.{numbered_name, goal_of, goal_layer}
 use Rattle.p3_numbers.specs.Places.{Variables, ranges_of, words_of}
-use Rattle.p3_numbers.specs.declared.goal.Goal.TheVariants as goal
+use Rattle.p3_numbers.specs.declared.goal.NumberedGoal.TheVariants as goal
 use Rattle.p3_numbers.specs.declared.numbers.Numbers.{Numbers}
 
 module _ (N : Numbers) (scope : Variables) where

@@ -9,7 +9,7 @@ use crate::tables::Tables;
 use crate::terms::{argument, arguments, ranges};
 use p3_base::{Boxed, List, NoMemory};
 use p3_names::Scope;
-use p3_numbers::Condition;
+use p3_numbers::NumberedCondition;
 use p3_tree::{Formula, Typed};
 use std::alloc::Global;
 
@@ -21,7 +21,7 @@ pub(crate) fn numbered_formula<'t>(
     tables: &Tables<'t>,
     scope: &mut Scope<'t>,
     formula: &'t Formula,
-) -> Result<Condition, NoMemory>
+) -> Result<NumberedCondition, NoMemory>
     ensures scope { OnOk result (scope.new ≡ scope.old) }
     ensures made { IfOk result
         (λ made. made ≡ condition_of (numbers_of tables.now) formula.now (words_of scope.old)) }
@@ -30,39 +30,39 @@ pub(crate) fn numbered_formula<'t>(
         Formula::Atom { pred, args } => {
             let predicate = tables.predicates.number_of(&pred.name)?;
             let args = arguments(alloc, tables, scope, args.items())?;
-            Ok(Condition::Atom { predicate, args })
+            Ok(NumberedCondition::Atom { predicate, args })
         }
         Formula::Equal(left, right) => {
             let left = argument(tables, scope, left.get())?;
             let right = argument(tables, scope, right.get())?;
-            Ok(Condition::Equal(left, right))
+            Ok(NumberedCondition::Equal(left, right))
         }
         Formula::And(parts) => {
             let parts = numbered_formulas(alloc, tables, scope, parts.items())?;
-            Ok(Condition::And(parts))
+            Ok(NumberedCondition::And(parts))
         }
         Formula::Or(parts) => {
             let parts = numbered_formulas(alloc, tables, scope, parts.items())?;
-            Ok(Condition::Or(parts))
+            Ok(NumberedCondition::Or(parts))
         }
         Formula::Not(part) => {
             let part = boxed_formula(alloc, tables, scope, part.get())?;
-            Ok(Condition::Not(part))
+            Ok(NumberedCondition::Not(part))
         }
         Formula::Imply(first, second) => {
             let first = boxed_formula(alloc, tables, scope, first.get())?;
             let second = boxed_formula(alloc, tables, scope, second.get())?;
-            Ok(Condition::Imply(first, second))
+            Ok(NumberedCondition::Imply(first, second))
         }
         Formula::Exists(variables, body) => {
             let ranges = ranges(alloc, tables, variables.items())?;
             let body = bound_formula(alloc, tables, scope, variables.items(), body.get())?;
-            Ok(Condition::Exists(ranges, body))
+            Ok(NumberedCondition::Exists(ranges, body))
         }
         Formula::Forall(variables, body) => {
             let ranges = ranges(alloc, tables, variables.items())?;
             let body = bound_formula(alloc, tables, scope, variables.items(), body.get())?;
-            Ok(Condition::Forall(ranges, body))
+            Ok(NumberedCondition::Forall(ranges, body))
         }
     }
 }
@@ -74,7 +74,7 @@ fn boxed_formula<'t>(
     tables: &Tables<'t>,
     scope: &mut Scope<'t>,
     formula: &'t Formula,
-) -> Result<Boxed<Condition>, NoMemory>
+) -> Result<Boxed<NumberedCondition>, NoMemory>
     ensures scope { OnOk result (scope.new ≡ scope.old) }
     ensures made { IfOk result
         (λ made. made ≡ condition_of (numbers_of tables.now) formula.now (words_of scope.old)) }
@@ -93,7 +93,7 @@ fn bound_formula<'t>(
     scope: &mut Scope<'t>,
     variables: &'t [Typed],
     body: &'t Formula,
-) -> Result<Boxed<Condition>, NoMemory>
+) -> Result<Boxed<NumberedCondition>, NoMemory>
     ensures scope { OnOk result (scope.new ≡ scope.old) }
     ensures made { IfOk result
         (λ made. made ≡ condition_of (numbers_of tables.now) body.now
@@ -114,7 +114,7 @@ fn numbered_formulas<'t>(
     tables: &Tables<'t>,
     scope: &mut Scope<'t>,
     parts: &'t [Formula],
-) -> Result<List<Condition>, NoMemory>
+) -> Result<List<NumberedCondition>, NoMemory>
     ensures scope { OnOk result (scope.new ≡ scope.old) }
     ensures made { IfOk result
         (λ made. made ≡ map

@@ -11,7 +11,7 @@ use crate::tables::Tables;
 use crate::terms::ranges;
 use p3_base::{Boxed, List, NoMemory};
 use p3_names::Scope;
-use p3_numbers::{Goal, Preference};
+use p3_numbers::{NumberedGoal, NumberedPreference};
 use p3_tree::{PreGoal, Pref, Ref, Typed};
 use std::alloc::Global;
 
@@ -34,7 +34,7 @@ fn numbered_preference<'t>(
     tables: &Tables<'t>,
     scope: &mut Scope<'t>,
     pref: &'t Pref,
-) -> Result<Preference, NoMemory>
+) -> Result<NumberedPreference, NoMemory>
     ensures scope { OnOk result (scope.new ≡ scope.old) }
     ensures made { IfOk result
         (λ made. let N = numbers_of tables.now in made ≡ record {
@@ -45,7 +45,7 @@ fn numbered_preference<'t>(
 {
     let name = numbered_name(tables, &pref.name)?;
     let body = numbered_formula(alloc, tables, scope, &pref.body)?;
-    Ok(Preference {
+    Ok(NumberedPreference {
         at: pref.at,
         name,
         body,
@@ -60,7 +60,7 @@ pub(crate) fn numbered_goal<'t>(
     tables: &Tables<'t>,
     scope: &mut Scope<'t>,
     goal: &'t PreGoal,
-) -> Result<Goal, NoMemory>
+) -> Result<NumberedGoal, NoMemory>
     ensures scope { OnOk result (scope.new ≡ scope.old) }
     ensures made { IfOk result
         (λ made. made ≡ goal_of (numbers_of tables.now) goal.now (words_of scope.old)) }
@@ -68,20 +68,20 @@ pub(crate) fn numbered_goal<'t>(
     match goal {
         PreGoal::Plain(formula) => {
             let condition = numbered_formula(alloc, tables, scope, formula)?;
-            Ok(Goal::Plain(condition))
+            Ok(NumberedGoal::Plain(condition))
         }
         PreGoal::Both(parts) => {
             let parts = numbered_goals(alloc, tables, scope, parts.items())?;
-            Ok(Goal::Both(parts))
+            Ok(NumberedGoal::Both(parts))
         }
         PreGoal::Each(variables, body) => {
             let ranges = ranges(alloc, tables, variables.items())?;
             let body = bound_goal(alloc, tables, scope, variables.items(), body.get())?;
-            Ok(Goal::Each(ranges, body))
+            Ok(NumberedGoal::Each(ranges, body))
         }
         PreGoal::Soft(pref) => {
             let preference = numbered_preference(alloc, tables, scope, pref.get())?;
-            Ok(Goal::Soft(preference))
+            Ok(NumberedGoal::Soft(preference))
         }
     }
 }
@@ -95,7 +95,7 @@ fn bound_goal<'t>(
     scope: &mut Scope<'t>,
     variables: &'t [Typed],
     body: &'t PreGoal,
-) -> Result<Boxed<Goal>, NoMemory>
+) -> Result<Boxed<NumberedGoal>, NoMemory>
     ensures scope { OnOk result (scope.new ≡ scope.old) }
     ensures made { IfOk result
         (λ made. made ≡ goal_of (numbers_of tables.now) body.now
@@ -116,7 +116,7 @@ fn numbered_goals<'t>(
     tables: &Tables<'t>,
     scope: &mut Scope<'t>,
     parts: &'t [PreGoal],
-) -> Result<List<Goal>, NoMemory>
+) -> Result<List<NumberedGoal>, NoMemory>
     ensures scope { OnOk result (scope.new ≡ scope.old) }
     ensures made { IfOk result
         (λ made. made ≡ map

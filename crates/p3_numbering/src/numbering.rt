@@ -16,7 +16,7 @@ use crate::tables::Tables;
 use p3_base::{List, NoMemory};
 use p3_names::Scope;
 use p3_numbers::{
-    Goal, NumberedAction, NumberedConstraint, NumberedFact, NumberedTask, NumberedValue,
+    NumberedGoal, NumberedAction, NumberedConstraint, NumberedFact, NumberedTask, NumberedValue,
 };
 use p3_tree::{Constraint, Domain, PreGoal, Problem, Task};
 use std::alloc::Global;
@@ -35,7 +35,7 @@ fn closed_constraint<'t>(
 }
 
 /// A goal with numbers outside all variables.
-fn closed_goal<'t>(alloc: Global, tables: &Tables<'t>, goal: &'t PreGoal) -> Result<Goal, NoMemory>
+fn closed_goal<'t>(alloc: Global, tables: &Tables<'t>, goal: &'t PreGoal) -> Result<NumberedGoal, NoMemory>
     ensures { IfOk result (λ made. made ≡ goal_of (numbers_of tables.now) goal.now []) }
 {
     let mut scope = Scope::new(alloc);
@@ -71,27 +71,27 @@ fn domain_trees<'t>(
 
 /// The initial state with numbers.
 #[derive(Drop)]
-struct Start {
+struct NumberedStart {
     facts: List<NumberedFact>,
     values: List<NumberedValue>,
 }
 
 /// The initial state of a task with numbers.
-fn start_of_task<'t>(alloc: Global, tables: &Tables<'t>, task: &'t Task) -> Result<Start, NoMemory>
+fn start_of_task<'t>(alloc: Global, tables: &Tables<'t>, task: &'t Task) -> Result<NumberedStart, NoMemory>
     ensures facts { IfOk result (λ made. made.facts ≡ start_of (numbers_of tables.now) task.now) }
     ensures values { IfOk result
         (λ made. made.values ≡ initial_values_of (numbers_of tables.now) task.now) }
 {
     let facts = start(alloc, tables, task)?;
     let values = initial_values(alloc, tables, task)?;
-    Ok(Start { facts, values })
+    Ok(NumberedStart { facts, values })
 }
 
 /// The trees of a problem with numbers.
 #[derive(Drop)]
 struct ProblemTrees {
     constraints: NumberedConstraint,
-    goal: Goal,
+    goal: NumberedGoal,
 }
 
 /// The trees of a problem with numbers.
@@ -114,7 +114,7 @@ fn problem_trees<'t>(
 #[derive(Drop)]
 struct Beginning {
     problem: ProblemTrees,
-    start: Start,
+    start: NumberedStart,
 }
 
 /// The trees of the problem of a task, and its initial state, with numbers.

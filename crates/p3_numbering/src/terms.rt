@@ -7,22 +7,22 @@ ghost use Rattle.p3_numbering.specs.Tables.{numbers_of};
 use crate::tables::Tables;
 use p3_base::{List, NoMemory, as_number};
 use p3_names::Scope;
-use p3_numbers::Argument;
+use p3_numbers::NumberedArgument;
 use p3_tree::{Term, Typed};
 use std::alloc::Global;
 
 /// The argument of a slot.
-fn argument_of(slot: Option<usize>) -> Result<Argument, NoMemory>
+fn argument_of(slot: Option<usize>) -> Result<NumberedArgument, NoMemory>
     ensures { IfOk result (λ argument. argument ≡ slot_or_first slot) }
 {
     match slot {
-        Some(place) => Ok(Argument::Slot(as_number(place)?)),
-        None => Ok(Argument::Slot(0)),
+        Some(place) => Ok(NumberedArgument::Slot(as_number(place)?)),
+        None => Ok(NumberedArgument::Slot(0)),
     }
 }
 
 /// A term as an argument.
-pub(crate) fn argument(tables: &Tables, scope: &Scope, term: &Term) -> Result<Argument, NoMemory>
+pub(crate) fn argument(tables: &Tables, scope: &Scope, term: &Term) -> Result<NumberedArgument, NoMemory>
     ensures { IfOk result
         (λ argument. argument
         ≡ numbered_term (numbers_of tables.now) (words_of scope.now) term.now) }
@@ -31,7 +31,7 @@ pub(crate) fn argument(tables: &Tables, scope: &Scope, term: &Term) -> Result<Ar
         Term::Var(variable) => argument_of(scope.find(&variable.name)),
         Term::Const(object) => {
             let number = tables.objects.number_of(&object.name)?;
-            Ok(Argument::Object(number))
+            Ok(NumberedArgument::Object(number))
         }
     }
 }
@@ -42,7 +42,7 @@ pub(crate) fn arguments(
     tables: &Tables,
     scope: &Scope,
     terms: &[Term],
-) -> Result<List<Argument>, NoMemory>
+) -> Result<List<NumberedArgument>, NoMemory>
     ensures { IfOk result
         (λ made. made ≡ numbered_terms (numbers_of tables.now) (words_of scope.now) terms.now) }
 {

@@ -28,7 +28,7 @@ use Rattle.p3_numbers.specs.Places.{Variables, ranges_of, words_of, are_known_te
 use Rattle.p3_numbers.specs.Conditions.{met, condition_of, is_known_formula}
 use Rattle.p3_numbers.specs.Effects.{added, deleted, NumberedLiteral, under, numbered_literals, numbered_increases, value_at, cost_at, amount_of, effect_layer, effect_of, is_known_amount, known_effect_layer, is_known_effect, LiteralMeaning, numbered_literal_meaning, literal_meaning}
 use Rattle.p3_numbers.specs.declared.numbers.Numbers.{Numbers}
-use Rattle.p3_numbers.specs.declared.condition.Condition.{Condition}
+use Rattle.p3_numbers.specs.declared.condition.NumberedCondition.{NumberedCondition}
 use Rattle.p3_numbers.specs.declared.effect.NumberedEffect.{NumberedEffect}
 use Rattle.p3_numbers.proofs.PlaceLemmas.{found_name, terms_mean, fact_means}
 use Rattle.p3_numbers.proofs.BindingLemmas.{each_binding}
@@ -96,7 +96,7 @@ module _ (T : Task) (N : Numbers) (ties : IsNumbering T N) where
   abbrev when : (State → Bool) → LiteralMeaning → LiteralMeaning
   when test meaning = record meaning { conditions = test ∷ meaning.conditions }
 
-  seen-under : (condition : Condition) (slots : Slots) (found : List NumberedLiteral) → map (numbered_literal_meaning N) (map (under condition slots) found) ≡ map (when (λ s. met N s slots condition)) (map (numbered_literal_meaning N) found)
+  seen-under : (condition : NumberedCondition) (slots : Slots) (found : List NumberedLiteral) → map (numbered_literal_meaning N) (map (under condition slots) found) ≡ map (when (λ s. met N s slots condition)) (map (numbered_literal_meaning N) found)
   seen-under condition slots [] = refl
   seen-under condition slots (entry ∷ found) = ap (λ rest. numbered_literal_meaning N (under condition slots entry) ∷ rest) (seen-under condition slots found)
 

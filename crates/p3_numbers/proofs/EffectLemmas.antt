@@ -11,7 +11,7 @@ use Rattle.p3_numbers.specs.Slots.{Slots, bound}
 use Rattle.p3_numbers.specs.Folds.{fold_effect, fold_effects}
 use Rattle.p3_numbers.specs.Effects.{changes_layer, under, literals_layer, numbered_literals, increases_layer, numbered_increases}
 use Rattle.p3_numbers.specs.declared.numbers.Numbers.{Numbers}
-use Rattle.p3_numbers.specs.declared.condition.Condition.{Condition}
+use Rattle.p3_numbers.specs.declared.condition.NumberedCondition.{NumberedCondition}
 use Rattle.p3_numbers.specs.declared.effect.NumberedEffect.{NumberedEffect, NumberedEffect-F, Row_of-NumberedEffect, end_of-NumberedEffect, more_of-NumberedEffect, items-the_row-NumberedEffect, items_hidden-the_row-NumberedEffect-0}
 use Rattle.p3_numbers.specs.declared.effect.NumberedEffect.TheBlock.{hidden-the_row-NumberedEffect-0, hidden-the_row-NumberedEffect-1}
 use Rattle.p3_numbers.specs.declared.effect.NumberedEffect.TheVariants.{All, Each, If}
@@ -36,7 +36,7 @@ module _ (first second : Fact → List Fact) (N : Numbers) (s : State) (slots : 
   unfolding hidden-the_row-NumberedEffect-1 hidden
   changes-Each ranges body = refl
 
-  pub changes-If : (condition : Condition) (body : NumberedEffect) → changes slots (If condition body) ≡ (if met N s slots condition then changes slots body else [])
+  pub changes-If : (condition : NumberedCondition) (body : NumberedEffect) → changes slots (If condition body) ≡ (if met N s slots condition then changes slots body else [])
   unfolding hidden-the_row-NumberedEffect-1 hidden
   changes-If condition body = refl
 
@@ -49,7 +49,7 @@ module _ (N : Numbers) (slots : Slots) where
   unfolding numbered_literals hidden-the_row-NumberedEffect-1 hidden
   numbered_literals-Each ranges body = refl
 
-  pub numbered_literals-If : (condition : Condition) (body : NumberedEffect) → numbered_literals N slots (If condition body) ≡ map (under condition slots) (numbered_literals N slots body)
+  pub numbered_literals-If : (condition : NumberedCondition) (body : NumberedEffect) → numbered_literals N slots (If condition body) ≡ map (under condition slots) (numbered_literals N slots body)
   unfolding numbered_literals hidden-the_row-NumberedEffect-1 hidden
   numbered_literals-If condition body = refl
 

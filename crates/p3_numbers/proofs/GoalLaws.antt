@@ -19,7 +19,7 @@ use Rattle.p3_numbers.specs.Places.{Variables, number_in, ranges_of, words_of, a
 use Rattle.p3_numbers.specs.Conditions.{is_known_formula}
 use Rattle.p3_numbers.specs.Goals.{PreferenceMeaning, hard_met, preferences, numbered_name, goal_layer, goal_of, is_known_name, known_goal_layer, is_known_goal, placed_preference_meaning, preference_meaning}
 use Rattle.p3_numbers.specs.declared.numbers.Numbers.{Numbers}
-use Rattle.p3_numbers.specs.declared.goal.Goal.{Goal}
+use Rattle.p3_numbers.specs.declared.goal.NumberedGoal.{NumberedGoal}
 use Rattle.p3_numbers.proofs.PlaceLemmas.{found_name}
 use Rattle.p3_numbers.proofs.BindingLemmas.{each_binding}
 use Rattle.p3_numbers.proofs.ConditionLaws.{condition-means}
@@ -63,7 +63,7 @@ module _ (T : Task) (N : Numbers) (ties : IsNumbering T N) (s : State) where
         λ i. hard-means part scope slots fills parts.0 i ∷ hards-mean rest scope slots fills parts.1 i
 
 module _ (T : Task) (N : Numbers) (ties : IsNumbering T N) where
-  abbrev seen : Slots → Goal → List PreferenceMeaning
+  abbrev seen : Slots → NumberedGoal → List PreferenceMeaning
   seen slots tree = map (placed_preference_meaning N) (preferences N slots tree)
 
   mutual

@@ -4,10 +4,10 @@ use Rattle.p3_tree.proofs.Computes.{trees_compute}
 use Rattle.p3_numbers.specs.Slots.{tuples_of}
 use Rattle.p3_numbers.specs.Conditions.{met, condition_of}
 use Rattle.p3_numbers.specs.Worked.{small, AnInnerVariableHasASlotOfItsOwn, EqualTermsAreOneObject, ATypeWithoutObjects}
-use Rattle.p3_numbers.specs.declared.condition.Condition.TheBlock.{hidden-the_row-Condition-0, hidden-the_row-Condition-1, shape-the_row-Condition-0, shape-the_row-Condition-1}
+use Rattle.p3_numbers.specs.declared.condition.NumberedCondition.TheBlock.{hidden-the_row-NumberedCondition-0, hidden-the_row-NumberedCondition-1, shape-the_row-NumberedCondition-0, shape-the_row-NumberedCondition-1}
 
 unfoldable conditions_compute : Unit {0}
-unfolding trees_compute hidden-the_row-Condition-0 hidden-the_row-Condition-1 shape-the_row-Condition-0 shape-the_row-Condition-1 tuples_of met condition_of small
+unfolding trees_compute hidden-the_row-NumberedCondition-0 hidden-the_row-NumberedCondition-1 shape-the_row-NumberedCondition-0 shape-the_row-NumberedCondition-1 tuples_of met condition_of small
 conditions_compute = trees_compute
 
 pub an_inner_variable_has_a_slot_of_its_own : AnInnerVariableHasASlotOfItsOwn

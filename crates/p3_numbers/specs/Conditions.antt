@@ -12,14 +12,14 @@ use Rattle.p3_tree.specs.declared.task.Task.{Task}
 use Rattle.p3_numbers.specs.Folds.{fold_condition}
 use Rattle.p3_numbers.specs.Places.{Variables, number_in, numbered_term, numbered_terms, ranges_of, words_of, is_known_term, are_known_terms, are_known_types, Fills, environment_of}
 use Rattle.p3_numbers.specs.Slots.{Slots, value_of, fact_at, bound}
-use Rattle.p3_numbers.specs.declared.condition.Condition.{Condition, Condition-F}
-use Rattle.p3_numbers.specs.declared.condition.Condition.TheVariants as condition
-use Rattle.p3_numbers.specs.declared.condition.Condition.TheOpen as layer
+use Rattle.p3_numbers.specs.declared.condition.NumberedCondition.{NumberedCondition, NumberedCondition-F}
+use Rattle.p3_numbers.specs.declared.condition.NumberedCondition.TheVariants as condition
+use Rattle.p3_numbers.specs.declared.condition.NumberedCondition.TheOpen as layer
 use Rattle.p3_numbers.specs.declared.numbers.Numbers.{Numbers}
 
 -- ---- where it holds: each part stands as its truth at the objects in the slots
 
-abbrev pub met_layer : Numbers → State → Condition-F (Slots → Bool) → Slots → Bool
+abbrev pub met_layer : Numbers → State → NumberedCondition-F (Slots → Bool) → Slots → Bool
 met_layer N s (layer.Atom predicate args) slots = has_fact s (fact_at N slots predicate args)
 met_layer N s (layer.Equal left right) slots = value_of slots left == value_of slots right
 met_layer N s (layer.And parts) slots = list_all (λ part. part slots) parts
@@ -29,12 +29,12 @@ met_layer N s (layer.Imply first second) slots = first slots implies second slot
 met_layer N s (layer.Exists ranges body) slots = list_any body (bound N slots ranges)
 met_layer N s (layer.Forall ranges body) slots = list_all body (bound N slots ranges)
 
-unfoldable pub met : Numbers → State → Slots → Condition → Bool
+unfoldable pub met : Numbers → State → Slots → NumberedCondition → Bool
 met N s slots condition = fold_condition (met_layer N s) condition slots
 
 -- ---- the condition that a formula becomes under variables
 
-abbrev pub condition_layer : Numbers → formula.Formula-F (Variables → Condition) → Variables → Condition
+abbrev pub condition_layer : Numbers → formula.Formula-F (Variables → NumberedCondition) → Variables → NumberedCondition
 condition_layer N (formula.Atom pred args) scope = condition.Atom (number_in N.predicates pred.name) (numbered_terms N scope args)
 condition_layer N (formula.Equal left right) scope = condition.Equal (numbered_term N scope left) (numbered_term N scope right)
 condition_layer N (formula.And parts) scope = condition.And (map (λ part. part scope) parts)
@@ -44,7 +44,7 @@ condition_layer N (formula.Imply first second) scope = condition.Imply (first sc
 condition_layer N (formula.Exists variables body) scope = condition.Exists (ranges_of N variables) (body (scope ++ words_of variables))
 condition_layer N (formula.Forall variables body) scope = condition.Forall (ranges_of N variables) (body (scope ++ words_of variables))
 
-unfoldable pub condition_of : Numbers → Formula → Variables → Condition
+unfoldable pub condition_of : Numbers → Formula → Variables → NumberedCondition
 condition_of N tree = fold_formula (condition_layer N) tree
 
 -- ---- whether each name in it has a number, and each variable a slot

@@ -22,7 +22,7 @@ use Rattle.p3_numbers.specs.Folds.{fold_constraint}
 use Rattle.p3_numbers.specs.Goals.{numbered_name, is_known_name}
 use Rattle.p3_numbers.specs.Places.{Variables, number_in, ranges_of, words_of, are_known_types, Fills, environment_of}
 use Rattle.p3_numbers.specs.Slots.{Slots, name_at, bound}
-use Rattle.p3_numbers.specs.declared.condition.Condition.{Condition}
+use Rattle.p3_numbers.specs.declared.condition.NumberedCondition.{NumberedCondition}
 use Rattle.p3_numbers.specs.NumberedModal.{NumberedModal}
 use Rattle.p3_numbers.specs.declared.constraint.NumberedConstraint.{NumberedConstraint, NumberedConstraint-F, Row_of-NumberedConstraint, end_of-NumberedConstraint, more_of-NumberedConstraint}
 use Rattle.p3_numbers.specs.declared.constraint.NumberedConstraint.TheVariants as numbered_constraint
@@ -117,7 +117,7 @@ is_known_constraint N tree = fold.fold_constraint (known_constraint_layer N) tre
 abbrev pub ModalMeaning : Type 0
 ModalMeaning = Operator (State → Bool)
 
-abbrev pub test_at : Numbers → Slots → Condition → State → Bool
+abbrev pub test_at : Numbers → Slots → NumberedCondition → State → Bool
 test_at N slots condition s = met N s slots condition
 
 abbrev pub numbered_modal_meaning : Numbers → Slots → NumberedModal → ModalMeaning

@@ -18,7 +18,7 @@ use Rattle.p3_numbers.specs.Conditions.{met, condition_of, is_known_formula}
 use Rattle.p3_numbers.specs.Folds.{fold_effect}
 use Rattle.p3_numbers.specs.Places.{Variables, number_in, numbered_terms, ranges_of, words_of, are_known_terms, are_known_types, Fills, environment_of}
 use Rattle.p3_numbers.specs.Slots.{Slots, values_of, name_at, object_names, fact_at, bound}
-use Rattle.p3_numbers.specs.declared.condition.Condition.{Condition}
+use Rattle.p3_numbers.specs.declared.condition.NumberedCondition.{NumberedCondition}
 use Rattle.p3_numbers.specs.declared.effect.NumberedAmount.{NumberedAmount}
 use Rattle.p3_numbers.specs.declared.effect.NumberedAmount.TheVariants as numbered_amount
 use Rattle.p3_numbers.specs.declared.effect.NumberedEffect.{NumberedEffect, NumberedEffect-F}
@@ -53,7 +53,7 @@ deleted N s slots tree = fold_effect (deleted_layer N s) tree slots
 
 -- a condition at objects in the slots of its variables
 pub record PlacedCondition : Type 0 where
-  pub condition : Condition
+  pub condition : NumberedCondition
   pub slots : Slots
 
 -- a predicate at objects that is added or deleted, with the condition of each `when` above it, the outermost first
@@ -63,7 +63,7 @@ pub record NumberedLiteral : Type 0 where
   pub objects : List ℕ
   pub conditions : List PlacedCondition
 
-abbrev pub under : Condition → Slots → NumberedLiteral → NumberedLiteral
+abbrev pub under : NumberedCondition → Slots → NumberedLiteral → NumberedLiteral
 under condition slots literal = record literal { conditions = record { condition = condition; slots = slots } ∷ literal.conditions }
 
 abbrev pub literals_layer : Numbers → NumberedEffect-F (Slots → List NumberedLiteral) → Slots → List NumberedLiteral
@@ -159,7 +159,7 @@ numbered_literal_meaning N literal = record {
 }
 
 abbrev pub literal_meaning : Task → literal.Literal → LiteralMeaning
-literal_meaning T entry = record { add = entry.add; fact = entry.fact; conditions = map (λ (condition : literal.Condition). λ s. holds T s condition.env condition.formula) entry.conditions }
+literal_meaning T entry = record { add = entry.add; fact = entry.fact; conditions = map (λ (condition : literal.NumberedCondition). λ s. holds T s condition.env condition.formula) entry.conditions }
 
 -- the literals are the same, in the same order
 abbrev pub LiteralsAreKept : Task → Numbers → Type 0

@@ -1,21 +1,21 @@
 -- One fold for each recursive type of numbered trees. A meaning of a tree is given by one layer of it, where each child stands as its own meaning.
 use Rattle.std.specs.Prelude.{List, [], ◌∷◌}
 use mathlib.Core.Former.{Count, one_more}
-use Rattle.p3_numbers.specs.declared.condition.Condition.{Condition, Condition-F, Row_of-Condition, end_of-Condition, more_of-Condition}
-use Rattle.p3_numbers.specs.declared.condition.Condition.TheVariants as condition
-use Rattle.p3_numbers.specs.declared.condition.Condition.TheOpen as condition_layer
+use Rattle.p3_numbers.specs.declared.condition.NumberedCondition.{NumberedCondition, NumberedCondition-F, Row_of-NumberedCondition, end_of-NumberedCondition, more_of-NumberedCondition}
+use Rattle.p3_numbers.specs.declared.condition.NumberedCondition.TheVariants as condition
+use Rattle.p3_numbers.specs.declared.condition.NumberedCondition.TheOpen as condition_layer
 use Rattle.p3_numbers.specs.declared.effect.NumberedEffect.{NumberedEffect, NumberedEffect-F, Row_of-NumberedEffect, end_of-NumberedEffect, more_of-NumberedEffect}
 use Rattle.p3_numbers.specs.declared.effect.NumberedEffect.TheVariants as effect
 use Rattle.p3_numbers.specs.declared.effect.NumberedEffect.TheOpen as effect_layer
-use Rattle.p3_numbers.specs.declared.goal.Goal.{Goal, Goal-F, Row_of-Goal, end_of-Goal, more_of-Goal}
-use Rattle.p3_numbers.specs.declared.goal.Goal.TheVariants as goal
-use Rattle.p3_numbers.specs.declared.goal.Goal.TheOpen as goal_layer
+use Rattle.p3_numbers.specs.declared.goal.NumberedGoal.{NumberedGoal, NumberedGoal-F, Row_of-NumberedGoal, end_of-NumberedGoal, more_of-NumberedGoal}
+use Rattle.p3_numbers.specs.declared.goal.NumberedGoal.TheVariants as goal
+use Rattle.p3_numbers.specs.declared.goal.NumberedGoal.TheOpen as goal_layer
 use Rattle.p3_numbers.specs.declared.constraint.NumberedConstraint.{NumberedConstraint, NumberedConstraint-F, Row_of-NumberedConstraint, end_of-NumberedConstraint, more_of-NumberedConstraint}
 use Rattle.p3_numbers.specs.declared.constraint.NumberedConstraint.TheVariants as constraint
 use Rattle.p3_numbers.specs.declared.constraint.NumberedConstraint.TheOpen as constraint_layer
 
 abbrev mutual
-  pub fold_condition : {A : Type 0} → (Condition-F A → A) → Condition → A
+  pub fold_condition : {A : Type 0} → (NumberedCondition-F A → A) → NumberedCondition → A
   fold_condition layer (condition.Atom predicate args) = layer (condition_layer.Atom predicate args)
   fold_condition layer (condition.Equal left right) = layer (condition_layer.Equal left right)
   fold_condition layer (condition.And' _ parts) = layer (condition_layer.And (fold_conditions layer parts))
@@ -25,26 +25,26 @@ abbrev mutual
   fold_condition layer (condition.Exists' ranges _ body) = layer (condition_layer.Exists ranges (fold_one_condition layer body))
   fold_condition layer (condition.Forall' ranges _ body) = layer (condition_layer.Forall ranges (fold_one_condition layer body))
 
-  pub fold_conditions : {A : Type 0} → (Condition-F A → A) → {n : Count} → Row_of-Condition n → List A
-  fold_conditions layer end_of-Condition = []
-  fold_conditions layer (more_of-Condition part rest) = fold_condition layer part ∷ fold_conditions layer rest
+  pub fold_conditions : {A : Type 0} → (NumberedCondition-F A → A) → {n : Count} → Row_of-NumberedCondition n → List A
+  fold_conditions layer end_of-NumberedCondition = []
+  fold_conditions layer (more_of-NumberedCondition part rest) = fold_condition layer part ∷ fold_conditions layer rest
 
-  pub fold_one_condition : {A : Type 0} → (Condition-F A → A) → {n : Count} → Row_of-Condition (one_more n) → A
-  fold_one_condition layer (more_of-Condition part rest) = fold_condition layer part
+  pub fold_one_condition : {A : Type 0} → (NumberedCondition-F A → A) → {n : Count} → Row_of-NumberedCondition (one_more n) → A
+  fold_one_condition layer (more_of-NumberedCondition part rest) = fold_condition layer part
 
 abbrev mutual
-  pub fold_goal : {A : Type 0} → (Goal-F A → A) → Goal → A
+  pub fold_goal : {A : Type 0} → (NumberedGoal-F A → A) → NumberedGoal → A
   fold_goal layer (goal.Plain body) = layer (goal_layer.Plain body)
   fold_goal layer (goal.Both' _ parts) = layer (goal_layer.Both (fold_goals layer parts))
   fold_goal layer (goal.Each' ranges _ body) = layer (goal_layer.Each ranges (fold_one_goal layer body))
   fold_goal layer (goal.Soft preference) = layer (goal_layer.Soft preference)
 
-  pub fold_goals : {A : Type 0} → (Goal-F A → A) → {n : Count} → Row_of-Goal n → List A
-  fold_goals layer end_of-Goal = []
-  fold_goals layer (more_of-Goal part rest) = fold_goal layer part ∷ fold_goals layer rest
+  pub fold_goals : {A : Type 0} → (NumberedGoal-F A → A) → {n : Count} → Row_of-NumberedGoal n → List A
+  fold_goals layer end_of-NumberedGoal = []
+  fold_goals layer (more_of-NumberedGoal part rest) = fold_goal layer part ∷ fold_goals layer rest
 
-  pub fold_one_goal : {A : Type 0} → (Goal-F A → A) → {n : Count} → Row_of-Goal (one_more n) → A
-  fold_one_goal layer (more_of-Goal part rest) = fold_goal layer part
+  pub fold_one_goal : {A : Type 0} → (NumberedGoal-F A → A) → {n : Count} → Row_of-NumberedGoal (one_more n) → A
+  fold_one_goal layer (more_of-NumberedGoal part rest) = fold_goal layer part
 
 abbrev mutual
   pub fold_effect : {A : Type 0} → (NumberedEffect-F A → A) → NumberedEffect → A

@@ -14,39 +14,39 @@ use Rattle.p3_numbers.specs.Conditions.{met, condition_of, is_known_formula}
 use Rattle.p3_numbers.specs.Folds.{fold_goal}
 use Rattle.p3_numbers.specs.Places.{Variables, number_in, ranges_of, words_of, are_known_types, Fills, environment_of}
 use Rattle.p3_numbers.specs.Slots.{Slots, name_at, bound}
-use Rattle.p3_numbers.specs.declared.condition.Condition.{Condition}
-use Rattle.p3_numbers.specs.declared.goal.Goal.{Goal, Goal-F}
-use Rattle.p3_numbers.specs.declared.goal.Goal.TheVariants as goal
-use Rattle.p3_numbers.specs.declared.goal.Goal.TheOpen as layer
+use Rattle.p3_numbers.specs.declared.condition.NumberedCondition.{NumberedCondition}
+use Rattle.p3_numbers.specs.declared.goal.NumberedGoal.{NumberedGoal, NumberedGoal-F}
+use Rattle.p3_numbers.specs.declared.goal.NumberedGoal.TheVariants as goal
+use Rattle.p3_numbers.specs.declared.goal.NumberedGoal.TheOpen as layer
 use Rattle.p3_numbers.specs.declared.numbers.Numbers.{Numbers}
 
 -- ---- what it means
 
 -- what must hold: all but the preferences
-abbrev pub hard_layer : Numbers → State → Goal-F (Slots → Bool) → Slots → Bool
+abbrev pub hard_layer : Numbers → State → NumberedGoal-F (Slots → Bool) → Slots → Bool
 hard_layer N s (layer.Plain condition) slots = met N s slots condition
 hard_layer N s (layer.Both parts) slots = list_all (λ part. part slots) parts
 hard_layer N s (layer.Each ranges body) slots = list_all body (bound N slots ranges)
 hard_layer N s (layer.Soft preference) slots = true
 
-unfoldable pub hard_met : Numbers → State → Slots → Goal → Bool
+unfoldable pub hard_met : Numbers → State → Slots → NumberedGoal → Bool
 hard_met N s slots tree = fold_goal (hard_layer N s) tree slots
 
 -- a preference at objects in the slots of the variables outside it
 pub record PlacedPreference : Type 0 where
   pub at : ℕ
   pub name : Option ℕ
-  pub body : Condition
+  pub body : NumberedCondition
   pub slots : Slots
 
 -- one for each preference and each choice of objects outside it
-abbrev pub preferences_layer : Numbers → Goal-F (Slots → List PlacedPreference) → Slots → List PlacedPreference
+abbrev pub preferences_layer : Numbers → NumberedGoal-F (Slots → List PlacedPreference) → Slots → List PlacedPreference
 preferences_layer N (layer.Plain condition) slots = []
 preferences_layer N (layer.Both parts) slots = flat_map (λ part. part slots) parts
 preferences_layer N (layer.Each ranges body) slots = flat_map body (bound N slots ranges)
 preferences_layer N (layer.Soft preference) slots = record { at = preference.at; name = preference.name; body = preference.body; slots = slots } ∷ []
 
-unfoldable pub preferences : Numbers → Slots → Goal → List PlacedPreference
+unfoldable pub preferences : Numbers → Slots → NumberedGoal → List PlacedPreference
 preferences N slots tree = fold_goal (preferences_layer N) tree slots
 
 -- ---- what a precondition or goal becomes under variables
@@ -54,13 +54,13 @@ preferences N slots tree = fold_goal (preferences_layer N) tree slots
 abbrev pub numbered_name : Numbers → Option Ref → Option ℕ
 numbered_name N name = option_map (λ ref. number_in N.preferences ref.name) name
 
-abbrev pub goal_layer : Numbers → pregoal.PreGoal-F (Variables → Goal) → Variables → Goal
+abbrev pub goal_layer : Numbers → pregoal.PreGoal-F (Variables → NumberedGoal) → Variables → NumberedGoal
 goal_layer N (pregoal.Plain formula) scope = goal.Plain (condition_of N formula scope)
 goal_layer N (pregoal.Both parts) scope = goal.Both (map (λ part. part scope) parts)
 goal_layer N (pregoal.Each variables body) scope = goal.Each (ranges_of N variables) (body (scope ++ words_of variables))
 goal_layer N (pregoal.Soft pref) scope = goal.Soft (record { at = pref.at; name = numbered_name N pref.name; body = condition_of N pref.body scope })
 
-unfoldable pub goal_of : Numbers → PreGoal → Variables → Goal
+unfoldable pub goal_of : Numbers → PreGoal → Variables → NumberedGoal
 goal_of N tree = named.fold_goal (goal_layer N) tree
 
 -- ---- whether all in it is known

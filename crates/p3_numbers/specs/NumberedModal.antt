@@ -1,6 +1,6 @@
 -- The operators of trajectory constraints over conditions.
 use Rattle.p3_base.specs.declared.operator.Operator.{Operator}
-use Rattle.p3_numbers.specs.declared.condition.Condition.{Condition}
+use Rattle.p3_numbers.specs.declared.condition.NumberedCondition.{NumberedCondition}
 
 abbrev pub NumberedModal : Type 0
-NumberedModal = Operator Condition
+NumberedModal = Operator NumberedCondition

@@ -12,8 +12,8 @@ use Rattle.p3_tree.specs.declared.term.Typed.{Typed}
 use Rattle.p3_tree.specs.declared.task.Task.{Task}
 pub use Rattle.p3_tree.specs.Slots.{place_after, slot_of, words_of}
 use Rattle.p3_numbers.specs.Slots.{Slots, name_at, object_names, range_at, tuples_of}
-use Rattle.p3_numbers.specs.declared.condition.Argument.{Argument}
-use Rattle.p3_numbers.specs.declared.condition.Argument.TheVariants.{Slot, Object}
+use Rattle.p3_numbers.specs.declared.condition.NumberedArgument.{NumberedArgument}
+use Rattle.p3_numbers.specs.declared.condition.NumberedArgument.TheVariants.{Slot, Object}
 use Rattle.p3_numbers.specs.declared.numbers.Numbers.{Numbers}
 
 -- ---- the place of a name or a variable; what has none gets one all the same
@@ -25,15 +25,15 @@ number_in names name = position_or_len (λ other. same_name other name) names
 abbrev pub Variables : Type 0
 Variables = List Name
 
-abbrev pub slot_or_first : Option ℕ → Argument
+abbrev pub slot_or_first : Option ℕ → NumberedArgument
 slot_or_first None = Slot 0
 slot_or_first (Some place) = Slot place
 
-abbrev pub numbered_term : Numbers → Variables → Term → Argument
+abbrev pub numbered_term : Numbers → Variables → Term → NumberedArgument
 numbered_term N scope (Var variable) = slot_or_first (slot_of scope variable.name)
 numbered_term N scope (Const object) = Object (number_in N.objects object.name)
 
-abbrev pub numbered_terms : Numbers → Variables → List Term → List Argument
+abbrev pub numbered_terms : Numbers → Variables → List Term → List NumberedArgument
 numbered_terms N scope args = map (numbered_term N scope) args
 
 -- a range for each list of types

@@ -2,19 +2,19 @@
 use Rattle.std.specs.Prelude.{ℕ, List, [], ◌∷◌, ◌++◌, map, flat_map, slice_index_or}
 use Rattle.p3_tree.specs.Names.{Name}
 use Rattle.p3_tree.specs.declared.state.Fact.{Fact}
-use Rattle.p3_numbers.specs.declared.condition.Argument.{Argument}
-use Rattle.p3_numbers.specs.declared.condition.Argument.TheVariants.{Slot, Object}
+use Rattle.p3_numbers.specs.declared.condition.NumberedArgument.{NumberedArgument}
+use Rattle.p3_numbers.specs.declared.condition.NumberedArgument.TheVariants.{Slot, Object}
 use Rattle.p3_numbers.specs.declared.numbers.Numbers.{Numbers}
 
 -- the objects that the variables mean, that of the outermost first
 abbrev pub Slots : Type 0
 Slots = List ℕ
 
-abbrev pub value_of : Slots → Argument → ℕ
+abbrev pub value_of : Slots → NumberedArgument → ℕ
 value_of slots (Slot place) = slice_index_or slots place 0
 value_of slots (Object number) = number
 
-abbrev pub values_of : Slots → List Argument → List ℕ
+abbrev pub values_of : Slots → List NumberedArgument → List ℕ
 values_of slots args = map (value_of slots) args
 
 abbrev pub name_at : List Name → ℕ → Name
@@ -24,7 +24,7 @@ abbrev pub object_names : Numbers → List ℕ → List Name
 object_names N objects = map (name_at N.objects) objects
 
 -- the atom of a predicate at arguments
-abbrev pub fact_at : Numbers → Slots → ℕ → List Argument → Fact
+abbrev pub fact_at : Numbers → Slots → ℕ → List NumberedArgument → Fact
 fact_at N slots predicate args = record { name = name_at N.predicates predicate; args = object_names N (values_of slots args) }
 
 abbrev pub range_at : Numbers → ℕ → List ℕ

@@ -6,8 +6,8 @@ use Rattle.p3_tree.specs.Worked.Build.{term, typed, atom}
 use Rattle.p3_tree.specs.declared.formula.Formula.{Formula}
 use Rattle.p3_tree.specs.declared.formula.Formula.TheVariants as formula
 use Rattle.p3_numbers.specs.Conditions.{met, condition_of}
-use Rattle.p3_numbers.specs.declared.condition.Argument.TheVariants.{Slot}
-use Rattle.p3_numbers.specs.declared.condition.Condition.TheVariants as condition
+use Rattle.p3_numbers.specs.declared.condition.NumberedArgument.TheVariants.{Slot}
+use Rattle.p3_numbers.specs.declared.condition.NumberedCondition.TheVariants as condition
 use Rattle.p3_numbers.specs.declared.numbers.Numbers.{Numbers}
 
 -- two objects, the first of type t and the second of type u, and none of type v

@@ -1,10 +1,10 @@
 //! Trajectory constraints over numbers.
 
-use crate::Condition;
+use crate::NumberedCondition;
 use p3_base::{Boxed, List, Operator};
 
 /// A modal operator over the visited states.
-pub type NumberedModal = Operator<Condition>;
+pub type NumberedModal = Operator<NumberedCondition>;
 
 /// Constraints and preferences over the visited states, over numbers.
 #[derive(Debug, Drop)]

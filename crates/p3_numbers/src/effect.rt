@@ -1,6 +1,6 @@
 //! Effects and amounts over numbers.
 
-use crate::{Argument, Condition};
+use crate::{NumberedArgument, NumberedCondition};
 use p3_base::{Boxed, List};
 use p3_tree::Numeral;
 
@@ -14,7 +14,7 @@ pub enum NumberedAmount {
         /// The function.
         function: u32,
         /// Its arguments.
-        args: List<Argument>,
+        args: List<NumberedArgument>,
     },
 }
 
@@ -26,21 +26,21 @@ pub enum NumberedEffect {
         /// The predicate.
         predicate: u32,
         /// The arguments.
-        args: List<Argument>,
+        args: List<NumberedArgument>,
     },
     /// An atom becomes false, where it is not added too.
     Del {
         /// The predicate.
         predicate: u32,
         /// The arguments.
-        args: List<Argument>,
+        args: List<NumberedArgument>,
     },
     /// All of the parts.
     All(List<NumberedEffect>),
     /// The body for all objects of the ranges.
     Each(List<u32>, Boxed<NumberedEffect>),
     /// The body where the condition holds before the step.
-    If(Condition, Boxed<NumberedEffect>),
+    If(NumberedCondition, Boxed<NumberedEffect>),
     /// The total cost grows.
     Cost(NumberedAmount),
 }

@@ -10,10 +10,10 @@ mod laws;
 mod numbers;
 mod task;
 
-pub use condition::{Argument, Condition};
+pub use condition::{NumberedArgument, NumberedCondition};
 pub use constraint::{NumberedConstraint, NumberedModal};
 pub use effect::{NumberedAmount, NumberedEffect};
-pub use goal::{Goal, Preference};
+pub use goal::{NumberedGoal, NumberedPreference};
 pub use laws::{
     numbered_arguments_mean_their_arguments, numbered_conditions_mean_their_formulas,
     numbered_constraints_mean_their_constraints, numbered_effects_mean_their_effects,

@@ -1,6 +1,6 @@
 //! A task over numbers.
 
-use crate::{Goal, NumberedConstraint, NumberedEffect, Numbers};
+use crate::{NumberedGoal, NumberedConstraint, NumberedEffect, Numbers};
 use p3_base::List;
 use p3_tree::Numeral;
 
@@ -30,7 +30,7 @@ pub struct NumberedAction {
     /// The ranges of its parameters.
     pub ranges: List<u32>,
     /// Its precondition.
-    pub pre: Goal,
+    pub pre: NumberedGoal,
     /// Its effect.
     pub effect: NumberedEffect,
 }
@@ -47,7 +47,7 @@ pub struct NumberedTask {
     /// The constraints of the problem.
     pub problem_constraints: NumberedConstraint,
     /// The goal.
-    pub goal: Goal,
+    pub goal: NumberedGoal,
     /// The atoms that are true at the start, in order.
     pub start: List<NumberedFact>,
     /// The values that the initial state gives, in order, that of the total cost among them.

@@ -7,12 +7,12 @@ use Rattle.p3_tree.specs.declared.term.Ref.{Ref}
 use Rattle.p3_tree.specs.declared.term.Term.{Term}
 use Rattle.p3_tree.specs.declared.task.Header.{Header}
 use Rattle.p3_tree.specs.declared.task.Task.{Task}
-use Rattle.p3_offences.specs.declared.spot.Found.{Found}
+use Rattle.p3_offences.specs.declared.spot.FirstOffences.{FirstOffences}
 use Rattle.p3_offences.specs.Spots.{step, use_step, header_step}
 use Rattle.p3_offences.proofs.TableLemmas.{found-named}
 use Rattle.p3_offences.proofs.WalkLemmas.{fold-append}
 
-module _ (T : Task) (scope : Scope) (found : Found) (word : Ref) (args : List Term) where
+module _ (T : Task) (scope : Scope) (found : FirstOffences) (word : Ref) (args : List Term) where
   -- what is told of the header's name and of the terms is told of one after the other
   unknown-both : (headers : List Header)
       → fold step (fold step found.unknown (unless (is_some (header_named headers word.name)) word)) (flat_map (unknown_term T scope) args)

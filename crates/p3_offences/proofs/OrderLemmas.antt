@@ -15,7 +15,7 @@ use Rattle.p3_tree.specs.declared.term.Ref.{Ref}
 use Rattle.p3_tree.specs.declared.task.Task.{Task}
 use Rattle.p3_offences.specs.Order.{in_order, of_kind, refusal_at_spot}
 use Rattle.p3_offences.specs.Spots.{spot_of}
-use Rattle.p3_offences.specs.declared.spot.Found.{Found}
+use Rattle.p3_offences.specs.declared.spot.FirstOffences.{FirstOffences}
 
 or-none : {A : Type 0} (first : Option A) → option_or first None ≡ first
 or-none None = refl
@@ -45,7 +45,7 @@ module _ (side : Side) where
       ∙ sym (or-assoc (option_map (refusal_of side) (offence code InDomain domain)) (option_map (refusal_of side) (offence code InProblem problem)) (option_map (refusal_of side) rest))
       ∙ (λ i. option_or (option_or (sym (of-least side code InDomain (least_word domain)) i) (sym (of-least side code InProblem (least_word problem)) i)) (option_map (refusal_of side) rest))
 
-  pub in-order : (T : Task) (domain problem : Found)
+  pub in-order : (T : Task) (domain problem : FirstOffences)
       → domain.duplicate ≡ option_map spot_of (least_word (domain_duplicates T.domain)) → domain.unknown ≡ option_map spot_of (least_word (domain_unknowns T))
       → domain.miscount ≡ option_map spot_of (least_word (domain_miscounts T)) → domain.clash ≡ option_map spot_of (least_word (domain_clashes T))
       → problem.duplicate ≡ option_map spot_of (least_word (problem_duplicates T.problem)) → problem.unknown ≡ option_map spot_of (least_word (problem_unknowns T))

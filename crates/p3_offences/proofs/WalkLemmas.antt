@@ -15,7 +15,7 @@ use Rattle.p3_names.proofs.ScopeLemmas.{append-assoc}
 use Rattle.p3_offences.specs.declared.spot.Spot.{Spot}
 use Rattle.p3_names.specs.Names.{Adds}
 pub use Rattle.p3_names.proofs.UseLemmas.{fold-append}
-use Rattle.p3_offences.specs.declared.spot.Found.{Found}
+use Rattle.p3_offences.specs.declared.spot.FirstOffences.{FirstOffences}
 use Rattle.p3_offences.specs.Spots.{spot_of, step, use_step}
 
 pub fold-each : {A B C : Type 0} (f : C → B → C) (g : A → List B) (c : C) (xs : List A) → fold f c (flat_map g xs) ≡ fold (λ c x. fold f c (g x)) c xs
@@ -40,11 +40,11 @@ least-walk [] = refl
 least-walk (word ∷ words) = least-from word words
 
 -- and so over uses, for each kind of offence
-abbrev pub Notes : Task → (Found → Option Spot) → (Use → List Ref) → Type 0
-Notes T kept words = (found : Found) (item : Use) → kept (use_step T found item) ≡ fold step (kept found) (words item)
+abbrev pub Notes : Task → (FirstOffences → Option Spot) → (Use → List Ref) → Type 0
+Notes T kept words = (found : FirstOffences) (item : Use) → kept (use_step T found item) ≡ fold step (kept found) (words item)
 
-pub noted-uses : (T : Task) (kept : Found → Option Spot) (words : Use → List Ref) → Notes T kept words
-    → (found : Found) (uses : List Use) → kept (fold (use_step T) found uses) ≡ fold step (kept found) (flat_map words uses)
+pub noted-uses : (T : Task) (kept : FirstOffences → Option Spot) (words : Use → List Ref) → Notes T kept words
+    → (found : FirstOffences) (uses : List Use) → kept (fold (use_step T) found uses) ≡ fold step (kept found) (flat_map words uses)
 noted-uses T kept words notes found [] = refl
 noted-uses T kept words notes found (item ∷ items) =
     noted-uses T kept words notes (use_step T found item) items ∙ (λ i. fold step (notes found item i) (flat_map words items))

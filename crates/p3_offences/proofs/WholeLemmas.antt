@@ -11,12 +11,12 @@ use Rattle.p3_tree.specs.declared.task.Problem.{Problem}
 use Rattle.p3_tree.specs.declared.task.Task.{Task}
 use Rattle.p3_offences.specs.Spots.{spot_of, step, use_step}
 use Rattle.p3_offences.specs.declared.spot.Spot.{Spot}
-use Rattle.p3_offences.specs.declared.spot.Found.{Found}
+use Rattle.p3_offences.specs.declared.spot.FirstOffences.{FirstOffences}
 use Rattle.p3_offences.proofs.WalkLemmas.{Notes, fold-append, least-walk, noted-uses}
 
 -- ---- part by part
 
-module _ (T : Task) (before : Found) where
+module _ (T : Task) (before : FirstOffences) where
   pub domain-parts : (D : Domain) → fold (use_step T) before (domain_uses D)
       ≡ fold (use_step T) (fold (use_step T) (fold (use_step T) (use_step T before (Objects D.constants)) (flat_map header_uses D.predicates)) (flat_map header_uses D.functions)) (domain_seen D).uses
   unfolding domain_uses
@@ -49,9 +49,9 @@ declared-parts first second third = fold-append step None (first ++ second) thir
 
 -- ---- the word of least offset
 
-module _ (T : Task) (found : Found) where
+module _ (T : Task) (found : FirstOffences) where
   -- words that were looked at before the walk, and those of all uses
-  least-of : (kept : Found → Option Spot) (words : Use → List Ref) (first : List Ref) (uses : List Use) → Notes T kept words → kept found ≡ fold step None first
+  least-of : (kept : FirstOffences → Option Spot) (words : Use → List Ref) (first : List Ref) (uses : List Use) → Notes T kept words → kept found ≡ fold step None first
       → kept (fold (use_step T) found uses) ≡ option_map spot_of (least_word (first ++ flat_map words uses))
   least-of kept words first uses notes is =
       noted-uses T kept words notes found uses ∙ (λ i. fold step (is i) (flat_map words uses)) ∙ sym (fold-append step None first (flat_map words uses)) ∙ least-walk (first ++ flat_map words uses)

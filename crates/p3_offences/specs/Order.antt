@@ -9,7 +9,7 @@ use Rattle.p3_base.specs.declared.refusal.Side.{Side}
 use Rattle.p3_tree.specs.Refusals.Places.{refusal_at}
 use Rattle.p3_tree.specs.Sides.{role_of, InDomain, InProblem}
 use Rattle.p3_offences.specs.declared.spot.Spot.{Spot}
-use Rattle.p3_offences.specs.declared.spot.Found.{Found}
+use Rattle.p3_offences.specs.declared.spot.FirstOffences.{FirstOffences}
 
 abbrev pub refusal_at_spot : Code → Role → Spot → Refusal
 refusal_at_spot code role spot = refusal_at code role spot.at spot.len
@@ -20,7 +20,7 @@ of_kind side code domain problem =
     option_or (option_map (refusal_at_spot code (role_of side InDomain)) domain) (option_map (refusal_at_spot code (role_of side InProblem)) problem)
 
 -- the kinds in their order
-abbrev pub in_order : Side → Found → Found → Option Refusal
+abbrev pub in_order : Side → FirstOffences → FirstOffences → Option Refusal
 in_order side domain problem =
     option_or (of_kind side Duplicate domain.duplicate problem.duplicate)
     (option_or (of_kind side Unknown domain.unknown problem.unknown)

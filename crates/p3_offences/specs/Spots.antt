@@ -8,7 +8,7 @@ use Rattle.p3_tree.specs.declared.term.Term.{Term}
 use Rattle.p3_tree.specs.declared.task.Header.{Header}
 use Rattle.p3_tree.specs.declared.task.Task.{Task}
 use Rattle.p3_offences.specs.declared.spot.Spot.{Spot}
-use Rattle.p3_offences.specs.declared.spot.Found.{Found}
+use Rattle.p3_offences.specs.declared.spot.FirstOffences.{FirstOffences}
 
 abbrev pub spot_of : Ref → Spot
 spot_of word = record { at = word.at; len = length word.name }
@@ -19,7 +19,7 @@ step None word = Some (spot_of word)
 step (Some spot) word = Some (if nat_lt word.at spot.at then spot_of word else spot)
 
 -- a use further: one word for each kind of offence
-abbrev pub use_step : Task → Found → Use → Found
+abbrev pub use_step : Task → FirstOffences → Use → FirstOffences
 use_step T found item = record {
   duplicate = fold step found.duplicate (repeated_variables item);
   unknown = fold step found.unknown (unknown_words T item);
@@ -28,7 +28,7 @@ use_step T found item = record {
 }
 
 -- a predicate or a function at arguments, and the header that was found for it
-abbrev pub header_step : Task → Scope → Found → Option Header → Ref → List Term → Found
+abbrev pub header_step : Task → Scope → FirstOffences → Option Header → Ref → List Term → FirstOffences
 header_step T scope found header word args = record {
   duplicate = found.duplicate;
   unknown = fold step (fold step found.unknown (unless (is_some header) word)) (flat_map (unknown_term T scope) args);

@@ -8,7 +8,7 @@ ghost use Rattle.p3_tree.specs.Sides as sides;
 ghost use Rattle.p3_offences.specs.Order;
 ghost use Rattle.p3_offences.specs.Order.{refusal_at_spot};
 
-use crate::spot::{Found, Spot};
+use crate::spot::{FirstOffences, Spot};
 use crate::tables::Tables;
 use crate::whole::{domain_found, problem_found};
 use p3_base::{Code, NoMemory, Pos, Refusal, Role, Side, as_number};
@@ -83,7 +83,7 @@ fn of_kind(
 
 /// The first of what was found: a second declaration, an unknown name, a wrong number of
 /// arguments, an argument that does not fit.
-fn in_order(side: Side, domain: &Found, problem: &Found) -> Result<Option<Refusal>, NoMemory>
+fn in_order(side: Side, domain: &FirstOffences, problem: &FirstOffences) -> Result<Option<Refusal>, NoMemory>
     ensures { IfOk result
         (λ first. first ≡ Order.in_order side domain.now problem.now) }
 {

@@ -12,7 +12,7 @@ ghost use Rattle.p3_offences.specs.Spots.{step, use_step, header_step};
 ghost use Rattle.p3_offences.specs.Tables.{IsNumbered, header_of};
 
 use crate::clashes::clashes_noted;
-use crate::spot::{Found, Spot, unless};
+use crate::spot::{FirstOffences, Spot, unless};
 use crate::tables::{Declared, Tables};
 use crate::worded::{Worded, word_key};
 use p3_base::{Name, NoMemory};
@@ -122,16 +122,16 @@ pub(crate) fn words_repeated<T: Worded>(
 /// Variables are declared.
 pub(crate) fn variables_noted(
     alloc: Global,
-    found: Found,
+    found: FirstOffences,
     tables: &Tables,
     variables: &[Typed],
-) -> Result<Found, NoMemory>
+) -> Result<FirstOffences, NoMemory>
     ensures { IfOk result
         (λ after. after ≡ use_step tables.now.task.now found (Variables variables.now)) }
 {
     let duplicate = words_repeated(alloc, found.duplicate, variables)?;
     let unknown = types_unknown(found.unknown, tables, variables);
-    Ok(Found {
+    Ok(FirstOffences {
         duplicate,
         unknown,
         miscount: found.miscount,
@@ -140,10 +140,10 @@ pub(crate) fn variables_noted(
 }
 
 /// Objects are declared.
-pub(crate) fn objects_noted(found: Found, tables: &Tables, objects: &[Typed]) -> Found
+pub(crate) fn objects_noted(found: FirstOffences, tables: &Tables, objects: &[Typed]) -> FirstOffences
     ensures { result ≡ use_step tables.now.task.now found (Objects objects.now) }
 {
-    Found {
+    FirstOffences {
         duplicate: found.duplicate,
         unknown: types_unknown(found.unknown, tables, objects),
         miscount: found.miscount,
@@ -160,13 +160,13 @@ fn miscount_noted(found: Option<Spot>, header: &Header, word: &Ref, args: &[Term
 
 /// A predicate or a function at arguments, whose header was looked up.
 fn header_noted(
-    found: Found,
+    found: FirstOffences,
     tables: &Tables,
     scope: &Scope,
     declared: Option<Declared>,
     word: &Ref,
     args: &[Term],
-) -> Found
+) -> FirstOffences
     requires { IsNumbered tables.now.task.now declared }
     ensures { result ≡ header_step
         tables.now.task.now
@@ -185,7 +185,7 @@ fn header_noted(
             clashes_noted(found.clash, tables, scope, one, args),
         ),
     };
-    Found {
+    FirstOffences {
         duplicate: found.duplicate,
         unknown,
         miscount,
@@ -195,12 +195,12 @@ fn header_noted(
 
 /// A predicate at arguments.
 pub(crate) fn atom_noted(
-    found: Found,
+    found: FirstOffences,
     tables: &Tables,
     scope: &Scope,
     pred: &Ref,
     args: &[Term],
-) -> Found
+) -> FirstOffences
     ensures { result ≡ use_step tables.now.task.now found
         (AtomUse pred.now args.now (scope_seen scope.now)) }
 {
@@ -216,12 +216,12 @@ pub(crate) fn atom_noted(
 
 /// A function at arguments.
 pub(crate) fn function_noted(
-    found: Found,
+    found: FirstOffences,
     tables: &Tables,
     scope: &Scope,
     function: &Ref,
     args: &[Term],
-) -> Found
+) -> FirstOffences
     ensures { result ≡ use_step tables.now.task.now found
         (FunctionUse function.now args.now (scope_seen scope.now)) }
 {
@@ -236,11 +236,11 @@ pub(crate) fn function_noted(
 }
 
 /// A side of an equality.
-pub(crate) fn side_noted(found: Found, tables: &Tables, scope: &Scope, side: &Term) -> Found
+pub(crate) fn side_noted(found: FirstOffences, tables: &Tables, scope: &Scope, side: &Term) -> FirstOffences
     ensures { result
         ≡ use_step tables.now.task.now found (SideUse side.now (scope_seen scope.now)) }
 {
-    Found {
+    FirstOffences {
         duplicate: found.duplicate,
         unknown: term_unknown(found.unknown, tables, scope, side),
         miscount: found.miscount,
@@ -249,10 +249,10 @@ pub(crate) fn side_noted(found: Found, tables: &Tables, scope: &Scope, side: &Te
 }
 
 /// A preference's name in the metric.
-pub(crate) fn name_noted(found: Found, tables: &Tables, name: &Ref) -> Found
+pub(crate) fn name_noted(found: FirstOffences, tables: &Tables, name: &Ref) -> FirstOffences
     ensures { result ≡ use_step tables.now.task.now found (NameUse name.now) }
 {
-    Found {
+    FirstOffences {
         duplicate: found.duplicate,
         unknown: unless(found.unknown, tables.is_preference(&name.name), name),
         miscount: found.miscount,

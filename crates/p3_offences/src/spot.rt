@@ -17,7 +17,7 @@ pub(crate) struct Spot {
 
 /// The first offences that were found.
 #[derive(Clone, Copy)]
-pub(crate) struct Found {
+pub(crate) struct FirstOffences {
     /// The first name that is declared twice.
     pub(crate) duplicate: Option<Spot>,
     /// The first name that is not declared.

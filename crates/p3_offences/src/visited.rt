@@ -8,7 +8,7 @@ ghost use Rattle.p3_names.specs.Uses.{scope_behind, seen_at, uses_at};
 ghost use Rattle.p3_offences.specs.Spots.{use_step};
 
 use crate::notes::{atom_noted, function_noted, name_noted, side_noted, variables_noted};
-use crate::spot::Found;
+use crate::spot::FirstOffences;
 use crate::tables::Tables;
 use p3_base::{List, Name, NoMemory};
 use p3_names::{Scope, Visit, Visits};
@@ -26,11 +26,11 @@ fn total_cost_word(alloc: Global, at: u32) -> Result<Ref, NoMemory>
 /// The function of the total cost, which stands at the offset, with no arguments.
 fn total_cost_noted(
     alloc: Global,
-    found: Found,
+    found: FirstOffences,
     tables: &Tables,
     scope: &Scope,
     at: u32,
-) -> Result<Found, NoMemory>
+) -> Result<FirstOffences, NoMemory>
     ensures { IfOk result
         (λ after. after ≡ use_step tables.now.task.now found
         (FunctionUse (record { name = total_cost; at = at }) [] (scope_seen scope.now))) }
@@ -43,10 +43,10 @@ fn total_cost_noted(
 /// The function of the total cost, outside all variables.
 fn cost_measured_noted(
     alloc: Global,
-    found: Found,
+    found: FirstOffences,
     tables: &Tables,
     at: u32,
-) -> Result<Found, NoMemory>
+) -> Result<FirstOffences, NoMemory>
     ensures { IfOk result
         (λ after. after ≡ use_step tables.now.task.now found
         (FunctionUse (record { name = total_cost; at = at }) [] [])) }
@@ -59,11 +59,11 @@ fn cost_measured_noted(
 /// Variables, which are in scope from here on.
 fn variables_entered<'t>(
     alloc: Global,
-    found: Found,
+    found: FirstOffences,
     tables: &Tables<'t>,
     scope: &mut Scope<'t>,
     variables: &'t [Typed],
-) -> Result<Found, NoMemory>
+) -> Result<FirstOffences, NoMemory>
     ensures scope { OnOk result
         (scope_seen scope.new ≡ scope_of variables.now ++ scope_seen scope.old) }
     ensures found { IfOk result
@@ -77,11 +77,11 @@ fn variables_entered<'t>(
 /// What is found at one.
 fn visit_noted<'t>(
     alloc: Global,
-    found: Found,
+    found: FirstOffences,
     tables: &Tables<'t>,
     scope: &mut Scope<'t>,
     visit: &Visit<'t>,
-) -> Result<Found, NoMemory>
+) -> Result<FirstOffences, NoMemory>
     ensures scope { OnOk result
         (scope_seen scope.new ≡ scope_behind (scope_seen scope.old) visit.now) }
     ensures found { IfOk result
@@ -119,10 +119,10 @@ fn visit_noted<'t>(
 #[tactic(auto, using(p3_names::proofs::UseLemmas::walked_laws))]
 fn items_noted<'t>(
     alloc: Global,
-    found: Found,
+    found: FirstOffences,
     tables: &Tables<'t>,
     visits: &[Visit<'t>],
-) -> Result<Found, NoMemory>
+) -> Result<FirstOffences, NoMemory>
     ensures { IfOk result
         (λ after. after ≡ fold (use_step tables.now.task.now) found (seen_at visits.now).uses) }
 {
@@ -137,10 +137,10 @@ fn items_noted<'t>(
 /// What is found at all that a walk came to.
 pub(crate) fn visits_noted<'t>(
     alloc: Global,
-    found: Found,
+    found: FirstOffences,
     tables: &Tables<'t>,
     visits: &Visits<'t>,
-) -> Result<Found, NoMemory>
+) -> Result<FirstOffences, NoMemory>
     ensures { IfOk result
         (λ after. after ≡ fold (use_step tables.now.task.now) found visits.now.uses) }
 {

@@ -15,7 +15,7 @@ ghost use Rattle.p3_offences.specs.Spots.{step, use_step, spot_of};
 
 use crate::given::values_repeated;
 use crate::notes::{atom_noted, function_noted, objects_noted, variables_noted, words_repeated};
-use crate::spot::{Found, Spot, unless};
+use crate::spot::{FirstOffences, Spot, unless};
 use crate::tables::Tables;
 use crate::visited::visits_noted;
 use p3_base::NoMemory;
@@ -27,10 +27,10 @@ use std::alloc::Global;
 #[tactic(auto, using(crate::proofs::WalkLemmas::walk_laws))]
 fn headers_walked(
     alloc: Global,
-    found: Found,
+    found: FirstOffences,
     tables: &Tables,
     headers: &[Header],
-) -> Result<Found, NoMemory>
+) -> Result<FirstOffences, NoMemory>
     ensures { IfOk result
         (λ after. after ≡ fold (use_step tables.now.task.now) found
         (flat_map header_uses headers.now)) }
@@ -43,7 +43,7 @@ fn headers_walked(
 }
 
 /// What is found in an entry of the initial state.
-fn init_walked(found: Found, tables: &Tables, scope: &Scope, entry: &Init) -> Found
+fn init_walked(found: FirstOffences, tables: &Tables, scope: &Scope, entry: &Init) -> FirstOffences
     requires { scope.now ≡ [] }
     ensures { result ≡ fold (use_step tables.now.task.now) found (init_uses entry.now) }
 {
@@ -58,7 +58,7 @@ fn init_walked(found: Found, tables: &Tables, scope: &Scope, entry: &Init) -> Fo
 
 /// What is found in the initial state.
 #[tactic(auto, using(crate::proofs::WalkLemmas::walk_laws))]
-fn inits_walked(alloc: Global, found: Found, tables: &Tables, entries: &[Init]) -> Found
+fn inits_walked(alloc: Global, found: FirstOffences, tables: &Tables, entries: &[Init]) -> FirstOffences
     ensures { result
         ≡ fold (use_step tables.now.task.now) found (flat_map init_uses entries.now) }
 {
@@ -74,11 +74,11 @@ fn inits_walked(alloc: Global, found: Found, tables: &Tables, entries: &[Init]) 
 #[tactic(auto, using(crate::proofs::WholeLemmas::part_laws))]
 fn domain_walked<'t>(
     alloc: Global,
-    found: Found,
+    found: FirstOffences,
     tables: &Tables<'t>,
     domain: &'t Domain,
     trees: &Visits<'t>,
-) -> Result<Found, NoMemory>
+) -> Result<FirstOffences, NoMemory>
     requires { trees.now ≡ domain_seen domain.now }
     ensures { IfOk result
         (λ after. after ≡ fold (use_step tables.now.task.now) found (domain_uses domain.now)) }
@@ -94,11 +94,11 @@ fn domain_walked<'t>(
 #[tactic(auto, using(crate::proofs::WholeLemmas::part_laws))]
 fn problem_walked<'t>(
     alloc: Global,
-    found: Found,
+    found: FirstOffences,
     tables: &Tables<'t>,
     problem: &'t Problem,
     trees: &Visits<'t>,
-) -> Result<Found, NoMemory>
+) -> Result<FirstOffences, NoMemory>
     requires { trees.now ≡ problem_seen problem.now }
     ensures { IfOk result
         (λ after. after ≡ fold (use_step tables.now.task.now) found (problem_uses problem.now)) }
@@ -151,7 +151,7 @@ pub(crate) fn domain_found<'t>(
     alloc: Global,
     tables: &Tables<'t>,
     trees: &Visits<'t>,
-) -> Result<Found, NoMemory>
+) -> Result<FirstOffences, NoMemory>
     requires { trees.now ≡ domain_seen tables.now.task.now.domain }
     ensures duplicate { IfOk result
         (λ found. found.duplicate
@@ -169,7 +169,7 @@ pub(crate) fn domain_found<'t>(
     let domain = &tables.task().domain;
     let duplicate = declared_twice(alloc, domain)?;
     let miscount = total_costs_noted(domain.functions.items());
-    let found = Found {
+    let found = FirstOffences {
         duplicate,
         unknown: None,
         miscount,
@@ -185,7 +185,7 @@ pub(crate) fn problem_found<'t>(
     alloc: Global,
     tables: &Tables<'t>,
     trees: &Visits<'t>,
-) -> Result<Found, NoMemory>
+) -> Result<FirstOffences, NoMemory>
     requires { trees.now ≡ problem_seen tables.now.task.now.problem }
     ensures duplicate { IfOk result
         (λ found. found.duplicate
@@ -202,7 +202,7 @@ pub(crate) fn problem_found<'t>(
 {
     let problem = &tables.task().problem;
     let duplicate = values_repeated(alloc, None, problem.init.items())?;
-    let found = Found {
+    let found = FirstOffences {
         duplicate,
         unknown: None,
         miscount: None,

@@ -17,7 +17,7 @@ use Rattle.p3_tree.specs.declared.expression.Expression.{Expression, Group', Row
 use Rattle.p3_tree.specs.declared.expression.Expression.TheVariants as expression
 use Rattle.p3_tree.specs.declared.term.Ref.{Ref}
 use Rattle.p3_outline.specs.declared.constructs.Around.{Around}
-use Rattle.p3_outline.specs.declared.constructs.Found.{Found}
+use Rattle.p3_outline.specs.declared.constructs.ConstructFound.{ConstructFound}
 use Rattle.p3_outline.specs.Nodes.{elements}
 use Rattle.p3_outline.specs.Constructs.{the_found, sooner, least_with, is_left_out, begins_as_left_out, may_tell, is_plain, declaring, conditions, the_around, with_head, with_no_head, Finds, either_shown, increase_shown, other_shown, number_shown, timed_shown, compared_shown, metric_shown, head_shown, behind_shown, place_shown, constructs_in, total_time, behind_head, constructs_below}
 
@@ -33,7 +33,7 @@ left_out_first word = sym (test_first begins_as_left_out left_out refl word)
 
 -- ---- the first word
 
-pub least_append : (least : Option Found) (words others : List Ref) → least_with least (words ++ others) ≡ least_with (least_with least words) others
+pub least_append : (least : Option ConstructFound) (words others : List Ref) → least_with least (words ++ others) ≡ least_with (least_with least words) others
 least_append least [] others = refl
 least_append least (word ∷ words) others = least_append (Some (sooner least (the_found word))) words others
 
@@ -48,9 +48,9 @@ least_found least (word ∷ words) =
     ∙ least_found (if nat_lt word.at least.at then word else least) words
 
 pub least_is : (role : Role) (words : List Ref)
-    → option_map (λ (found : Found). refusal_at Construct role found.at found.len) (least_with None words) ≡ option_map (refusal_at_word Construct role) (least_word words)
+    → option_map (λ (found : ConstructFound). refusal_at Construct role found.at found.len) (least_with None words) ≡ option_map (refusal_at_word Construct role) (least_word words)
 least_is role [] = refl
-least_is role (word ∷ words) = ap (option_map (λ (found : Found). refusal_at Construct role found.at found.len)) (least_found word words)
+least_is role (word ∷ words) = ap (option_map (λ (found : ConstructFound). refusal_at Construct role found.at found.len)) (least_found word words)
 
 -- ---- the lists around
 
@@ -94,7 +94,7 @@ shown_as names innermost head behind =
     (word_when (has_name left_out head.name) head) (either_shown (the_around names innermost) head) (increase_shown (the_around names innermost) head) (other_shown head behind) (number_shown head behind)
     (timed_shown (the_around names innermost) head behind) (compared_shown (the_around names innermost) head behind) (metric_shown (the_around names innermost) head)
 
-pub shown_finds : (around : Around) (least first second last : Option Found) (head : Ref) (behind : List Expression)
+pub shown_finds : (around : Around) (least first second last : Option ConstructFound) (head : Ref) (behind : List Expression)
     → first ≡ least_with least (head_shown around head) → second ≡ least_with first (behind_shown head behind) → last ≡ least_with second (place_shown around head behind)
     → Finds around least (λ names innermost. shown_by names innermost head behind) last
 shown_finds around least first second last head behind by_head behind_it by_place names innermost is =
@@ -154,7 +154,7 @@ module _ (around : Around) (head : Ref) (plain : is_plain around head ≡ true) 
   is_none : (names : List Name) → list_all may_tell names ≡ true → has_name names head.name ≡ false
   is_none names all = none_passed may_tell head.name tells_nothing names all
 
-  nothing_shown : (least : Option Found) (behind : List Expression) → Finds around least (λ names innermost. shown_by names innermost head behind) least
+  nothing_shown : (least : Option ConstructFound) (behind : List Expression) → Finds around least (λ names innermost. shown_by names innermost head behind) least
   nothing_shown least behind names innermost place =
       sym (ap (least_with least) (
       shown_as names innermost head behind
@@ -208,7 +208,7 @@ list_shows names innermost (Group' at shape parts) is = of_row names innermost p
 -- ---- one part more
 
 -- what is found in a part, and then in the others
-module _ (names : List Name) (innermost : Option Name) (least next : Option Found) (e : Expression) (rest es : List Expression) (is : es ≡ e ∷ rest) where
+module _ (names : List Name) (innermost : Option Name) (least next : Option ConstructFound) (e : Expression) (rest es : List Expression) (is : es ≡ e ∷ rest) where
   part_next : next ≡ least_with least (constructs names innermost e) → least_with next (constructs_in names innermost rest) ≡ least_with least (constructs_in names innermost es)
   part_next found =
       ap (λ l. least_with l (constructs_in names innermost rest)) found ∙ sym (least_append least (constructs names innermost e) (constructs_in names innermost rest))
@@ -226,8 +226,8 @@ module _ (names : List Name) (innermost : Option Name) (least next : Option Foun
 
 -- ---- in a list
 
-module _ (around inner : Around) (least last : Option Found) (first : Expression) (rest es : List Expression) (is : es ≡ first ∷ rest) where
-  pub below_head : (shown timed : Option Found) (test : Bool) (head : Ref) → Some head ≡ word_place first → inner ≡ with_head head.name around
+module _ (around inner : Around) (least last : Option ConstructFound) (first : Expression) (rest es : List Expression) (is : es ≡ first ∷ rest) where
+  pub below_head : (shown timed : Option ConstructFound) (test : Bool) (head : Ref) → Some head ≡ word_place first → inner ≡ with_head head.name around
       → Finds around least (λ names innermost. shown_by names innermost head rest) shown → test ≡ is_word_called head (codes "total-time") → timed ≡ least_with shown (word_when test head)
       → Finds inner timed (λ names innermost. constructs_in names innermost rest) last → Finds around least (λ names innermost. constructs_below names innermost es) last
   below_head shown timed test head at within by_head tested by_time by_rest names innermost place =

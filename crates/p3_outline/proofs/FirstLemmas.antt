@@ -12,7 +12,7 @@ use Rattle.p3_tree.specs.Tokens.{Token, tokens_of}
 use Rattle.p3_tree.specs.Refusals.Places.{first_some}
 use Rattle.p3_tree.specs.Refusals.Texts.{Inside, construct_in, long_number, refusal_of_bytes, text_refusal, unbalanced_from, too_deep_from}
 use Rattle.p3_tree.specs.declared.expression.Expression.{Expression}
-use Rattle.p3_places.specs.Found.{side_of, half_of}
+use Rattle.p3_places.specs.Searches.{side_of, half_of}
 use Rattle.p3_outline.specs.declared.view.Outline.{Outline}
 use Rattle.p3_outline.specs.Balances.{or_foreign, refusal_of_tokens}
 use Rattle.p3_outline.specs.Nodes.{root_of}

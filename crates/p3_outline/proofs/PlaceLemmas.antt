@@ -25,7 +25,7 @@ use Rattle.p3_tree.specs.declared.expression.Expression.{Expression, Group', Row
 use Rattle.p3_tree.specs.declared.expression.Expression.TheVariants as expression
 use Rattle.p3_tree.specs.declared.term.Ref.{Ref}
 use Rattle.p3_tree.proofs.ReadingLemmas.{tokens_spell}
-use Rattle.p3_places.specs.Found.{side_of, half_of}
+use Rattle.p3_places.specs.Searches.{side_of, half_of}
 use Rattle.p3_outline.specs.First.{IsWithin}
 use Rattle.p3_outline.proofs.SoundLemmas.{same_role}
 use Rattle.p3_base.specs.declared.refusal.Role.TheVariants as role

@@ -8,7 +8,7 @@ use Rattle.p3_base.specs.declared.refusal.Role.{Role}
 use Rattle.p3_base.specs.declared.refusal.Role.TheVariants as role
 use Rattle.p3_base.specs.declared.refusal.Side.{Side}
 use Rattle.p3_tree.specs.Sides.{role_of, level_limit}
-use Rattle.p3_places.specs.Found.{side_of, half_of}
+use Rattle.p3_places.specs.Searches.{side_of, half_of}
 use Rattle.p3_tree.specs.Refusals.Places.{refusal_at}
 use Rattle.p3_tree.specs.Refusals.Texts.{Inside, Behind, unbalanced_from, too_deep_from, refusal_of_bytes, text_refusal}
 use Rattle.p3_tree.specs.Tokens.{Token, Open, Close, Word, tokens_of}

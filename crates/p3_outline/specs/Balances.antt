@@ -7,7 +7,7 @@ use Rattle.p3_base.specs.declared.refusal.Role.{Role}
 use Rattle.p3_tree.specs.Sides.{level_limit}
 use Rattle.p3_tree.specs.Refusals.Places.{refusal_at, refusal_at_token}
 use Rattle.p3_tree.specs.Refusals.Texts.{Inside, Behind, unbalanced_from, too_deep_from}
-use Rattle.p3_places.specs.Found.{side_of}
+use Rattle.p3_places.specs.Searches.{side_of}
 use Rattle.p3_tree.specs.Tokens.{Token, Tokens, Open, Close, Word, tokens_of}
 use Rattle.p3_outline.specs.declared.balance.Scan.{Scan}
 use Rattle.p3_outline.specs.declared.balance.Scan.TheVariants as scan

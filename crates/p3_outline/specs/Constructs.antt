@@ -10,7 +10,7 @@ use Rattle.p3_tree.specs.Refusals.Constructs.{left_out, has_some, word_when, is_
 use Rattle.p3_tree.specs.declared.expression.Expression.{Expression}
 use Rattle.p3_tree.specs.declared.term.Ref.{Ref}
 use Rattle.p3_outline.specs.declared.constructs.Around.{Around}
-use Rattle.p3_outline.specs.declared.constructs.Found.{Found}
+use Rattle.p3_outline.specs.declared.constructs.ConstructFound.{ConstructFound}
 use Rattle.p3_outline.specs.declared.constructs.TextWord.{TextWord}
 use Rattle.p3_outline.specs.declared.view.Node.{Node}
 use Rattle.p3_outline.specs.declared.view.Node.TheVariants as node
@@ -21,15 +21,15 @@ the_word word = record { name = str_to_ascii_lowercase word.text.now; at = word.
 
 -- ---- what is found first
 
-abbrev pub the_found : Ref → Found
+abbrev pub the_found : Ref → ConstructFound
 the_found word = record { at = word.at; len = length word.name }
 
-abbrev pub sooner : Option Found → Found → Found
+abbrev pub sooner : Option ConstructFound → ConstructFound → ConstructFound
 sooner None found = found
 sooner (Some least) found = if nat_lt found.at least.at then found else least
 
 -- the first of what was found and of these words
-abbrev pub least_with : Option Found → List Ref → Option Found
+abbrev pub least_with : Option ConstructFound → List Ref → Option ConstructFound
 least_with least [] = least
 least_with least (word ∷ words) = least_with (Some (sooner least (the_found word))) words
 
@@ -126,7 +126,7 @@ abbrev pub with_no_head : Around → Around
 with_no_head around = record around { is_right_in_init = false }
 
 -- what is found of these words, wherever it is that the lists around are so
-abbrev pub Finds : Around → Option Found → (List Name → Option Name → List Ref) → Option Found → Type 0
+abbrev pub Finds : Around → Option ConstructFound → (List Name → Option Name → List Ref) → Option ConstructFound → Type 0
 Finds around least words found = (names : List Name) (innermost : Option Name) → around ≡ the_around names innermost → found ≡ least_with least (words names innermost)
 
 -- ---- what a list shows
@@ -186,15 +186,15 @@ constructs_below names innermost (first ∷ behind) = behind_head names innermos
 
 -- ---- what is found in them, wherever it is that the lists around are so
 
-abbrev pub FindsShown : Around → Option Found → Ref → List Expression → Option Found → Type 0
+abbrev pub FindsShown : Around → Option ConstructFound → Ref → List Expression → Option ConstructFound → Type 0
 FindsShown around least head behind found = Finds around least (λ names innermost. shown_by names innermost head behind) found
 
-abbrev pub FindsBelow : Around → Option Found → List Expression → Option Found → Type 0
+abbrev pub FindsBelow : Around → Option ConstructFound → List Expression → Option ConstructFound → Type 0
 FindsBelow around least parts found = Finds around least (λ names innermost. constructs_below names innermost parts) found
 
 -- nothing is shown in a list of these elements
 abbrev pub IsQuiet : Around → List Expression → Type 0
-IsQuiet around parts = (least : Option Found) → FindsBelow around least parts least
+IsQuiet around parts = (least : Option ConstructFound) → FindsBelow around least parts least
 
-abbrev pub FindsIn : Around → Option Found → List Expression → Option Found → Type 0
+abbrev pub FindsIn : Around → Option ConstructFound → List Expression → Option ConstructFound → Type 0
 FindsIn around least parts found = Finds around least (λ names innermost. constructs_in names innermost parts) found

@@ -7,7 +7,7 @@ use Rattle.p3_base.specs.declared.refusal.Role.{Role}
 use Rattle.p3_tree.specs.Refusals.Places.{first_some}
 use Rattle.p3_tree.specs.Refusals.Texts.{long_number}
 use Rattle.p3_tree.specs.Tokens.{tokens_of}
-use Rattle.p3_places.specs.Found.{side_of}
+use Rattle.p3_places.specs.Searches.{side_of}
 use Rattle.p3_tree.specs.Names.{Name}
 use Rattle.p3_outline.specs.declared.numbers.AtPoint.{AtPoint}
 

@@ -8,7 +8,7 @@ ghost use Rattle.p3_tree.specs.Sides.{byte_limit};
 ghost use Rattle.p3_tree.specs.Tokens.{Open};
 ghost use Rattle.p3_tree.specs.Refusals.Texts.{long_number};
 ghost use Rattle.p3_lexer.specs.Lexing.{token_of};
-ghost use Rattle.p3_places.specs.Found.{side_of};
+ghost use Rattle.p3_places.specs.Searches.{side_of};
 ghost use Rattle.p3_places.specs.Walks.{place_of, fault_of, Begins, Passes};
 ghost use Rattle.p3_outline.specs.Builds.{the_built, only_if, is_done, nothing_built, end_added, word_added, with_token};
 ghost use Rattle.p3_outline.specs.Nodes.{expressions_in};

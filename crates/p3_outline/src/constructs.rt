@@ -28,7 +28,7 @@ struct TextWord<'a> {
 
 /// The construct of least offset so far: where its word stands, and how many bytes that has.
 #[derive(Clone, Copy)]
-struct Found {
+struct ConstructFound {
     at: u32,
     len: u32,
 }
@@ -158,14 +158,14 @@ fn with_no_head(around: Around) -> Around
 // ---- what a list shows
 
 /// The earlier one of what was found and a word, where the test passes.
-fn least_if(test: bool, least: Option<Found>, word: TextWord<'_>) -> Option<Found>
+fn least_if(test: bool, least: Option<ConstructFound>, word: TextWord<'_>) -> Option<ConstructFound>
     requires short { length word.text.now < 2 ^ 32 }
     ensures { result ≡ least_with least (word_when test (the_word word.entry)) }
 {
     if !test {
         return least;
     }
-    let found = Found {
+    let found = ConstructFound {
         at: word.at,
         len: word.text.len() as u32,
     };
@@ -177,7 +177,7 @@ fn least_if(test: bool, least: Option<Found>, word: TextWord<'_>) -> Option<Foun
 
 /// By its head alone.
 #[tactic(auto, using(crate::proofs::ConstructLemmas::least_append))]
-fn head_shown(around: Around, head: TextWord<'_>, least: Option<Found>) -> Option<Found>
+fn head_shown(around: Around, head: TextWord<'_>, least: Option<ConstructFound>) -> Option<ConstructFound>
     requires short { length head.text.now < 2 ^ 32 }
     ensures { result ≡ least_with least (head_shown around (the_word head.entry)) }
 {
@@ -191,7 +191,7 @@ fn head_shown(around: Around, head: TextWord<'_>, least: Option<Found>) -> Optio
 }
 
 /// An increase of something else than the total cost.
-fn other_increase(is_increase: bool, behind: Parts<'_, '_>, least: Option<Found>) -> Option<Found>
+fn other_increase(is_increase: bool, behind: Parts<'_, '_>, least: Option<ConstructFound>) -> Option<ConstructFound>
     ensures { result
         ≡ least_with least
         (if is_increase then other_increase (expressions_of behind.entry) else []) }
@@ -210,7 +210,7 @@ fn other_increase(is_increase: bool, behind: Parts<'_, '_>, least: Option<Found>
 }
 
 /// A word other than `number` behind a `-`.
-fn not_a_number(behind: Parts<'_, '_>, least: Option<Found>) -> Option<Found>
+fn not_a_number(behind: Parts<'_, '_>, least: Option<ConstructFound>) -> Option<ConstructFound>
     ensures { result ≡ least_with least (not_a_number false (expressions_of behind.entry)) }
 {
     let mut left = behind;
@@ -228,7 +228,7 @@ fn not_a_number(behind: Parts<'_, '_>, least: Option<Found>) -> Option<Found>
     least
 }
 
-fn number_shown(is_functions: bool, behind: Parts<'_, '_>, least: Option<Found>) -> Option<Found>
+fn number_shown(is_functions: bool, behind: Parts<'_, '_>, least: Option<ConstructFound>) -> Option<ConstructFound>
     ensures { result ≡ least_with least
         (if is_functions then not_a_number false (expressions_of behind.entry) else []) }
 {
@@ -241,7 +241,7 @@ fn number_shown(is_functions: bool, behind: Parts<'_, '_>, least: Option<Found>)
 
 /// Behind its head.
 #[tactic(auto, using(crate::proofs::ConstructLemmas::least_append))]
-fn behind_shown(head: TextWord<'_>, behind: Parts<'_, '_>, least: Option<Found>) -> Option<Found>
+fn behind_shown(head: TextWord<'_>, behind: Parts<'_, '_>, least: Option<ConstructFound>) -> Option<ConstructFound>
     ensures { result
         ≡ least_with least (behind_shown (the_word head.entry) (expressions_of behind.entry)) }
 {
@@ -289,8 +289,8 @@ fn place_shown(
     around: Around,
     head: TextWord<'_>,
     behind: Parts<'_, '_>,
-    least: Option<Found>,
-) -> Option<Found>
+    least: Option<ConstructFound>,
+) -> Option<ConstructFound>
     requires short { length head.text.now < 2 ^ 32 }
     ensures { result
         ≡ least_with least
@@ -311,8 +311,8 @@ fn shown(
     around: Around,
     head: TextWord<'_>,
     behind: Parts<'_, '_>,
-    least: Option<Found>,
-) -> Option<Found>
+    least: Option<ConstructFound>,
+) -> Option<ConstructFound>
     requires short { length head.text.now < 2 ^ 32 }
     ensures { FindsShown around least (the_word head.entry) (expressions_of behind.entry) result }
 {
@@ -456,7 +456,7 @@ fn is_quiet(around: Around, list: View<'_, '_>) -> bool
 
 /// Whatever a list and the lists in it show.
 #[cycle(below)]
-fn below(around: Around, parts: Parts<'_, '_>, least: Option<Found>) -> Option<Found>
+fn below(around: Around, parts: Parts<'_, '_>, least: Option<ConstructFound>) -> Option<ConstructFound>
     ensures { FindsBelow around least (expressions_of parts.entry) result }
 {
     let mut behind = parts;
@@ -478,7 +478,7 @@ fn below(around: Around, parts: Parts<'_, '_>, least: Option<Found>) -> Option<F
 
 /// Whatever is shown one after another.
 #[cycle(below)]
-fn all_in(around: Around, parts: Parts<'_, '_>, least: Option<Found>) -> Option<Found>
+fn all_in(around: Around, parts: Parts<'_, '_>, least: Option<ConstructFound>) -> Option<ConstructFound>
     ensures { FindsIn around least (expressions_of parts.entry) result }
 {
     let mut left = parts;
@@ -508,7 +508,7 @@ fn nothing_around() -> Around
     }
 }
 
-fn whole(root: View<'_, '_>) -> Option<Found>
+fn whole(root: View<'_, '_>) -> Option<ConstructFound>
     ensures { result ≡ least_with None (constructs [] None (expression_of root.entry)) }
 {
     match word_of(root) {
@@ -522,7 +522,7 @@ fn whole(root: View<'_, '_>) -> Option<Found>
 pub(crate) fn first_construct(role: Role, root: View<'_, '_>) -> Option<Refusal>
     ensures { result ≡ construct_in role (Some (expression_of root.entry)) }
 {
-    let Found { at, len } = whole(root)?;
+    let ConstructFound { at, len } = whole(root)?;
     Some(Refusal {
         code: Code::Construct,
         pos: Pos { role, offset: at },

@@ -11,7 +11,7 @@ ghost use Rattle.p3_tree.specs.Refusals.Places.{refusal_at};
 ghost use Rattle.p3_tree.specs.Refusals.Texts.{is_too_long, long_number};
 ghost use Rattle.p3_tree.specs.Sides.{digit_limit, place_limit, byte_limit};
 ghost use Rattle.p3_lexer.specs.Lexing.{token_of};
-ghost use Rattle.p3_places.specs.Found.{side_of};
+ghost use Rattle.p3_places.specs.Searches.{side_of};
 ghost use Rattle.p3_outline.specs.Numbers.{is_no_point, the_parts, digit_count, has_places_above};
 
 use p3_base::{Code, Pos, Refusal, Role};

@@ -6,7 +6,7 @@ ghost use Rattle.p3_base.specs.declared.refusal.Side.TheVariants.{Written};
 ghost use Rattle.p3_tree.specs.Expressions.{expression_of_text};
 ghost use Rattle.p3_tree.specs.Sides.{level_limit, byte_limit};
 ghost use Rattle.p3_tree.specs.Refusals.Texts.{text_refusal};
-ghost use Rattle.p3_places.specs.Found.{side_of, half_of};
+ghost use Rattle.p3_places.specs.Searches.{side_of, half_of};
 ghost use Rattle.p3_outline.specs.Balances.{balance_refusal, outline_refusal};
 ghost use Rattle.p3_outline.specs.Outlines.{IsOutline};
 ghost use Rattle.p3_outline.specs.Texts.{IfRefused};

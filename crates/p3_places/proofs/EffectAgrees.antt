@@ -9,7 +9,7 @@ use Rattle.p3_tree.specs.Names.{Name, same_name, total_cost, is_empty}
 use Rattle.p3_tree.specs.Grammar.Words.{◌>>=◌, ListPart, raws, descend, descend_parts, expressions, only, pair, parts_place, is_decimal, is_word, each_at, all_trees}
 use Rattle.p3_tree.specs.Grammar.Lists.{term_place, variables_place}
 use Rattle.p3_tree.specs.Grammar.Formulas.{formula_place, atom_in, AtomText}
-use Rattle.p3_tree.specs.Grammar.Effects.{Found, Parts, function_value_in, amount_place, total_cost_place, all_form, each_form, when_form, delete_form, increase_form, effect_forms, add_form, effect_in, effect_place, effect_or_empty_place}
+use Rattle.p3_tree.specs.Grammar.Effects.{EffectAt, Parts, function_value_in, amount_place, total_cost_place, all_form, each_form, when_form, delete_form, increase_form, effect_forms, add_form, effect_in, effect_place, effect_or_empty_place}
 use Rattle.p3_tree.specs.declared.expression.Expression.{Expression, Group', Row_of-Expression, end_of-Expression, more_of-Expression}
 use Rattle.p3_tree.specs.declared.expression.Expression.TheVariants as expression
 use Rattle.p3_tree.specs.declared.effect.Amount.TheVariants as amount
@@ -116,17 +116,17 @@ abbrev effect_slot : Bool → Slot
 effect_slot free = slot.List (place.Effect free)
 
 -- whether there is an effect where an increase may stand, or may not
-abbrev has : Bool → Found → Bool
+abbrev has : Bool → EffectAt → Bool
 has free found = is_some (found free)
 
-trees_agree : (free : Bool) (parts : Parts) → Agree (has free) (effect_slot free) parts → list_all is_some (map (λ (part : ListPart Found). part.tree free) parts) ≡ list_all (fits (effect_slot free)) (raws parts)
+trees_agree : (free : Bool) (parts : Parts) → Agree (has free) (effect_slot free) parts → list_all is_some (map (λ (part : ListPart EffectAt). part.tree free) parts) ≡ list_all (fits (effect_slot free)) (raws parts)
 trees_agree free [] agree = refl
 trees_agree free (part ∷ parts) agree =
-    ap (λ b. b && list_all is_some (map (λ (part : ListPart Found). part.tree free) parts)) agree.0 ∙ ap (λ b. fits (effect_slot free) part.raw && b) (trees_agree free parts agree.1)
+    ap (λ b. b && list_all is_some (map (λ (part : ListPart EffectAt). part.tree free) parts)) agree.0 ∙ ap (λ b. fits (effect_slot free) part.raw && b) (trees_agree free parts agree.1)
 
 all_fits : (free : Bool) (behind : Parts) → Agree (has free) (effect_slot free) behind → Same (raws behind) (all_form behind free) (Some (rest.Many (effect_slot free)))
 all_fits free behind agree =
-    some_bind (all_trees (map (λ (part : ListPart Found). part.tree free) behind)) effect.All ∙ some_all (map (λ (part : ListPart Found). part.tree free) behind)
+    some_bind (all_trees (map (λ (part : ListPart EffectAt). part.tree free) behind)) effect.All ∙ some_all (map (λ (part : ListPart EffectAt). part.tree free) behind)
     ∙ trees_agree free behind agree ∙ sym (ends_many (effect_slot free) (raws behind))
 
 each_fits : (free : Bool) (behind : Parts) → Agree (has false) (effect_slot false) behind → Same (raws behind) (each_form behind free) (Some (rest.Two (slot.List place.Variables) (effect_slot false)))
@@ -169,7 +169,7 @@ increase_fits false behind = no_increase (pair (raws behind)) total_cost_place a
 
 -- ---- effects
 
-effect_first : (free : Bool) (first : Expression) (tree : Found) (behind : Parts) → Agree (has free) (effect_slot free) behind → Agree (has false) (effect_slot false) behind
+effect_first : (free : Bool) (first : Expression) (tree : EffectAt) (behind : Parts) → Agree (has free) (effect_slot free) behind → Agree (has false) (effect_slot false) behind
     → is_some (effect_in (record { raw = first; tree = tree } ∷ behind) free) ≡ ends (run_parts (state.Head (place.Effect free)) (first ∷ raws behind))
 unfolding run
 effect_first free (Group' at shape row) tree behind agree also = refl
@@ -184,10 +184,10 @@ effect_in_fits : (free : Bool) (parts : Parts) → Agree (has free) (effect_slot
 effect_in_fits free [] agree also = refl
 effect_in_fits free (part ∷ behind) agree also = effect_first free part.raw part.tree behind agree.1 also.1
 
-abbrev no_word : Expression → Found
+abbrev no_word : Expression → EffectAt
 no_word word free = None
 
-abbrev in_parts : Expression → Parts → Found
+abbrev in_parts : Expression → Parts → EffectAt
 in_parts list parts = effect_in parts
 
 mutual

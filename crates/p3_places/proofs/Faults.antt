@@ -24,7 +24,7 @@ use Rattle.p3_lexer.proofs.MarkLemmas.{is_lexed, laid, laid_from, text_lexed}
 use Rattle.p3_places.specs.Machine.{Table, first_fault}
 use Rattle.p3_places.specs.Places.{grammar_table, start}
 use Rattle.p3_places.specs.Walks.{place_of, fault_of}
-use Rattle.p3_places.specs.Found.{FindsIn, Finds}
+use Rattle.p3_places.specs.Searches.{FindsIn, Finds}
 use Rattle.p3_places.specs.declared.state.Place.{Place}
 use Rattle.p3_places.specs.declared.state.Place.TheVariants as place
 use Rattle.p3_places.specs.declared.state.Slot.TheVariants as slot

@@ -12,9 +12,9 @@ use Rattle.p3_places.specs.Places.{grammar_table}
 use Rattle.p3_places.specs.Walks.{the_stack, only_if, fault_among, fault_left, Passes}
 use Rattle.p3_places.specs.declared.state.State.{State}
 use Rattle.p3_places.specs.declared.walk.FaultSearch.{FaultSearch}
-use Rattle.p3_places.specs.declared.walk.Walk.{Walk}
+use Rattle.p3_places.specs.declared.walk.PlacesWalk.{PlacesWalk}
 
-module _ (role : Role) (stack : List State) (token : Token) (later : Tokens) (goes : Bool) (walk : Walk) (is : only_if goes (the_stack walk) ≡ step grammar_table stack (mark_of token)) where
+module _ (role : Role) (stack : List State) (token : Token) (later : Tokens) (goes : Bool) (walk : PlacesWalk) (is : only_if goes (the_stack walk) ≡ step grammar_table stack (mark_of token)) where
   abbrev next_by : Option (List State) → Option Refusal
   next_by reached = option_map (refusal_at_token Malformed role) (or_at token (λ s. first_fault grammar_table s later.tokens) reached)
 

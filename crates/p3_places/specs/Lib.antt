@@ -1,4 +1,4 @@
 pub mod Machine
 pub mod Places
 pub mod Walks
-pub mod Found
+pub mod Searches

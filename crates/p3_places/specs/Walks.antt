@@ -13,10 +13,10 @@ use Rattle.p3_places.specs.declared.state.Place.{Place}
 use Rattle.p3_places.specs.declared.state.Place.TheVariants as place
 use Rattle.p3_places.specs.declared.state.State.{State}
 use Rattle.p3_places.specs.declared.walk.FaultSearch.{FaultSearch}
-use Rattle.p3_places.specs.declared.walk.Walk.{Walk}
+use Rattle.p3_places.specs.declared.walk.PlacesWalk.{PlacesWalk}
 
 -- the lists that are open, the innermost of which stands last in the code
-abbrev pub the_stack : Walk → List State
+abbrev pub the_stack : PlacesWalk → List State
 the_stack walk = reverse walk.open.items
 
 -- what is reached, where it may be

@@ -19,18 +19,18 @@ use std::alloc::Global;
 
 /// The lists that are open, the innermost last. They stand in memory, so that a token moves no state.
 #[derive(Drop)]
-struct Walk {
+struct PlacesWalk {
     open: Vec<State>,
 }
 
-impl Walk {
+impl PlacesWalk {
     /// Stands before the first token of a text that is to stand at the place.
-    fn begun(alloc: Global, place: Place) -> Result<Walk, NoMemory>
+    fn begun(alloc: Global, place: Place) -> Result<PlacesWalk, NoMemory>
         ensures { IfOk result (λ walk. the_stack walk ≡ start place ∷ []) }
     {
         let mut open = Vec::new(alloc);
         open.push(State::Rest(Rest::One(Slot::List(place))))?;
-        Ok(Walk { open })
+        Ok(PlacesWalk { open })
     }
 
     /// Passes a word, where it may stand here.
@@ -93,7 +93,7 @@ fn place_of(role: Role) -> Place
 /// The search for the first token of a text that may not stand where it does, as tokens pass.
 #[derive(Drop)]
 pub struct FaultSearch {
-    walk: Walk,
+    walk: PlacesWalk,
     found: Option<Refusal>,
 }
 
@@ -102,7 +102,7 @@ impl FaultSearch {
     pub fn begin(alloc: Global, role: Role) -> Result<FaultSearch, NoMemory>
         ensures begins { IfOk result (λ search. Begins role search) }
     {
-        let walk = Walk::begun(alloc, place_of(role))?;
+        let walk = PlacesWalk::begun(alloc, place_of(role))?;
         Ok(FaultSearch { walk, found: None })
     }
 

@@ -10,7 +10,7 @@ use Rattle.p3_formula.specs.declared.task.GroundStep.{GroundStep}
 use Rattle.p3_reach.specs.May.{may_hold}
 use Rattle.p3_reach.specs.Closed.{change_keeps, step_keeps}
 use Rattle.p3_reach.specs.Grown.{IsGrown}
-use Rattle.p3_reach.proofs.FoundLaws.{set_grows}
+use Rattle.p3_reach.proofs.DerivedLaws.{set_grows}
 use Rattle.p3_reach.proofs.MayGrows.{hold-grows}
 use Rattle.p3_reach.proofs.ReachLaws.{has-of}
 

@@ -1,4 +1,4 @@
-pub mod FoundLaws
+pub mod DerivedLaws
 pub mod GrownLaws
 pub mod LeadLaws
 pub mod MayGrows

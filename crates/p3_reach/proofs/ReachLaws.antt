@@ -23,7 +23,7 @@ use Rattle.p3_reach.specs.Closed.{IsWithin, change_keeps, step_keeps, IsClosed, 
 use Rattle.p3_reach.specs.Models.{IsModel, Says}
 use Rattle.p3_reach.specs.declared.reach.Marks.{Marks}
 use Rattle.p3_reach.specs.declared.rules.Theory.{Theory}
-use Rattle.p3_reach.proofs.FoundLaws.{is_set-within}
+use Rattle.p3_reach.proofs.DerivedLaws.{is_set-within}
 use Rattle.p3_reach.proofs.LeadLaws.{steps_read}
 
 -- ---- the least closed set

@@ -1,5 +1,5 @@
 pub mod Closed
-pub mod Found
+pub mod Derived
 pub mod Grown
 pub mod May
 pub mod Models

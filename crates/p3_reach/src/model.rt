@@ -4,7 +4,7 @@ ghost use Rattle.std.specs.Prelude.{◌≡◌, ◌<◌, ◌+◌, [], ◌∷◌, 
 ghost use Rattle.std.specs.List.{list_all};
 ghost use Rattle.p3_reach.specs.Models.{IsModel, IsInEachModel};
 ghost use Rattle.p3_reach.specs.Rules.{is_rule_below};
-ghost use Rattle.p3_reach.specs.Found.{Follows, AreFiled, Adds, IsListed};
+ghost use Rattle.p3_reach.specs.Derived.{Follows, AreFiled, Adds, IsListed};
 
 use crate::rules::{Rule, Theory};
 use p3_base::{List, NoMemory};
@@ -13,16 +13,16 @@ use std::alloc::Global;
 
 /// The propositions that were found to hold, also in the order in which they were found.
 #[derive(Debug, Drop)]
-pub struct Found {
+pub struct Derived {
     /// Whether each was found.
     pub held: Bits,
     /// Those that were found.
     pub order: List<usize>,
 }
 
-impl Found {
+impl Derived {
     /// One proposition more, if it was not found before.
-    #[tactic(auto, using(crate::proofs::FoundLaws::adds_laws))]
+    #[tactic(auto, using(crate::proofs::DerivedLaws::adds_laws))]
     fn add(&mut self, proposition: usize) -> Result<(), NoMemory>
         requires within { proposition < length self.old.held }
         requires listed { IsListed self.old }
@@ -37,11 +37,11 @@ impl Found {
 }
 
 /// The facts alone are found.
-fn found_facts(alloc: Global, facts: &[bool]) -> Result<Found, NoMemory>
+fn found_facts(alloc: Global, facts: &[bool]) -> Result<Derived, NoMemory>
     ensures held { IfOk result (λ found. found.held ≡ facts.now) }
     ensures listed { IfOk result IsListed }
 {
-    let mut found = Found {
+    let mut found = Derived {
         held: Bits::new(alloc, facts.len())?,
         order: List::new(alloc),
     };
@@ -89,7 +89,7 @@ fn filed(alloc: Global, theory: &Theory) -> Result<Vec<List<Rule>>, NoMemory>
 }
 
 /// The conclusions of those rules are found whose premises were.
-fn follow(found: &mut Found, rules: &[Rule]) -> Result<(), NoMemory>
+fn follow(found: &mut Derived, rules: &[Rule]) -> Result<(), NoMemory>
     requires within { list_all (is_rule_below (length found.old.held)) rules.now ≡ true }
     requires listed { IsListed found.old }
     ensures { OnOk result (Follows rules.now found.old found.new) }

@@ -21,7 +21,7 @@ use Rattle.p3_regress.specs.Readers.{is_at, is_read_at, mentions, readers_from}
 use Rattle.p3_regress.specs.Regressed.{is_of, regressed}
 use Rattle.p3_regress.specs.Turned.{may_turn, turned, turned_parts, turned_whole, turns_layer}
 use Rattle.p3_regress.specs.declared.readers.PartsByAtom.{PartsByAtom}
-use Rattle.p3_regress.specs.declared.readers.Reader.{Reader}
+use Rattle.p3_regress.specs.declared.readers.PartReader.{PartReader}
 use Rattle.p3_regress.proofs.ReaderLemmas.{any_weaker, inside, mentioned}
 
 -- ---- the parts of a form
@@ -47,7 +47,7 @@ module _ (changes : List Change) (up : Bool) where
 pub ruleset turned_laws = (turned-And, turned-Or, turned-Not)
 
 -- parts that are listed with the atoms that they read are
-pub are_listed : (parts : List Form) (readers : List Reader) → IsPermutation (readers_from 0 (map atoms_of parts)) readers → AreListed parts readers
+pub are_listed : (parts : List Form) (readers : List PartReader) → IsPermutation (readers_from 0 (map atoms_of parts)) readers → AreListed parts readers
 are_listed parts readers same atom place part within reads =
     sym (list_any-IsPermutation (is_at atom place) (readers_from 0 (map atoms_of parts)) readers same)
     ∙ ap (λ n. list_any (is_at atom n) (readers_from 0 (map atoms_of parts))) from_zero

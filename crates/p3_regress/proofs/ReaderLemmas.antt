@@ -12,7 +12,7 @@ use Rattle.std.proofs.lemmas.List.Sorted.{list_any-IsPermutation}
 use Rattle.p3_formula.specs.declared.form.Change.{Change}
 use Rattle.p3_formula.proofs.FormLemmas.{list_any-map}
 use Rattle.p3_regress.specs.Readers.{is_at, is_read_at, mentions, places_of, reader, readers_from, reads_atom}
-use Rattle.p3_regress.specs.declared.readers.Reader.{Reader}
+use Rattle.p3_regress.specs.declared.readers.PartReader.{PartReader}
 
 -- ---- one thing more
 
@@ -44,11 +44,11 @@ readers_next atoms xs index x within at =
 
 -- ---- the readers of one atom
 
-none_kept : (test : Reader → Bool) (readers : List Reader) → All (λ one. test one ≡ false) readers → filter test readers ≡ []
+none_kept : (test : PartReader → Bool) (readers : List PartReader) → All (λ one. test one ≡ false) readers → filter test readers ≡ []
 none_kept test [] all = refl
 none_kept test (one ∷ readers) all = ap (λ b. cond b (one ∷ filter test readers) (filter test readers)) (all 0 one (omega arith)) ∙ none_kept test readers (λ k d within. all (suc k) d (omega (arith, within)))
 
-all_kept : (test : Reader → Bool) (readers : List Reader) → All (λ one. test one ≡ true) readers → filter test readers ≡ readers
+all_kept : (test : PartReader → Bool) (readers : List PartReader) → All (λ one. test one ≡ true) readers → filter test readers ≡ readers
 all_kept test [] all = refl
 all_kept test (one ∷ readers) all = ap (λ b. cond b (one ∷ filter test readers) (filter test readers)) (all 0 one (omega arith)) ∙ ap (λ rest. one ∷ rest) (all_kept test readers (λ k d within. all (suc k) d (omega (arith, within))))
 
@@ -61,27 +61,27 @@ higher a b h = grind (arith, nat_tests)
 between : (a b : ℕ) → nat_lt a b ≡ false → nat_le a b ≡ true → (a == b) ≡ true
 between a b h k = grind (arith, nat_tests)
 
-module _ (atom : ℕ) (readers : List Reader) (start count : ℕ) (bound : start ≤ length readers)
-    (first : IsPartitionPoint (λ (one : Reader). nat_lt one.atom atom ≡ true) (λ (one : Reader). nat_lt one.atom atom ≡ false) readers start) where
-  abbrev rest : List Reader
+module _ (atom : ℕ) (readers : List PartReader) (start count : ℕ) (bound : start ≤ length readers)
+    (first : IsPartitionPoint (λ (one : PartReader). nat_lt one.atom atom ≡ true) (λ (one : PartReader). nat_lt one.atom atom ≡ false) readers start) where
+  abbrev rest : List PartReader
   rest = take (length readers - start) (drop start readers)
 
   rest_is : rest ≡ drop start readers
   rest_is = take_all (length readers - start) (drop start readers) (let l = length-drop start readers in omega (arith, l))
 
-  module _ (small : count ≤ length rest) (second : IsPartitionPoint (λ (one : Reader). nat_le one.atom atom ≡ true) (λ (one : Reader). nat_le one.atom atom ≡ false) rest count) where
+  module _ (small : count ≤ length rest) (second : IsPartitionPoint (λ (one : PartReader). nat_le one.atom atom ≡ true) (λ (one : PartReader). nat_le one.atom atom ≡ false) rest count) where
     front_none : filter (reads_atom atom) (take start readers) ≡ []
     front_none = none_kept (reads_atom atom) (take start readers)
         (λ k d h.
         let l = length-take-le start readers bound in
         let within : k < start = omega (arith, h, l) in
-        ap (λ (one : Reader). one.atom == atom) (get_or-take start readers k d within) ∙ lower _ atom (first.0 k d (omega (arith, within, bound)) within))
+        ap (λ (one : PartReader). one.atom == atom) (get_or-take start readers k d within) ∙ lower _ atom (first.0 k d (omega (arith, within, bound)) within))
 
     back_none : filter (reads_atom atom) (drop count rest) ≡ []
     back_none = none_kept (reads_atom atom) (drop count rest)
         (λ k d h.
         let l = length-drop count rest in
-        ap (λ (one : Reader). one.atom == atom) (get_or-drop count rest k d) ∙ higher _ atom (second.1 (count + k) d (omega arith) (omega (arith, h, l))))
+        ap (λ (one : PartReader). one.atom == atom) (get_or-drop count rest k d) ∙ higher _ atom (second.1 (count + k) d (omega arith) (omega (arith, h, l))))
 
     mid_all : filter (reads_atom atom) (take count rest) ≡ take count rest
     mid_all = all_kept (reads_atom atom) (take count rest)
@@ -90,9 +90,9 @@ module _ (atom : ℕ) (readers : List Reader) (start count : ℕ) (bound : start
         let within : k < count = omega (arith, h, l) in
         let long = ap length rest_is ∙ length-drop start readers in
         let here : get_or (take count rest) k d ≡ get_or readers (start + k) d = get_or-take count rest k d within ∙ ap (λ list. get_or list k d) rest_is ∙ get_or-drop start readers k d in
-        ap (λ (one : Reader). one.atom == atom) here
+        ap (λ (one : PartReader). one.atom == atom) here
         ∙ between _ atom (first.1 (start + k) d (omega arith) (omega (arith, within, small, long)))
-        (ap (λ (one : Reader). nat_le one.atom atom) (sym here ∙ get_or-take count rest k d within) ∙ second.0 k d (omega (arith, within, small)) within))
+        (ap (λ (one : PartReader). nat_le one.atom atom) (sym here ∙ get_or-take count rest k d within) ∙ second.0 k d (omega (arith, within, small)) within))
 
     pub found : take count rest ≡ filter (reads_atom atom) readers
     found =
@@ -203,13 +203,13 @@ module _ (atom : ℕ) where
 -- ---- the places that are read
 
 -- those of the readers of each change's atom
-abbrev pub places_in : List Reader → List Change → List ℕ
+abbrev pub places_in : List PartReader → List Change → List ℕ
 places_in readers changes = flat_map (λ (change : Change). places_of (filter (reads_atom change.atom) readers)) changes
 
-pub read_there : (readers : List Reader) (changes : List Change) (places : List ℕ) → IsPermutation (places_in readers changes) places → (place : ℕ) → mentions place places ≡ is_read_at changes readers place
+pub read_there : (readers : List PartReader) (changes : List Change) (places : List ℕ) → IsPermutation (places_in readers changes) places → (place : ℕ) → mentions place places ≡ is_read_at changes readers place
 read_there readers changes places found place =
     sym (list_any-IsPermutation (λ one. one == place) (places_in readers changes) places found)
     ∙ any-flat_map (λ one. one == place) (λ (change : Change). places_of (filter (reads_atom change.atom) readers)) changes
     ∙ any_alike _ _ (λ (change : Change).
-    list_any-map (λ one. one == place) (λ (one : Reader). one.place) (filter (reads_atom change.atom) readers)
-    ∙ any-filter (λ (one : Reader). one.place == place) (reads_atom change.atom) readers) changes
+    list_any-map (λ one. one == place) (λ (one : PartReader). one.place) (filter (reads_atom change.atom) readers)
+    ∙ any-filter (λ (one : PartReader). one.place == place) (reads_atom change.atom) readers) changes

@@ -6,7 +6,7 @@ use Rattle.p3_formula.specs.declared.form.Form.{Form, items-the_row-Form}
 use Rattle.p3_formula.specs.declared.form.Form.TheVariants.{True, False, Atom, Not', And', Or'}
 use Rattle.p3_regress.specs.Readers.{is_at, mentions}
 use Rattle.p3_regress.specs.declared.readers.PartsByAtom.{PartsByAtom}
-use Rattle.p3_regress.specs.declared.readers.Reader.{Reader}
+use Rattle.p3_regress.specs.declared.readers.PartReader.{PartReader}
 
 abbrev pub parts_of : Form → List Form
 parts_of True = []
@@ -17,7 +17,7 @@ parts_of (And' shape parts) = items-the_row-Form _ parts
 parts_of (Or' shape parts) = items-the_row-Form _ parts
 
 -- each of the parts stands at its place for each atom that it reads
-abbrev pub AreListed : List Form → List Reader → Type 0
+abbrev pub AreListed : List Form → List PartReader → Type 0
 AreListed parts readers =
     (atom place : ℕ) (part : Form) → place < length parts → mentions atom (atoms_of (slice_index_or parts place part)) ≡ true → list_any (is_at atom place) readers ≡ true
 

@@ -7,7 +7,7 @@ ghost use Rattle.p3_regress.specs.Parts.{IndexesParts, parts_of};
 ghost use Rattle.p3_regress.specs.Readers.{is_read_at, mentions, readers_from};
 ghost use Rattle.p3_regress.specs.Sorted.{lent};
 
-use crate::readers::{PartsByAtom, Reader, by_rising_atom, places_read, push_readers};
+use crate::readers::{PartsByAtom, PartReader, by_rising_atom, places_read, push_readers};
 use p3_base::NoMemory;
 use p3_formula::{Change, Form};
 use std::alloc::Global;
@@ -26,7 +26,7 @@ fn parts_of(form: &Form) -> &[Form]
 }
 
 /// Which of the parts read an atom.
-fn readers(alloc: Global, parts: &[Form]) -> Result<Vec<Reader>, NoMemory>
+fn readers(alloc: Global, parts: &[Form]) -> Result<Vec<PartReader>, NoMemory>
     ensures { IfOk result (λ readers. readers.items ≡ readers_from 0 (map atoms_of parts.now)) }
 {
     let mut readers = Vec::new(alloc);

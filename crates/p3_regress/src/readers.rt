@@ -13,7 +13,7 @@ use std::alloc::Global;
 
 /// What stands at a place reads an atom.
 #[derive(Drop)]
-pub struct Reader {
+pub struct PartReader {
     /// The atom.
     pub atom: usize,
     /// The place.
@@ -25,14 +25,14 @@ pub struct Reader {
 #[derive(Drop)]
 pub struct PartsByAtom {
     pub(crate) listed: bool,
-    pub(crate) readers: Vec<Reader>,
+    pub(crate) readers: Vec<PartReader>,
     ghost rising: { AreRising readers.items },
 }
 
 /// The form at the place reads its atoms.
 #[cycle(atoms)]
 #[tactic(auto, using(p3_formula::proofs::AtomLists::atoms_of_laws))]
-pub fn push_readers(readers: &mut Vec<Reader>, form: &Form, place: usize) -> Result<(), NoMemory>
+pub fn push_readers(readers: &mut Vec<PartReader>, form: &Form, place: usize) -> Result<(), NoMemory>
     ensures { OnOk result (readers.new.items
         ≡ readers.old.items ++ map (reader place) (atoms_of form.now)) }
 {
@@ -40,7 +40,7 @@ pub fn push_readers(readers: &mut Vec<Reader>, form: &Form, place: usize) -> Res
         Form::True => Ok(()),
         Form::False => Ok(()),
         Form::Atom(atom) => {
-            readers.push(Reader { atom: *atom, place })?;
+            readers.push(PartReader { atom: *atom, place })?;
             Ok(())
         }
         Form::Not(part) => push_readers(readers, part.get(), place),
@@ -50,7 +50,7 @@ pub fn push_readers(readers: &mut Vec<Reader>, form: &Form, place: usize) -> Res
 
 /// The forms, all at the place, read their atoms.
 #[cycle(atoms)]
-fn push_all_readers(readers: &mut Vec<Reader>, forms: &[Form], place: usize) -> Result<(), NoMemory>
+fn push_all_readers(readers: &mut Vec<PartReader>, forms: &[Form], place: usize) -> Result<(), NoMemory>
     ensures { OnOk result (readers.new.items
         ≡ readers.old.items ++ map (reader place) (flat_map atoms_of forms.now)) }
 {
@@ -61,7 +61,7 @@ fn push_all_readers(readers: &mut Vec<Reader>, forms: &[Form], place: usize) -> 
 }
 
 /// The readers by rising atom.
-pub fn by_rising_atom(readers: Vec<Reader>) -> Result<Vec<Reader>, NoMemory>
+pub fn by_rising_atom(readers: Vec<PartReader>) -> Result<Vec<PartReader>, NoMemory>
     ensures same { IfOk result (λ sorted. IsPermutation readers.items sorted.items) }
     ensures rising { IfOk result (λ sorted. AreRising sorted.items) }
 {
@@ -71,7 +71,7 @@ pub fn by_rising_atom(readers: Vec<Reader>) -> Result<Vec<Reader>, NoMemory>
 }
 
 /// Those of the atom, found by halving.
-fn readers_of(readers: &[Reader], atom: usize) -> &[Reader]
+fn readers_of(readers: &[PartReader], atom: usize) -> &[PartReader]
     requires { AreRising readers.now }
     ensures { result.now ≡ filter (reads_atom atom) readers.now }
 {
@@ -82,7 +82,7 @@ fn readers_of(readers: &[Reader], atom: usize) -> &[Reader]
 }
 
 /// The places of the readers stand behind the others.
-fn push_places(places: &mut Vec<usize>, readers: &[Reader]) -> Result<(), NoMemory>
+fn push_places(places: &mut Vec<usize>, readers: &[PartReader]) -> Result<(), NoMemory>
     ensures { OnOk result (places.new.items ≡ places.old.items ++ places_of readers.now) }
 {
     for reader in readers {
@@ -95,7 +95,7 @@ fn push_places(places: &mut Vec<usize>, readers: &[Reader]) -> Result<(), NoMemo
 /// each time that it is read there.
 pub(crate) fn places_read(
     alloc: Global,
-    readers: &[Reader],
+    readers: &[PartReader],
     changes: &[&Change],
 ) -> Result<Vec<usize>, NoMemory>
     requires { AreRising readers.now }

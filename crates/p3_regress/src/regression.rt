@@ -17,7 +17,7 @@ use crate::changed::atom_after;
 use crate::forms::form_before;
 use crate::memory::Memory;
 use crate::often::{Noted, often_changed};
-use crate::readers::{PartsByAtom, Reader, places_read};
+use crate::readers::{PartsByAtom, PartReader, places_read};
 use crate::sorted::{by_atom, changes_of};
 use crate::turning::{may_turn, may_turn_by, turned};
 use p3_base::{List, NoMemory};
@@ -173,7 +173,7 @@ impl<'e> Regressed<'e> {
 
     /// The places of the readers of an atom that a change of the step names, by rising place. One
     /// may stand several times.
-    pub fn places_read(&self, alloc: Global, readers: &[Reader]) -> Result<Vec<usize>, NoMemory>
+    pub fn places_read(&self, alloc: Global, readers: &[PartReader]) -> Result<Vec<usize>, NoMemory>
         requires { AreRising readers.now }
         ensures read { IfOk result (λ places. (place : ℕ)
             → mentions place places.items ≡ is_read_at self.now.effects readers.now place) }

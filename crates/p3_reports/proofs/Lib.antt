@@ -1,6 +1,6 @@
 pub mod ExplainedLaws
 pub mod FaultLemmas
-pub mod FoundLaws
+pub mod ContentsLaws
 pub mod JoinedLemmas
 pub mod PutLemmas
 pub mod QuantityLemmas

@@ -1,6 +1,6 @@
 pub mod Explained
 pub mod Faults
-pub mod Found
+pub mod Contents
 pub mod Joined
 pub mod Parts
 pub mod Pieces

@@ -16,7 +16,7 @@ ghost use Rattle.p3_tree.specs.Reports.Tasks.{compiled_lines};
 ghost use Rattle.p3_tree.specs.declared.task.Task.{Task};
 ghost use Rattle.p3_reports.specs.Explained.{IsExplainReport, explain_text};
 ghost use Rattle.p3_reports.specs.Faults.{fault_named, fault_of};
-ghost use Rattle.p3_reports.specs.Found.{
+ghost use Rattle.p3_reports.specs.Contents.{
   IsCompileReport,
   IsEmbedReport,
   IsEvaluateReport,

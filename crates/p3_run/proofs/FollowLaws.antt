@@ -22,14 +22,14 @@ use Rattle.p3_run.specs.Changing.{differ, touched_at, touched}
 use Rattle.p3_run.specs.Groups.{Watch, watch_of, watches_of, modals_of, modals_at, modal_at, watch_at, stage_at, later, renewed_at, renewed_all, IsReader, HasShape}
 use Rattle.p3_run.specs.Readers.{readers_at, is_same, AreReaders}
 use Rattle.p3_run.specs.Stages.{stage_of, next_stage, accepting}
-use Rattle.p3_run.specs.declared.readers.Reader.{Reader}
+use Rattle.p3_run.specs.declared.readers.OperatorReader.{OperatorReader}
 use Rattle.p3_run.specs.declared.stages.Stage.{Stage}
 use Rattle.p3_run.proofs.ReaderLaws.{same_reader}
 use Rattle.p3_run.proofs.RenewLaws.{shape_kept}
 use Rattle.p3_run.proofs.StageLaws.{stage_next, stage_twice, stage_stays}
 
 -- the stage of the operator that reads
-abbrev pub stage_in : List Watch → Reader → Stage
+abbrev pub stage_in : List Watch → OperatorReader → Stage
 stage_in watches reader = stage_at (watch_at watches reader.group).stages reader.place
 
 apart : (a b : Bool) → (a && b) ≡ false → (a ≡ true) → b ≡ false
@@ -38,11 +38,11 @@ apart false b e h = absurd (cc)
 
 -- ---- one operator after others were renewed
 
-module _ (G : GroundTask) (state : State) (reader : Reader) (is : IsReader G reader) where
+module _ (G : GroundTask) (state : State) (reader : OperatorReader) (is : IsReader G reader) where
   abbrev N : Stage → Stage
   N stage = next_stage state (modal_at G reader) stage
 
-  one_renewed : (watches : List Watch) (other : Reader) → HasShape G watches → IsReader G other → stage_in (renewed_at G state watches other) reader ≡ cond (is_same reader other) (N (stage_in watches reader)) (stage_in watches reader)
+  one_renewed : (watches : List Watch) (other : OperatorReader) → HasShape G watches → IsReader G other → stage_in (renewed_at G state watches other) reader ≡ cond (is_same reader other) (N (stage_in watches reader)) (stage_in watches reader)
   one_renewed watches other shape is_other = by (cases_eq reader.group other.group) (cases_eq reader.place other.place) where
     within : other.group < length watches
     within = let g = is_other.group in let s = shape.groups in omega (arith, g, s)
@@ -81,7 +81,7 @@ module _ (G : GroundTask) (state : State) (reader : Reader) (is : IsReader G rea
   twice false true s = refl
   twice false false s = refl
 
-  pub all_renewed : (others : List Reader) (watches : List Watch) → HasShape G watches → All (IsReader G) others
+  pub all_renewed : (others : List OperatorReader) (watches : List Watch) → HasShape G watches → All (IsReader G) others
       → stage_in (renewed_all G state watches others) reader ≡ cond (list_any (is_same reader) others) (N (stage_in watches reader)) (stage_in watches reader)
   all_renewed [] watches shape all = refl
   all_renewed (other ∷ others) watches shape all =
@@ -91,12 +91,12 @@ module _ (G : GroundTask) (state : State) (reader : Reader) (is : IsReader G rea
 
 -- shape and names stay
 module _ (G : GroundTask) (state : State) where
-  pub shape_after : (others : List Reader) (watches : List Watch) → HasShape G watches → All (IsReader G) others → HasShape G (renewed_all G state watches others)
+  pub shape_after : (others : List OperatorReader) (watches : List Watch) → HasShape G watches → All (IsReader G) others → HasShape G (renewed_all G state watches others)
   shape_after [] watches shape all = shape
   shape_after (other ∷ others) watches shape all =
       shape_after others (renewed_at G state watches other) (shape_kept G state watches shape other (all 0 other (omega arith))) (λ k d within. all (suc k) d (omega (arith, within)))
 
-  one_name : (watches : List Watch) (other : Reader) (group : ℕ) → other.group < length watches → (watch_at (renewed_at G state watches other) group).name ≡ (watch_at watches group).name
+  one_name : (watches : List Watch) (other : OperatorReader) (group : ℕ) → other.group < length watches → (watch_at (renewed_at G state watches other) group).name ≡ (watch_at watches group).name
   one_name watches other group within = by (cases_eq group other.group) where
     by : (group ≡ other.group) ⊎ (group ≡ other.group → ⊥) → (watch_at (renewed_at G state watches other) group).name ≡ (watch_at watches group).name
     by (inl same) =
@@ -105,7 +105,7 @@ module _ (G : GroundTask) (state : State) where
         ∙ ap (λ g. (watch_at watches g).name) (sym same)
     by (inr other_one) = ap (λ (w : Watch). w.name) (get_or-set_other watches other.group group (later (modal_at G other) state watches other) _ other_one)
 
-  pub names_after : (others : List Reader) (watches : List Watch) (group : ℕ) → HasShape G watches → All (IsReader G) others → (watch_at (renewed_all G state watches others) group).name ≡ (watch_at watches group).name
+  pub names_after : (others : List OperatorReader) (watches : List Watch) (group : ℕ) → HasShape G watches → All (IsReader G) others → (watch_at (renewed_all G state watches others) group).name ≡ (watch_at watches group).name
   names_after [] watches group shape all = refl
   names_after (other ∷ others) watches group shape all =
       let is = all 0 other (omega arith) in
@@ -136,7 +136,7 @@ module _ (G : GroundTask) (W : List State) where
           ap (λ (w : Watch). length w.stages) (get_or-eq_default (watches_of W G) _ (omega (arith, beyond, count)))
           ∙ ap length (sym (get_or-eq_default (modals_of G) [] beyond))
 
-  pub stage_is : (reader : Reader) → IsReader G reader → stage_in (watches_of W G) reader ≡ stage_of W (modal_at G reader)
+  pub stage_is : (reader : OperatorReader) → IsReader G reader → stage_in (watches_of W G) reader ≡ stage_of W (modal_at G reader)
   stage_is reader is =
       ap (λ stages. stage_at stages reader.place) (stages_at reader.group is.group)
       ∙ get_or-map (stage_of W) (modals_at G reader.group) reader.place (AtEnd True) (accepting false) is.place
@@ -152,7 +152,7 @@ same_names G V W (suc k) = by G.soft k where
 
 -- ---- the touched operators
 
-module _ (G : GroundTask) (readers : List (List Reader)) (are : AreReaders G readers) (before next : State) where
+module _ (G : GroundTask) (readers : List (List OperatorReader)) (are : AreReaders G readers) (before next : State) where
   pub at_within : (set : Bool) (atom : ℕ) → All (IsReader G) (touched_at readers next set atom)
   at_within set atom = by (differ (is_set next atom) set) where
     by : (b : Bool) → All (IsReader G) (if b then readers_at readers atom else [])
@@ -163,7 +163,7 @@ module _ (G : GroundTask) (readers : List (List Reader)) (are : AreReaders G rea
   touched_within [] = All-nil (IsReader G)
   touched_within (change ∷ effects) = All-append (IsReader G) (touched_at readers next (is_set before change.atom) change.atom) (touched readers before next effects) (at_within (is_set before change.atom) change.atom) (touched_within effects)
 
-  module _ (reader : Reader) (is : IsReader G reader) (atom : ℕ) (read : is_read (modal_at G reader) atom ≡ true) (changed : differ (is_set next atom) (is_set before atom) ≡ true) where
+  module _ (reader : OperatorReader) (is : IsReader G reader) (atom : ℕ) (read : is_read (modal_at G reader) atom ≡ true) (changed : differ (is_set next atom) (is_set before atom) ≡ true) where
     at_atom : list_any (is_same reader) (touched_at readers next (is_set before atom) atom) ≡ true
     at_atom = ap (λ b. list_any (is_same reader) (if b then readers_at readers atom else [])) changed ∙ are.filed reader is atom read
 
@@ -191,14 +191,14 @@ differ_same false false e h = cc
 
 -- ---- all operators
 
-module _ (G : GroundTask) (readers : List (List Reader)) (are : AreReaders G readers) (V : List State) (before : State) (effects : List Change) where
+module _ (G : GroundTask) (readers : List (List OperatorReader)) (are : AreReaders G readers) (V : List State) (before : State) (effects : List Change) where
   abbrev W : List State
   W = V ++ before ∷ []
 
   abbrev next : State
   next = after before effects
 
-  abbrev those : List Reader
+  abbrev those : List OperatorReader
   those = touched readers before next effects
 
   abbrev watches : List Watch
@@ -212,7 +212,7 @@ module _ (G : GroundTask) (readers : List (List Reader)) (are : AreReaders G rea
   changed_named atom true e changed = e
   changed_named atom false e changed = absurd (differ_same (is_set next atom) (is_set before atom) (is_set-unchanged before effects atom e) changed)
 
-  module _ (reader : Reader) (is : IsReader G reader) where
+  module _ (reader : OperatorReader) (is : IsReader G reader) where
     agree : list_any (is_same reader) those ≡ false → (atom : ℕ) → is_read (modal_at G reader) atom ≡ true → is_set next atom ≡ is_set before atom
     agree none atom read = by (differ (is_set next atom) (is_set before atom)) refl where
       by : (b : Bool) → differ (is_set next atom) (is_set before atom) ≡ b → is_set next atom ≡ is_set before atom
@@ -242,7 +242,7 @@ module _ (G : GroundTask) (readers : List (List Reader)) (are : AreReaders G rea
     stages = ext_get_or (accepting false) (watch_at watches group).stages (watch_at (watches_of (W ++ next ∷ []) G) group).stages
         (shape.places group ∙ sym ((shape_of G (W ++ next ∷ [])).places group))
         (λ place place_lt.
-        let reader : Reader = record { group = group; place = place } in
+        let reader : OperatorReader = record { group = group; place = place } in
         let is : IsReader G reader = record { group = lt; place = let s = shape.places group in omega (arith, place_lt, s) } in
         stage_after reader is ∙ sym (stage_is G (W ++ next ∷ []) reader is))
 

@@ -17,7 +17,7 @@ use Rattle.p3_run.specs.Pending.{AreTakenOf, is_named, is_pending}
 use Rattle.p3_run.specs.Readers.{AreReaders, is_same}
 use Rattle.p3_run.specs.Stages.{accepting, next_stage}
 use Rattle.p3_run.specs.Tallies.{Counted}
-use Rattle.p3_run.specs.declared.readers.Reader.{Reader}
+use Rattle.p3_run.specs.declared.readers.OperatorReader.{OperatorReader}
 use Rattle.p3_run.specs.declared.stages.Stage.{Stage}
 use Rattle.p3_run.proofs.ChangeLaws.{touched_more}
 use Rattle.p3_run.proofs.FollowLaws.{all_renewed, names_after, shape_after, stage_in, touched_within, at_within}
@@ -51,8 +51,8 @@ can_follow_still G by_name state groups groups' tally tally' same_groups same_ta
 
 -- ---- those that were renewed are renewed once more
 
-module _ (G : GroundTask) (state : State) (watches : List Watch) (shape : HasShape G watches) (others more : List Reader) (others_are : All (IsReader G) others) (more_are : All (IsReader G) more)
-    (within : (reader : Reader) → list_any (is_same reader) more ≡ true → list_any (is_same reader) others ≡ true) where
+module _ (G : GroundTask) (state : State) (watches : List Watch) (shape : HasShape G watches) (others more : List OperatorReader) (others_are : All (IsReader G) others) (more_are : All (IsReader G) more)
+    (within : (reader : OperatorReader) → list_any (is_same reader) more ≡ true → list_any (is_same reader) others ≡ true) where
   abbrev once : List Watch
   once = renewed_all G state watches others
 
@@ -65,7 +65,7 @@ module _ (G : GroundTask) (state : State) (watches : List Watch) (shape : HasSha
   shape_again : HasShape G again
   shape_again = shape_after G state more once shape_once more_are
 
-  module _ (reader : Reader) (is : IsReader G reader) where
+  module _ (reader : OperatorReader) (is : IsReader G reader) where
     abbrev N : Stage → Stage
     N stage = next_stage state (modal_at G reader) stage
 
@@ -92,7 +92,7 @@ module _ (G : GroundTask) (state : State) (watches : List Watch) (shape : HasSha
 -- ---- a change of an atom that was looked at
 
 -- what reads a named atom is among the touched ones
-touched_named : (readers : List (List Reader)) (before state : State) (reader : Reader) (atom : ℕ) (effects : List Change) → is_named atom effects ≡ true
+touched_named : (readers : List (List OperatorReader)) (before state : State) (reader : OperatorReader) (atom : ℕ) (effects : List Change) → is_named atom effects ≡ true
     → list_any (is_same reader) (touched_at readers state (is_set before atom) atom) ≡ true → list_any (is_same reader) (touched readers before state effects) ≡ true
 touched_named readers before state reader atom [] named there = absurd (cc)
 touched_named readers before state reader atom (change ∷ effects) named there =
@@ -104,7 +104,7 @@ touched_named readers before state reader atom (change ∷ effects) named there 
     (λ later. or_right (list_any (is_same reader) first) (list_any (is_same reader) (touched readers before state effects)) (touched_named readers before state reader atom effects later there))
     (or_cases (change.atom == atom) (is_named atom effects) named)
 
-module _ (G : GroundTask) (readers : List (List Reader)) (are : AreReaders G readers) (before state : State) (effects : List Change) (place : ℕ) (within : place < length effects) (one : Change) where
+module _ (G : GroundTask) (readers : List (List OperatorReader)) (are : AreReaders G readers) (before state : State) (effects : List Change) (place : ℕ) (within : place < length effects) (one : Change) where
   abbrev change : Change
   change = get_or effects place one
 

@@ -14,7 +14,7 @@ use Rattle.p3_formula.specs.declared.modal.GroundSoft.{GroundSoft}
 use Rattle.p3_formula.specs.declared.task.GroundTask.{GroundTask}
 use Rattle.p3_run.specs.Groups.{Watch, is_met, modals_of, modals_at, modal_at, watch_at, later, renewed_at, IsReader, HasShape, CanRenew}
 use Rattle.p3_run.specs.Tallies.{Counted, recounted, CanAdd, CanRemove}
-use Rattle.p3_run.specs.declared.readers.Reader.{Reader}
+use Rattle.p3_run.specs.declared.readers.OperatorReader.{OperatorReader}
 use Rattle.p3_run.proofs.ReaderLaws.{modal_below}
 use Rattle.p3_run.proofs.TallyLaws.{can_add, can_remove, recount_law}
 
@@ -22,7 +22,7 @@ pub few_groups : (G : GroundTask) → length G.soft ≤ instance_limit → lengt
 few_groups G few = let l : length (map (λ (soft : GroundSoft). soft.parts) G.soft) ≡ length G.soft = simp length-map in omega (arith, l, few)
 
 -- there is a stage for each operator still
-pub shape_kept : (G : GroundTask) (state : State) (watches : List Watch) → HasShape G watches → (reader : Reader) → IsReader G reader → HasShape G (renewed_at G state watches reader)
+pub shape_kept : (G : GroundTask) (state : State) (watches : List Watch) → HasShape G watches → (reader : OperatorReader) → IsReader G reader → HasShape G (renewed_at G state watches reader)
 shape_kept G state watches shape reader is = record { groups = length-set watches reader.group then_is ∙ shape.groups; places = places } where
   then_is : Watch
   then_is = later (modal_at G reader) state watches reader
@@ -38,7 +38,7 @@ shape_kept G state watches shape reader is = record { groups = length-set watche
         ∙ ap (λ (g : ℕ). length (modals_at G g)) (sym same)
     by (inr other) = ap (λ (w : Watch). length w.stages) (get_or-set_other watches reader.group group (later (modal_at G reader) state watches reader) _ other) ∙ shape.places group
 
-module _ (G : GroundTask) (by_name : List ℕ) (state : State) (watches : List Watch) (tally : Counted) (can : CanRenew G by_name state watches tally) (reader : Reader) (is : IsReader G reader) where
+module _ (G : GroundTask) (by_name : List ℕ) (state : State) (watches : List Watch) (tally : Counted) (can : CanRenew G by_name state watches tally) (reader : OperatorReader) (is : IsReader G reader) where
   abbrev watch : Watch
   watch = watch_at watches reader.group
 

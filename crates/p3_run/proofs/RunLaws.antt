@@ -26,7 +26,7 @@ use Rattle.p3_run.specs.Kept.{HasChangesUpTo, CanRun, HasRun}
 use Rattle.p3_run.specs.Runs.{CanBeRun, HasFewPrefs, most_steps, most_prefs, ground_state, ground_fit}
 use Rattle.p3_run.specs.Steps.{HasBodyBelow, HasRoom, false_weight, counted_step, step_weight, prefs_violated, steps_weight}
 use Rattle.p3_run.specs.Tallies.{Counted, IsTally}
-use Rattle.p3_run.specs.declared.readers.Reader.{Reader}
+use Rattle.p3_run.specs.declared.readers.OperatorReader.{OperatorReader}
 use Rattle.p3_run.proofs.FindLaws.{found_has}
 use Rattle.p3_run.proofs.FollowLaws.{all_follow, shape_of}
 use Rattle.p3_run.proofs.SumLaws.{step_counted}
@@ -181,7 +181,7 @@ length-state G weights can plan = ap length (state_is G plan) ∙ length-reached
 
 -- ---- one step more
 
-module _ (G : GroundTask) (weights : Weights) (readers : List (List Reader)) (room : ℕ) (can : CanRun G weights readers room) (plan : GroundPlan)
+module _ (G : GroundTask) (weights : Weights) (readers : List (List OperatorReader)) (room : ℕ) (can : CanRun G weights readers room) (plan : GroundPlan)
     (number : ℕ) (step : GroundStep) (is : step_of G number ≡ Some step) (holds : truth (ground_state G plan) step.pre ≡ true) (price : ℕ) (has : step.cost ≡ Some price) where
   abbrev state : State
   state = ground_state G plan

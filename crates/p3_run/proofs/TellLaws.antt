@@ -19,8 +19,8 @@ use Rattle.p3_run.specs.Stages.{stage_of}
 use Rattle.p3_run.specs.Steps.{counted_step, step_weight, prefs_violated, steps_weight, HasRoom, IsByNumber}
 use Rattle.p3_run.specs.Tallies.{Counted, IsTally}
 use Rattle.p3_run.specs.declared.answers.Verdict.TheVariants.{Goal}
-use Rattle.p3_run.specs.declared.changing.Found.{Found}
-use Rattle.p3_run.specs.declared.readers.Reader.{Reader}
+use Rattle.p3_run.specs.declared.changing.ChangeFound.{ChangeFound}
+use Rattle.p3_run.specs.declared.readers.OperatorReader.{OperatorReader}
 use Rattle.p3_run.proofs.FindLaws.{by_number}
 use Rattle.p3_run.proofs.FollowLaws.{shape_of}
 use Rattle.p3_run.proofs.RenewLaws.{few_groups}
@@ -42,7 +42,7 @@ mapped_position p f xs =
 
 -- ---- what is kept tells
 
-module _ (G : GroundTask) (weights : Weights) (readers : List (List Reader)) (found : List Found) (plan : GroundPlan) (state : State) (watches : List Watch) (soft prefs : Counted) (cost : ℕ)
+module _ (G : GroundTask) (weights : Weights) (readers : List (List OperatorReader)) (found : List ChangeFound) (plan : GroundPlan) (state : State) (watches : List Watch) (soft prefs : Counted) (cost : ℕ)
     (is : IsRunOf G weights readers found plan state watches soft prefs cost) where
   can : CanBeRun G weights
   can = is.can.can
@@ -133,7 +133,7 @@ module _ (G : GroundTask) (weights : Weights) (readers : List (List Reader)) (fo
   can_renew later long = can_follow G weights can (ground_visited G plan) later watches soft long is.run.watches is.run.soft
 
   module _ (number : ℕ) (step : GroundStep) (at : step_of G number ≡ Some step) (holds : truth state step.pre ≡ true) (price : ℕ) (has : step.cost ≡ Some price) (short : length plan < most_steps)
-      (found' : List Found) (state' : State) (watches' : List Watch) (soft' prefs' : Counted)
+      (found' : List ChangeFound) (state' : State) (watches' : List Watch) (soft' prefs' : Counted)
       (room : length found' ≡ length found) (moved : state' ≡ after state step.effects)
       (followed : watches' ≡ renewed_all G state' watches (touched readers state state' step.effects)) (renews : CanRenew G weights.by_name state' watches' soft')
       (preferred : prefs' ≡ counted_step state weights prefs step) where
@@ -181,7 +181,7 @@ module _ (G : GroundTask) (weights : Weights) (can : CanBeRun G weights) where
   pub first_few : length (watches_of (G.initial ∷ []) G) ≤ instance_limit + 1
   first_few = let f = few_groups G can.ready.few in let t = (shape_of G (G.initial ∷ [])).groups in omega (arith, f, t)
 
-  pub first_run : (small : All (λ w. w < 2 ^ 64) weights.by_name) (readers : List (List Reader)) (found : List Found) (state : State) (watches : List Watch) (soft prefs : Counted)
+  pub first_run : (small : All (λ w. w < 2 ^ 64) weights.by_name) (readers : List (List OperatorReader)) (found : List ChangeFound) (state : State) (watches : List Watch) (soft prefs : Counted)
       → AreReaders G readers → All (HasChangesUpTo (length found)) G.steps → state ≡ G.initial → watches ≡ watches_of (G.initial ∷ []) G
       → IsCounted weights.by_name watches soft → prefs ≡ record { counts = replicate (length weights.by_name) 0; worth = 0 }
       → IsRunOf G weights readers found [] state watches soft prefs 0

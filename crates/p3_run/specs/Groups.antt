@@ -14,7 +14,7 @@ use Rattle.p3_formula.specs.declared.modal.GroundSoft.{GroundSoft}
 use Rattle.p3_formula.specs.declared.task.GroundTask.{GroundTask}
 use Rattle.p3_run.specs.Stages.{stage_of, next_stage, accepting}
 use Rattle.p3_run.specs.Tallies.{Counted, IsTally}
-use Rattle.p3_run.specs.declared.readers.Reader.{Reader}
+use Rattle.p3_run.specs.declared.readers.OperatorReader.{OperatorReader}
 use Rattle.p3_run.specs.declared.stages.Stage.{Stage}
 
 -- ---- one group
@@ -66,26 +66,26 @@ watch_at watches group = slice_index_or watches group (record { name = None; sta
 
 -- ---- the operator at a place of a group
 
-abbrev pub modal_at : GroundTask → Reader → GroundModal
+abbrev pub modal_at : GroundTask → OperatorReader → GroundModal
 modal_at G reader = slice_index_or (modals_at G reader.group) reader.place (AtEnd True)
 
 -- there is one
-pub record IsReader (G : GroundTask) (reader : Reader) : Type 0 where
+pub record IsReader (G : GroundTask) (reader : OperatorReader) : Type 0 where
   pub group : reader.group < length (modals_of G)
   pub place : reader.place < length (modals_at G reader.group)
 
 -- it is in one state more
-abbrev pub later : GroundModal → State → List Watch → Reader → Watch
+abbrev pub later : GroundModal → State → List Watch → OperatorReader → Watch
 later modal state watches reader = renewed state modal (watch_at watches reader.group) reader.place
 
-abbrev pub put_renewed : GroundModal → State → List Watch → Reader → List Watch
+abbrev pub put_renewed : GroundModal → State → List Watch → OperatorReader → List Watch
 put_renewed modal state watches reader = slice_set watches reader.group (later modal state watches reader)
 
-abbrev pub renewed_at : GroundTask → State → List Watch → Reader → List Watch
+abbrev pub renewed_at : GroundTask → State → List Watch → OperatorReader → List Watch
 renewed_at G state watches reader = put_renewed (modal_at G reader) state watches reader
 
 -- so are those of a list
-abbrev pub renewed_all : GroundTask → State → List Watch → List Reader → List Watch
+abbrev pub renewed_all : GroundTask → State → List Watch → List OperatorReader → List Watch
 renewed_all G state watches readers = fold (renewed_at G state) watches readers
 
 -- there is a stage for each operator

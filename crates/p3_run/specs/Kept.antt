@@ -11,15 +11,15 @@ use Rattle.p3_run.specs.Readers.{AreReaders}
 use Rattle.p3_run.specs.Runs.{CanBeRun, ground_state, ground_fit, most_steps}
 use Rattle.p3_run.specs.Steps.{prefs_violated, steps_weight}
 use Rattle.p3_run.specs.Tallies.{Counted, IsTally}
-use Rattle.p3_run.specs.declared.changing.Found.{Found}
-use Rattle.p3_run.specs.declared.readers.Reader.{Reader}
+use Rattle.p3_run.specs.declared.changing.ChangeFound.{ChangeFound}
+use Rattle.p3_run.specs.declared.readers.OperatorReader.{OperatorReader}
 
 -- so many changes fit
 abbrev pub HasChangesUpTo : ℕ → GroundStep → Type 0
 HasChangesUpTo room step = length step.effects ≤ room
 
 -- what stays for all steps
-pub record CanRun (G : GroundTask) (weights : Weights) (filed : List (List Reader)) (space : ℕ) : Type 0 where
+pub record CanRun (G : GroundTask) (weights : Weights) (filed : List (List OperatorReader)) (space : ℕ) : Type 0 where
   pub can : CanBeRun G weights
   pub small : All (λ weight. weight < 2 ^ 64) weights.by_name
   pub readers : AreReaders G filed
@@ -36,6 +36,6 @@ pub record HasRun (G : GroundTask) (weights : Weights) (plan : GroundPlan) (curr
   pub cost : spent ≡ ground_cost G plan
 
 -- all that a run keeps
-pub record IsRunOf (G : GroundTask) (weights : Weights) (readers : List (List Reader)) (found : List Found) (plan : GroundPlan) (state : State) (watches : List Watch) (soft prefs : Counted) (cost : ℕ) : Type 0 where
+pub record IsRunOf (G : GroundTask) (weights : Weights) (readers : List (List OperatorReader)) (found : List ChangeFound) (plan : GroundPlan) (state : State) (watches : List Watch) (soft prefs : Counted) (cost : ℕ) : Type 0 where
   pub can : CanRun G weights readers (length found)
   pub run : HasRun G weights plan state watches soft prefs cost

@@ -11,14 +11,14 @@ ghost use Rattle.p3_run.specs.Readers.{AreReaders};
 
 use crate::groups::{Group, renew_all};
 use crate::pending::Pending;
-use crate::readers::Reader;
+use crate::readers::OperatorReader;
 use crate::tallies::Tally;
 use p3_base::List;
 use p3_formula::{Bits, Change, GroundTask, eval};
 
 /// What a change finds in the state before.
 #[derive(Clone, Copy, Drop)]
-pub(crate) struct Found {
+pub(crate) struct ChangeFound {
     /// Whether its condition holds.
     pub(crate) made: bool,
     /// Whether its atom is set.
@@ -26,18 +26,18 @@ pub(crate) struct Found {
 }
 
 /// What the change finds in the state.
-fn look(change: &Change, state: &Bits) -> Found
+fn look(change: &Change, state: &Bits) -> ChangeFound
     requires { IsTrue (is_sized_change (length state.now) change.now) }
     ensures { result ≡ found_in state.now change.now }
 {
-    Found {
+    ChangeFound {
         made: eval(&change.cond, state),
         set: state.get(change.atom),
     }
 }
 
 /// What all changes find.
-fn find_all(all: &mut Vec<Found>, state: &Bits, effects: &[Change])
+fn find_all(all: &mut Vec<ChangeFound>, state: &Bits, effects: &[Change])
     requires room { length effects.now ≤ length all.old.items }
     requires sized { IsTrue (list_all (is_sized_change (length state.now)) effects.now) }
     ensures found { take (length effects.now) all.new.items ≡ map (found_in state.now) effects.now }
@@ -59,7 +59,7 @@ fn make(state: &mut Bits, change: &Change, holds: bool, add: bool)
 }
 
 /// Makes the adds, or else the deletes, whose conditions hold.
-fn make_all(state: &mut Bits, all: &[Found], effects: &[Change], add: bool)
+fn make_all(state: &mut Bits, all: &[ChangeFound], effects: &[Change], add: bool)
     requires { length effects.now ≤ length all.now }
     ensures { (before : State)
         → take (length effects.now) all.now ≡ map (found_in before) effects.now
@@ -73,7 +73,7 @@ fn make_all(state: &mut Bits, all: &[Found], effects: &[Change], add: bool)
 /// Makes all changes at once: an add wins over a delete, and every condition is read in the state
 /// before.
 #[tactic(auto, using(p3_formula::proofs::StepLaws::made_one_by_one))]
-pub(crate) fn change_state(state: &mut Bits, all: &mut Vec<Found>, effects: &[Change])
+pub(crate) fn change_state(state: &mut Bits, all: &mut Vec<ChangeFound>, effects: &[Change])
     requires room { length effects.now ≤ length all.old.items }
     requires sized { IsTrue (list_all (is_sized_change (length state.old)) effects.now) }
     ensures state { state.new ≡ made.after state.old effects.now }
@@ -99,7 +99,7 @@ fn follow_atom(
     task: &GroundTask,
     by_name: &[u64],
     state: &Bits,
-    readers: &[List<Reader>],
+    readers: &[List<OperatorReader>],
     set: bool,
     atom: usize,
 )
@@ -122,9 +122,9 @@ pub(crate) fn follow(
     task: &GroundTask,
     by_name: &[u64],
     state: &Bits,
-    readers: &[List<Reader>],
+    readers: &[List<OperatorReader>],
     pending: &mut Pending,
-    all: &[Found],
+    all: &[ChangeFound],
     effects: &[Change],
 )
     requires can { CanRenew task.now by_name.now state.now groups.old.items tally.old }

@@ -10,7 +10,7 @@ ghost use Rattle.p3_run.specs.Tallies.{CanAdd, CanRemove, recounted};
 ghost use Rattle.std.specs.List.{All};
 
 use crate::modals::modal_at;
-use crate::readers::Reader;
+use crate::readers::OperatorReader;
 use crate::stages::{Stage, fresh, next};
 use crate::tallies::Tally;
 use p3_base::NoMemory;
@@ -161,7 +161,7 @@ struct Turn {
 }
 
 /// The operator at a place of a group is in one state more.
-fn turned(groups: &mut Vec<Group>, modal: &GroundModal, state: &Bits, reader: Reader) -> Turn
+fn turned(groups: &mut Vec<Group>, modal: &GroundModal, state: &Bits, reader: OperatorReader) -> Turn
     requires group { reader.group < length groups.old.items }
     requires place { reader.place
         < length (watched.watch_at groups.old.items reader.group).stages }
@@ -189,7 +189,7 @@ fn renew_at(
     task: &GroundTask,
     by_name: &[u64],
     state: &Bits,
-    reader: Reader,
+    reader: OperatorReader,
 )
     requires can { CanRenew task.now by_name.now state.now groups.old.items tally.old }
     requires reader { IsReader task.now reader }
@@ -209,7 +209,7 @@ pub(crate) fn renew_all(
     task: &GroundTask,
     by_name: &[u64],
     state: &Bits,
-    readers: &[Reader],
+    readers: &[OperatorReader],
 )
     requires can { CanRenew task.now by_name.now state.now groups.old.items tally.old }
     requires readers { All (IsReader task.now) readers.now }

@@ -18,5 +18,5 @@ pub use answers::{Stepped, Verdict};
 pub use finding::step_at;
 pub use modals::{group_count, modal_at, modals_at};
 pub use pending::Pending;
-pub use readers::{Reader, readers_of};
+pub use readers::{OperatorReader, readers_of};
 pub use running::GroundRun;

@@ -5,7 +5,7 @@ ghost use Rattle.std.specs.Prelude.{◌≡◌, ◌<◌, ◌≤◌, length};
 ghost use Rattle.p3_base.specs.Limits.{instance_limit};
 ghost use Rattle.p3_run.specs.Groups as watched;
 
-use crate::readers::Reader;
+use crate::readers::OperatorReader;
 use p3_formula::{GroundModal, GroundTask};
 
 /// How many groups there are.
@@ -29,7 +29,7 @@ pub fn modals_at(task: &GroundTask, group: usize) -> &[GroundModal]
 }
 
 /// The operator that reads.
-pub fn modal_at(task: &GroundTask, reader: Reader) -> &GroundModal
+pub fn modal_at(task: &GroundTask, reader: OperatorReader) -> &GroundModal
     requires { watched.IsReader task.now reader }
     ensures { result.now ≡ watched.modal_at task.now reader }
 {

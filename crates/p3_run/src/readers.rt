@@ -15,7 +15,7 @@ use std::alloc::Global;
 
 /// The operator at a place of a group reads an atom.
 #[derive(Clone, Copy, Debug, Drop)]
-pub struct Reader {
+pub struct OperatorReader {
     /// The group.
     pub group: usize,
     /// The place.
@@ -23,7 +23,7 @@ pub struct Reader {
 }
 
 /// Whether the operator is the last of those.
-fn ends(those: &[Reader], reader: Reader) -> bool
+fn ends(those: &[OperatorReader], reader: OperatorReader) -> bool
     ensures { result ≡ ends reader those.now }
 {
     match those.last() {
@@ -33,7 +33,7 @@ fn ends(those: &[Reader], reader: Reader) -> bool
 }
 
 /// The operator stands behind those, once however often it reads an atom.
-fn push_once(those: &mut List<Reader>, reader: Reader) -> Result<(), NoMemory>
+fn push_once(those: &mut List<OperatorReader>, reader: OperatorReader) -> Result<(), NoMemory>
     ensures { OnOk result (those.new ≡ with_reader reader those.old) }
 {
     if !ends(those.items(), reader) {
@@ -43,7 +43,7 @@ fn push_once(those: &mut List<Reader>, reader: Reader) -> Result<(), NoMemory>
 }
 
 /// The operator reads the atom, where there is one of that number.
-fn push_atom(readers: &mut Vec<List<Reader>>, atom: usize, reader: Reader) -> Result<(), NoMemory>
+fn push_atom(readers: &mut Vec<List<OperatorReader>>, atom: usize, reader: OperatorReader) -> Result<(), NoMemory>
     ensures { OnOk result (readers.new.items ≡ filed reader readers.old.items atom) }
 {
     if atom < readers.len() {
@@ -56,7 +56,7 @@ fn push_atom(readers: &mut Vec<List<Reader>>, atom: usize, reader: Reader) -> Re
 /// The operator reads the atoms of the form.
 #[cycle(atoms)]
 #[tactic(auto, using(p3_formula::proofs::AtomLists::atoms_of_laws))]
-fn push_form(readers: &mut Vec<List<Reader>>, form: &Form, reader: Reader) -> Result<(), NoMemory>
+fn push_form(readers: &mut Vec<List<OperatorReader>>, form: &Form, reader: OperatorReader) -> Result<(), NoMemory>
     ensures { OnOk result
         (readers.new.items ≡ filed_all reader readers.old.items (atoms_of form.now)) }
 {
@@ -72,9 +72,9 @@ fn push_form(readers: &mut Vec<List<Reader>>, form: &Form, reader: Reader) -> Re
 /// The operator reads the atoms of the forms.
 #[cycle(atoms)]
 fn push_forms(
-    readers: &mut Vec<List<Reader>>,
+    readers: &mut Vec<List<OperatorReader>>,
     forms: &[Form],
-    reader: Reader,
+    reader: OperatorReader,
 ) -> Result<(), NoMemory>
     ensures { OnOk result
         (readers.new.items ≡ filed_all reader readers.old.items (flat_map atoms_of forms.now)) }
@@ -88,9 +88,9 @@ fn push_forms(
 /// The operator reads the atoms of its formulas.
 #[tactic(auto, using(p3_base::proofs::OperatorLaws::formulas_unary, p3_base::proofs::OperatorLaws::formulas_binary))]
 fn push_modal(
-    readers: &mut Vec<List<Reader>>,
+    readers: &mut Vec<List<OperatorReader>>,
     modal: &GroundModal,
-    reader: Reader,
+    reader: OperatorReader,
 ) -> Result<(), NoMemory>
     ensures { OnOk result
         (readers.new.items ≡ filed_all reader readers.old.items (modal_atoms modal.now)) }
@@ -106,7 +106,7 @@ fn push_modal(
 
 /// The operators of a group read their atoms.
 fn push_group(
-    readers: &mut Vec<List<Reader>>,
+    readers: &mut Vec<List<OperatorReader>>,
     task: &GroundTask,
     group: usize,
 ) -> Result<(), NoMemory>
@@ -117,13 +117,13 @@ fn push_group(
 {
     let modals = modals_at(task, group);
     for place in 0..modals.len() {
-        push_modal(readers, &modals[place], Reader { group, place })?;
+        push_modal(readers, &modals[place], OperatorReader { group, place })?;
     }
     Ok(())
 }
 
 /// No operator reads an atom.
-fn no_readers(alloc: Global, count: usize) -> Result<Vec<List<Reader>>, NoMemory>
+fn no_readers(alloc: Global, count: usize) -> Result<Vec<List<OperatorReader>>, NoMemory>
     ensures { IfOk result (λ readers. readers.items ≡ replicate count []) }
 {
     let mut readers = Vec::new(alloc);
@@ -138,7 +138,7 @@ fn no_readers(alloc: Global, count: usize) -> Result<Vec<List<Reader>>, NoMemory
 /// # Errors
 ///
 /// Want of memory.
-pub fn readers_of(alloc: Global, task: &GroundTask) -> Result<Vec<List<Reader>>, NoMemory>
+pub fn readers_of(alloc: Global, task: &GroundTask) -> Result<Vec<List<OperatorReader>>, NoMemory>
     requires below { HasAtomsBelow task.now }
     requires few { length task.now.soft ≤ instance_limit }
     ensures { IfOk result (λ readers. AreReaders task.now readers.items) }

@@ -9,13 +9,13 @@ ghost use Rattle.p3_run.specs.Runs as runs;
 ghost use Rattle.p3_run.specs.Runs.{CanBeRun, most_steps};
 
 use crate::answers::{Stepped, Verdict};
-use crate::changing::{Found, change_state, follow};
+use crate::changing::{ChangeFound, change_state, follow};
 use crate::done::DoneSteps;
 use crate::finding::step_at;
 use crate::groups::{Group, groups_of, tally_of};
 use crate::pending::Pending;
 use crate::preferring::count_step;
-use crate::readers::{Reader, readers_of};
+use crate::readers::{OperatorReader, readers_of};
 use crate::tallies::Tally;
 use p3_base::{Direction, List, NoMemory};
 use p3_formula::{Bits, GroundStep, GroundTask, Weights, eval};
@@ -29,11 +29,11 @@ pub struct GroundRun<'a> {
     task: &'a GroundTask,
     weights: &'a Weights,
     // For each atom the operators that read it.
-    readers: Vec<List<Reader>>,
+    readers: Vec<List<OperatorReader>>,
     // The atoms of a step whose readers have still to follow.
     pending: Pending,
     // Room for what the changes of a step find.
-    found: Vec<Found>,
+    found: Vec<ChangeFound>,
     // The numbers of the steps done.
     done: DoneSteps,
     // The state that they lead to.
@@ -235,11 +235,11 @@ fn most_changes(steps: &[GroundStep]) -> usize
 }
 
 /// Room for what the changes of a step find.
-fn room_for(alloc: Global, steps: &[GroundStep]) -> Result<Vec<Found>, NoMemory>
+fn room_for(alloc: Global, steps: &[GroundStep]) -> Result<Vec<ChangeFound>, NoMemory>
     ensures { IfOk result (λ found. All (HasChangesUpTo (length found.items)) steps.now) }
 {
     let most = most_changes(steps);
-    let none = Found {
+    let none = ChangeFound {
         made: false,
         set: false,
     };

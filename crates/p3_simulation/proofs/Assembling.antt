@@ -30,12 +30,12 @@ use Rattle.p3_monitors.specs.Riders.{AreKept}
 use Rattle.p3_simulation.proofs.EndForms.{front_modals, end_count, may_by, settled_soft}
 use Rattle.p3_simulation.proofs.Steps.{are_rising, all_currents, gadgets_of, uncounted}
 use Rattle.p3_simulation.proofs.Walks.{head_or_tail, in_none}
-use Rattle.p3_simulation.proofs.Watched.{all_bits, monitors_rise, are_before, bit_count, set_next, kept_first, clear_behind}
+use Rattle.p3_simulation.proofs.Monitored.{all_bits, monitors_rise, are_before, bit_count, set_next, kept_first, clear_behind}
 use Rattle.p3_simulation.specs.Assembled.{Assembly, IsAssembled}
 use Rattle.p3_simulation.specs.Gadgets.{IsOpen}
 use Rattle.p3_simulation.specs.Naming.{all_numbered, atom_names, question_names, current_name, wide_steps, numbered}
 use Rattle.p3_simulation.specs.Parts.{IsMade}
-use Rattle.p3_simulation.specs.Watching.{all_modals, modals}
+use Rattle.p3_simulation.specs.Monitoring.{all_modals, modals}
 
 -- ---- how many atoms there are
 

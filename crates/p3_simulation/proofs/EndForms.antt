@@ -21,9 +21,9 @@ use Rattle.p3_formula.proofs.NextLaws.{truth-below}
 use Rattle.p3_endphase.specs.declared.phase.SoftEnd.{SoftEnd}
 use Rattle.p3_endphase.specs.Ends.{weight_in, violation}
 use Rattle.p3_monitors.specs.Riders.{AreKept}
-use Rattle.p3_monitors.specs.declared.watching.Monitor.{Monitor}
+use Rattle.p3_monitors.specs.declared.monitoring.Monitor.{Monitor}
 use Rattle.p3_simulation.specs.Parts.{may_end, end_loss, weigh}
-use Rattle.p3_simulation.specs.Watching.{AreMonitors, AreSoftEnds, NoneLeft, OneMore, modals, all_accept}
+use Rattle.p3_simulation.specs.Monitoring.{AreMonitors, AreSoftEnds, NoneLeft, OneMore, modals, all_accept}
 
 accepting : (monitor : Monitor) (W : List State) (state : State) → Kept monitor.base monitor.modal W state → truth state monitor.accept ≡ ground_sat W monitor.modal
 accepting monitor W state kept = ∥∥₁_elim monitor.accepting (Bool-set _ _) (λ accepts. accepts state ∙ accepts_sat monitor.base monitor.modal W state kept)

@@ -9,7 +9,7 @@ use Rattle.p3_formula.specs.Next.{after}
 use Rattle.p3_formula.specs.declared.target.TargetAction.{TargetAction}
 use Rattle.p3_formula.specs.declared.target.Weights.{Weights}
 use Rattle.p3_formula.specs.declared.task.GroundStep.{GroundStep}
-use Rattle.p3_monitors.specs.declared.watching.Monitor.{Monitor}
+use Rattle.p3_monitors.specs.declared.monitoring.Monitor.{Monitor}
 use Rattle.p3_simulation.proofs.Walks.{head_or_tail, in_none, is_head, is_behind}
 use Rattle.p3_simulation.specs.Gadgets.{IsOpen, IsAsking, IsStepGadget, Owns, Narrow, Wide, AreGadgets, NoSteps, Costless, OneStep, AreRising}
 

@@ -20,9 +20,9 @@ use Rattle.p3_formula.proofs.LastingLaws.{satisfied_before}
 use Rattle.p3_formula.proofs.ReadAtoms.{read_below}
 use Rattle.p3_monitors.specs.Guards.{IsGuard}
 use Rattle.p3_monitors.specs.Riders.{AreKept}
-use Rattle.p3_monitors.specs.declared.watching.Monitor.{Monitor}
+use Rattle.p3_monitors.specs.declared.monitoring.Monitor.{Monitor}
 use Rattle.p3_simulation.specs.Parts.{AreBefore}
-use Rattle.p3_simulation.specs.Watching.{AreGuards, NoGuards, Unguarded, Guarded, IsGuardedPre, modals}
+use Rattle.p3_simulation.specs.Monitoring.{AreGuards, NoGuards, Unguarded, Guarded, IsGuardedPre, modals}
 
 -- ---- a precondition with guards
 

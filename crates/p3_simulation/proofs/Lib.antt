@@ -17,6 +17,6 @@ pub mod Sized
 pub mod Spelled
 pub mod Steps
 pub mod Walks
-pub mod Watched
+pub mod Monitored
 pub mod Wide
 pub mod Worked

@@ -14,7 +14,7 @@ use Rattle.p3_endphase.specs.Ends.{moving, IsMove, Settles, AreActions}
 use Rattle.p3_formula.specs.Kept.{AreAt, atom_count, watched}
 use Rattle.p3_monitors.specs.Riders.{AreKept}
 use Rattle.p3_formula.specs.Alike.{AgreeBelow}
-use Rattle.p3_monitors.specs.declared.watching.Monitor.{Monitor}
+use Rattle.p3_monitors.specs.declared.monitoring.Monitor.{Monitor}
 use Rattle.p3_formula.proofs.ReadAtoms.{read_below}
 use Rattle.p3_simulation.proofs.Walks.{head_or_tail, in_none}
 use Rattle.p3_simulation.specs.Parts.{AreBefore}

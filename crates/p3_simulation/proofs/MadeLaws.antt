@@ -18,7 +18,7 @@ use Rattle.p3_endphase.specs.declared.phase.SoftEnd.{SoftEnd}
 use Rattle.p3_endphase.specs.Ends.{IsSingleAt}
 use Rattle.p3_monitors.specs.Riders.{AreKept}
 use Rattle.p3_formula.specs.Alike.{AgreeBelow}
-use Rattle.p3_monitors.specs.declared.watching.Monitor.{Monitor}
+use Rattle.p3_monitors.specs.declared.monitoring.Monitor.{Monitor}
 use Rattle.p3_simulation.proofs.Walks.{counted}
 use Rattle.p3_simulation.proofs.Machine.{Phases}
 use Rattle.p3_simulation.specs.Gadgets.{IsOpen, IsAsking}

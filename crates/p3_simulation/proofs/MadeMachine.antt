@@ -24,7 +24,7 @@ use Rattle.p3_endphase.specs.declared.phase.SoftEnd.{SoftEnd}
 use Rattle.p3_endphase.specs.Ends.{IsSingleAt, Ends, violation, HasOneEnd}
 use Rattle.p3_monitors.specs.Riders.{AreKept, AreRiders, IsRidden, after_all, AreBeside}
 use Rattle.p3_formula.specs.Alike.{AgreeBelow}
-use Rattle.p3_monitors.specs.declared.watching.Monitor.{Monitor}
+use Rattle.p3_monitors.specs.declared.monitoring.Monitor.{Monitor}
 use Rattle.p3_monitors.proofs.RiderLaws.{ride_together}
 use Rattle.p3_formula.proofs.WatchedLaws.{last-next}
 use Rattle.p3_precprefs.specs.Copies as copies

@@ -22,7 +22,7 @@ use Rattle.p3_formula.specs.declared.task.GroundStep.{GroundStep}
 use Rattle.p3_formula.specs.declared.task.GroundTask.{GroundTask}
 use Rattle.p3_endphase.specs.Ends.{AreActions, Settles}
 use Rattle.p3_endphase.specs.declared.phase.SoftEnd.{SoftEnd}
-use Rattle.p3_monitors.specs.declared.watching.Monitor.{Monitor}
+use Rattle.p3_monitors.specs.declared.monitoring.Monitor.{Monitor}
 use Rattle.p3_precprefs.specs.Copies.{IsSublist, Nothing, Keeps, Leaves, both_ways, patterns, violated_lists}
 use Rattle.p3_precprefs.specs.Questions.{AreAnswers}
 use Rattle.p3_precprefs.specs.declared.copies.StepCopy.{StepCopy}

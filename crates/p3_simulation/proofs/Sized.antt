@@ -21,7 +21,7 @@ use Rattle.p3_formula.proofs.FormLemmas.{has_atoms-Atom}
 use Rattle.p3_endphase.specs.Ends as phase
 use Rattle.p3_endphase.specs.declared.phase.SoftEnd.{SoftEnd}
 use Rattle.p3_endphase.proofs.WholeLemmas.{every_atom}
-use Rattle.p3_monitors.specs.declared.watching.Monitor.{Monitor}
+use Rattle.p3_monitors.specs.declared.monitoring.Monitor.{Monitor}
 use Rattle.p3_precprefs.specs.Copies.{HasPartsIn, HasAtomsIn}
 use Rattle.p3_precprefs.specs.Questions.{is_own}
 use Rattle.p3_precprefs.specs.declared.copies.StepCopy.{StepCopy}

@@ -21,18 +21,18 @@ use Rattle.p3_formula.specs.declared.target.Weights.{Weights}
 use Rattle.p3_formula.specs.declared.task.GroundStep.{GroundStep}
 use Rattle.p3_formula.specs.declared.task.GroundTask.{GroundTask}
 use Rattle.p3_formula.proofs.NameLaws.{copy_lifted, other_not_lifted}
-use Rattle.p3_monitors.specs.declared.watching.Monitor.{Monitor}
+use Rattle.p3_monitors.specs.declared.monitoring.Monitor.{Monitor}
 use Rattle.p3_simulation.proofs.Bounds.{below_more, step_more}
 use Rattle.p3_simulation.proofs.Guarded.{own_holds, plain_pre}
 use Rattle.p3_simulation.proofs.Narrow.{copies_turn}
-use Rattle.p3_simulation.proofs.Watched.{Spread, spread}
+use Rattle.p3_simulation.proofs.Monitored.{Spread, spread}
 use Rattle.p3_simulation.proofs.Wide.{asks_turn}
 use Rattle.p3_simulation.specs.Assembled.{AreOfStep, Costless, Narrow, Wide, AreOfSteps, NoSteps, OneStep}
 use Rattle.p3_simulation.specs.Gadgets as gadget
 use Rattle.p3_simulation.specs.Gadgets.{AreGadgets, AreRising}
 use Rattle.p3_simulation.specs.Naming.{wide_steps}
 use Rattle.p3_simulation.specs.Parts.{counted}
-use Rattle.p3_simulation.specs.Watching.{AreMonitors, IsEffects}
+use Rattle.p3_simulation.specs.Monitoring.{AreMonitors, IsEffects}
 
 -- ---- the numbers of the steps
 

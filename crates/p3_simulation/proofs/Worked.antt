@@ -16,14 +16,14 @@ use Rattle.p3_base.specs.declared.operator.Operator.TheVariants.{AtEnd}
 use Rattle.p3_formula.proofs.Worked.{task, weights, target, step, finish, collect, forgo, computes}
 use Rattle.p3_endphase.specs.Ends.{IsMove}
 use Rattle.p3_endphase.specs.declared.phase.SoftEnd.{SoftEnd}
-use Rattle.p3_monitors.specs.declared.watching.Monitor.{Monitor}
+use Rattle.p3_monitors.specs.declared.monitoring.Monitor.{Monitor}
 use Rattle.p3_monitors.proofs.AcceptLaws.{accept_atoms}
 use Rattle.p3_monitors.proofs.UpdateLaws.{at_end_update}
 use Rattle.p3_precprefs.specs.Copies.{HasAtomsIn, Nothing, Keeps}
 use Rattle.p3_precprefs.specs.declared.copies.StepCopy.{StepCopy}
 use Rattle.p3_simulation.proofs.Guarded.{plain_pre}
 use Rattle.p3_simulation.specs.Assembled.{Assembly, IsAssembled, IsSplit, Narrow, NoSteps, OneStep}
-use Rattle.p3_simulation.specs.Watching.{IsEffects, IsGuardedPre, NoMore, Touched, NoneLeft, OneMore}
+use Rattle.p3_simulation.specs.Monitoring.{IsEffects, IsGuardedPre, NoMore, Touched, NoneLeft, OneMore}
 
 pub atom_below : IsModalBelow 1 (AtEnd (Atom 0))
 unfolding computes

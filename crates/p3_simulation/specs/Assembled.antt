@@ -18,12 +18,12 @@ use Rattle.p3_formula.specs.declared.task.GroundTask.{GroundTask}
 use Rattle.p3_endphase.specs.Ends.{AreBelow, IsEndPhase}
 use Rattle.p3_endphase.specs.declared.phase.EndPhase.{EndPhase}
 use Rattle.p3_endphase.specs.declared.phase.SoftEnd.{SoftEnd}
-use Rattle.p3_monitors.specs.declared.watching.Monitor.{Monitor}
+use Rattle.p3_monitors.specs.declared.monitoring.Monitor.{Monitor}
 use Rattle.p3_precprefs.specs.Copies.{HasOneCopy, HasAtomsIn, IsSublist, fitting, patterns, violated_lists}
 use Rattle.p3_precprefs.specs.Questions.{IsChain}
 use Rattle.p3_precprefs.specs.declared.copies.StepCopy.{StepCopy}
 use Rattle.p3_simulation.specs.Naming.{atom_names, pattern, wide_steps}
-use Rattle.p3_simulation.specs.Watching.{all_modals, AreMonitors, AreSoftEnds, IsEffects, IsGuardedPre, all_accept, initial_bits}
+use Rattle.p3_simulation.specs.Monitoring.{all_modals, AreMonitors, AreSoftEnds, IsEffects, IsGuardedPre, all_accept, initial_bits}
 
 -- ---- the actions of a step
 

@@ -12,8 +12,8 @@ use Rattle.p3_formula.specs.declared.target.Weights.{Weights}
 use Rattle.p3_formula.specs.declared.task.GroundStep.{GroundStep}
 use Rattle.p3_precprefs.specs.Copies.{violation}
 use Rattle.p3_monitors.specs.Riders.{AreRiders}
-use Rattle.p3_monitors.specs.declared.watching.Monitor.{Monitor}
-use Rattle.p3_simulation.specs.Watching.{IsGuardedPre}
+use Rattle.p3_monitors.specs.declared.monitoring.Monitor.{Monitor}
+use Rattle.p3_simulation.specs.Monitoring.{IsGuardedPre}
 
 -- the running atom, the first question atom, and how many bits there are
 module _ (go first size : ℕ) where

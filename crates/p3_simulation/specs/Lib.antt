@@ -2,4 +2,4 @@ pub mod Assembled
 pub mod Gadgets
 pub mod Naming
 pub mod Parts
-pub mod Watching
+pub mod Monitoring

@@ -22,9 +22,9 @@ use Rattle.p3_formula.specs.Modals.{IsModalBelow}
 use Rattle.p3_formula.specs.Kept.{atom_count}
 use Rattle.p3_monitors.specs.Riders.{AreKept}
 use Rattle.p3_formula.specs.Alike.{AgreeBelow, AreConditionsBelow}
-use Rattle.p3_monitors.specs.declared.watching.Monitor.{Monitor}
+use Rattle.p3_monitors.specs.declared.monitoring.Monitor.{Monitor}
 use Rattle.p3_simulation.specs.Gadgets.{IsOpen, AreGadgets, AreRising}
-use Rattle.p3_simulation.specs.Watching.{modals}
+use Rattle.p3_simulation.specs.Monitoring.{modals}
 
 -- the step as which an action counts
 abbrev pub counted : GroundTask → TargetAction → Option ℕ

@@ -4,7 +4,7 @@ use Rattle.std.specs.List.{All, filter}
 use Rattle.std.proofs.lemmas.List.{append-nil, map-append, take_more, take_all}
 use Rattle.std.proofs.lemmas.List.Elements.{All-cons, All-filter, All-head, All-nil, All-tail, filter-append}
 use Rattle.p3_numbers.specs.Choices.{choice}
-use Rattle.p3_numbers.specs.declared.goal.Goal.{Goal}
+use Rattle.p3_numbers.specs.declared.goal.NumberedGoal.{NumberedGoal}
 use Rattle.p3_numbers.specs.declared.numbers.Numbers.{Numbers}
 use Rattle.p3_expansion.specs.declared.statics.Statics.{Statics}
 use Rattle.p3_steps.specs.Candidates.{candidates_among}
@@ -14,7 +14,7 @@ kept-or-not : (xs : List ℕ) (x : ℕ) (b : Bool) → (if b then xs ++ x ∷ []
 kept-or-not xs x true = refl
 kept-or-not xs x false = sym (append-nil xs)
 
-module _ (N : Numbers) (S : Statics) (ranges : List ℕ) (goal : Goal) (first : ℕ) (those : List ℕ) where
+module _ (N : Numbers) (S : Statics) (ranges : List ℕ) (goal : NumberedGoal) (first : ℕ) (those : List ℕ) where
   abbrev may_at : ℕ → Bool
   may_at number = may_begin N S (choice N ranges number) goal
 

@@ -11,7 +11,7 @@ use Rattle.std.proofs.lemmas.Nat.{div-add-mod', div-mul-add, mod_below, mod-mul-
 use Rattle.p3_tree.specs.Sides.{step_count_limit}
 use Rattle.p3_numbers.specs.Choices.{choice_count, choice}
 use Rattle.p3_numbers.specs.Slots.{range_at}
-use Rattle.p3_numbers.specs.declared.goal.Goal.{Goal}
+use Rattle.p3_numbers.specs.declared.goal.NumberedGoal.{NumberedGoal}
 use Rattle.p3_numbers.specs.declared.numbers.Numbers.{Numbers}
 use Rattle.p3_expansion.specs.declared.statics.Statics.{Statics}
 use Rattle.p3_steps.specs.Candidates.{first_candidates, candidates_of, may_take, first_taken, taken_behind}
@@ -55,7 +55,7 @@ range-below count k d within =
     subst (λ n. n < count) (sym (get_or-range_with_len 0 count k d inside)) (omega (arith, inside))
 
 -- those that may begin are numbers of choices
-pub candidates-below : (N : Numbers) (S : Statics) (ranges : List ℕ) (goal : Goal) → All (λ number. number < choice_count N ranges) (candidates_of N S ranges goal)
+pub candidates-below : (N : Numbers) (S : Statics) (ranges : List ℕ) (goal : NumberedGoal) → All (λ number. number < choice_count N ranges) (candidates_of N S ranges goal)
 candidates-below N S ranges goal =
     All-filter (λ number. may_begin N S (choice N ranges number) goal) (λ number. number < choice_count N ranges) (range_with_len 0 (choice_count N ranges)) (range-below (choice_count N ranges))
 
@@ -127,7 +127,7 @@ module _ (N : Numbers) where
 
 -- ---- one range more
 
-module _ (N : Numbers) (S : Statics) (goal : Goal) (start ones : List ℕ) (range : ℕ) (single : choice_count N ones ≡ 1) where
+module _ (N : Numbers) (S : Statics) (goal : NumberedGoal) (start ones : List ℕ) (range : ℕ) (single : choice_count N ones ≡ 1) where
   abbrev objects : List ℕ
   objects = range_at N range
 
@@ -220,7 +220,7 @@ module _ (N : Numbers) (ranges : List ℕ) where
       take-less (suc n) (suc m) [] less = refl
       take-less (suc n) (suc m) (x ∷ xs) less = ap (λ more. x ∷ more) (take-less n m xs (omega (arith, less)))
 
-  module _ (S : Statics) (goal : Goal) (place last : ℕ) (on : place ≤ last) (within : last < length ranges) (ones : choice_count N (drop place (take last ranges)) ≡ 1) where
+  module _ (S : Statics) (goal : NumberedGoal) (place last : ℕ) (on : place ≤ last) (within : last < length ranges) (ones : choice_count N (drop place (take last ranges)) ≡ 1) where
     pub count-between : choice_count N (take last ranges) ≡ choice_count N (take place ranges)
     count-between = ap (choice_count N) (before-last place last on within) ∙ count-before N S goal (take place ranges) (drop place (take last ranges)) 0 ones
 
@@ -242,7 +242,7 @@ module _ (N : Numbers) (ranges : List ℕ) where
 
 -- ---- one object more
 
-pub taken-more : (N : Numbers) (S : Statics) (goal : Goal) (slots objects : List ℕ) (first count : ℕ) (taken : List ℕ)
+pub taken-more : (N : Numbers) (S : Statics) (goal : NumberedGoal) (slots objects : List ℕ) (first count : ℕ) (taken : List ℕ)
     → (taken ++ first_taken N S goal slots objects first count) ++ (if may_take N S goal slots objects count then (first + count) ∷ [] else []) ≡ taken ++ first_taken N S goal slots objects first (count + 1)
 taken-more N S goal slots objects first count taken =
     append_assoc taken (first_taken N S goal slots objects first count) _
@@ -255,12 +255,12 @@ taken-more N S goal slots objects first count taken =
     by true = refl
     by false = refl
 
-pub taken-by : (N : Numbers) (S : Statics) (goal : Goal) (slots objects : List ℕ) (first count : ℕ) (taken before : List ℕ) (may : Bool) → may_take N S goal slots objects count ≡ may
+pub taken-by : (N : Numbers) (S : Statics) (goal : NumberedGoal) (slots objects : List ℕ) (first count : ℕ) (taken before : List ℕ) (may : Bool) → may_take N S goal slots objects count ≡ may
     → before ≡ taken ++ first_taken N S goal slots objects first count → before ++ (if may then (first + count) ∷ [] else []) ≡ taken ++ first_taken N S goal slots objects first (count + 1)
 taken-by N S goal slots objects first count taken before may is so_far =
     (λ i. so_far i ++ (if sym is i then (first + count) ∷ [] else [])) ∙ taken-more N S goal slots objects first count taken
 
 -- the choice of no object
-pub none-chosen : (N : Numbers) (S : Statics) (goal : Goal) (may : Bool) → may_begin N S [] goal ≡ may → (if may then 0 ∷ [] else []) ≡ candidates_of N S [] goal
+pub none-chosen : (N : Numbers) (S : Statics) (goal : NumberedGoal) (may : Bool) → may_begin N S [] goal ≡ may → (if may then 0 ∷ [] else []) ≡ candidates_of N S [] goal
 unfolding choice_count choice
 none-chosen N S goal may is = ap (λ passes. if passes then 0 ∷ [] else []) (sym is)

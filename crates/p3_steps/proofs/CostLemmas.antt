@@ -15,8 +15,8 @@ use Rattle.p3_numbers.specs.Slots.{Slots}
 use Rattle.p3_numbers.specs.declared.effect.NumberedAmount.{NumberedAmount}
 use Rattle.p3_numbers.specs.declared.effect.NumberedEffect.{NumberedEffect}
 use Rattle.p3_numbers.specs.declared.effect.NumberedEffect.TheVariants.{Add, Del, All, Each, If, Cost}
-use Rattle.p3_numbers.specs.declared.condition.Argument.{Argument}
-use Rattle.p3_numbers.specs.declared.condition.Condition.{Condition}
+use Rattle.p3_numbers.specs.declared.condition.NumberedArgument.{NumberedArgument}
+use Rattle.p3_numbers.specs.declared.condition.NumberedCondition.{NumberedCondition}
 use Rattle.p3_numbers.specs.declared.task.NumberedValue.{NumberedValue}
 use Rattle.p3_numbers.proofs.EffectLemmas.{numbered_increases-All}
 use Rattle.p3_steps.specs.Costs.{Key, key, is_same_key, units_at, units_given, given_at, amount_at, cost_of, HasValues, AddsValue, entry_at}
@@ -125,11 +125,11 @@ module _ (places : ℕ) (values : List NumberedValue) (slots : Slots) where
       by None = refl
       by (Some x) = ap Some (omega arith)
 
-  pub cost-Add : (predicate : ℕ) (args : List Argument) → cost_of places values slots (Add predicate args) ≡ Some 0
+  pub cost-Add : (predicate : ℕ) (args : List NumberedArgument) → cost_of places values slots (Add predicate args) ≡ Some 0
   unfolding cost_of numbered_increases
   cost-Add predicate args = refl
 
-  pub cost-Del : (predicate : ℕ) (args : List Argument) → cost_of places values slots (Del predicate args) ≡ Some 0
+  pub cost-Del : (predicate : ℕ) (args : List NumberedArgument) → cost_of places values slots (Del predicate args) ≡ Some 0
   unfolding cost_of numbered_increases
   cost-Del predicate args = refl
 
@@ -137,7 +137,7 @@ module _ (places : ℕ) (values : List NumberedValue) (slots : Slots) where
   unfolding cost_of numbered_increases hidden
   cost-Each ranges body = refl
 
-  pub cost-If : (condition : Condition) (body : NumberedEffect) → cost_of places values slots (If condition body) ≡ Some 0
+  pub cost-If : (condition : NumberedCondition) (body : NumberedEffect) → cost_of places values slots (If condition body) ≡ Some 0
   unfolding cost_of numbered_increases hidden
   cost-If condition body = refl
 

@@ -9,10 +9,10 @@ use Rattle.std.proofs.lemmas.List.Folds.{list_any-append, list_all_more, list_al
 use Rattle.std.proofs.lemmas.Slice.Eq.{bytes_eq-Decides}
 use denote.Ref.{Bor}
 use Rattle.p3_numbers.specs.Slots.{Slots, value_of, values_of}
-use Rattle.p3_numbers.specs.declared.condition.Argument.{Argument}
-use Rattle.p3_numbers.specs.declared.condition.Argument.TheVariants.{Slot, Object}
-use Rattle.p3_numbers.specs.declared.condition.Condition.{Condition}
-use Rattle.p3_numbers.specs.declared.goal.Goal.{Goal}
+use Rattle.p3_numbers.specs.declared.condition.NumberedArgument.{NumberedArgument}
+use Rattle.p3_numbers.specs.declared.condition.NumberedArgument.TheVariants.{Slot, Object}
+use Rattle.p3_numbers.specs.declared.condition.NumberedCondition.{NumberedCondition}
+use Rattle.p3_numbers.specs.declared.goal.NumberedGoal.{NumberedGoal}
 use Rattle.p3_numbers.specs.declared.numbers.Numbers.{Numbers}
 use Rattle.p3_expansion.specs.Atoms.{GroundAtom, atom_at}
 use Rattle.p3_expansion.specs.Statics.{is_static, is_decided}
@@ -24,20 +24,20 @@ use Rattle.p3_steps.specs.declared.links.Links.{Links}
 
 -- ---- values of arguments
 
-newest-value : (object : ℕ) (slots : Slots) (arg : Argument) → is_newest (length slots) arg ≡ true → value_of (slots ++ object ∷ []) arg ≡ object
+newest-value : (object : ℕ) (slots : Slots) (arg : NumberedArgument) → is_newest (length slots) arg ≡ true → value_of (slots ++ object ∷ []) arg ≡ object
 newest-value object slots (Slot place) is = ap (λ n. get_or (slots ++ object ∷ []) n 0) (eqb-true place (length slots) is) ∙ get_or-append_seam slots object [] 0
 newest-value object slots (Object number) is = absurd (false≢true is)
 
-older-value : (object : ℕ) (slots : Slots) (arg : Argument) → is_older (length slots) arg ≡ true → value_of (slots ++ object ∷ []) arg ≡ value_of slots arg
+older-value : (object : ℕ) (slots : Slots) (arg : NumberedArgument) → is_older (length slots) arg ≡ true → value_of (slots ++ object ∷ []) arg ≡ value_of slots arg
 older-value object slots (Slot place) is = get_or_append_left slots (object ∷ []) 0 place (ltb-true place (length slots) is)
 older-value object slots (Object number) is = refl
 
-word-value : (predicate : ℕ) (slots : Slots) (args : List Argument) (place : ℕ) (arg : Argument) → place < length args → arg ≡ get_or args place arg
+word-value : (predicate : ℕ) (slots : Slots) (args : List NumberedArgument) (place : ℕ) (arg : NumberedArgument) → place < length args → arg ≡ get_or args place arg
     → word_at (atom_at slots predicate args) (place + 1) ≡ value_of slots arg
 word-value predicate slots args place arg within read =
     ap (word_at (atom_at slots predicate args)) (add-one place) ∙ get_or-map (value_of slots) args place arg 0 within ∙ ap (value_of slots) (sym read)
 
-module _ (count : ℕ) (args : List Argument) (place : ℕ) (d : Argument) (within : place < length args) where
+module _ (count : ℕ) (args : List NumberedArgument) (place : ℕ) (d : NumberedArgument) (within : place < length args) where
   read : get_or args place d ≡ get_or args place (get_or args place d)
   read = get_or_default args place d (get_or args place d) within
 
@@ -52,25 +52,25 @@ module _ (count : ℕ) (args : List Argument) (place : ℕ) (d : Argument) (with
       ∙ sym (word-value predicate slots args place (get_or args place d) within read)
 
 -- with the newest variable's object the objects of all arguments are chosen, and have names where it has one
-ready-chosen : (object : ℕ) (slots : Slots) (arg : Argument) → is_ready (length slots) arg ≡ true → is_chosen (slots ++ object ∷ []) arg ≡ true
+ready-chosen : (object : ℕ) (slots : Slots) (arg : NumberedArgument) → is_ready (length slots) arg ≡ true → is_chosen (slots ++ object ∷ []) arg ≡ true
 ready-chosen object slots (Slot place) is = ap (nat_lt place) (length-append slots (object ∷ [])) ∙ is
 ready-chosen object slots (Object number) is = refl
 
-all-chosen : (object : ℕ) (slots : Slots) (args : List Argument) → list_all (is_ready (length slots)) args ≡ true → are_chosen (slots ++ object ∷ []) args ≡ true
+all-chosen : (object : ℕ) (slots : Slots) (args : List NumberedArgument) → list_all (is_ready (length slots)) args ≡ true → are_chosen (slots ++ object ∷ []) args ≡ true
 all-chosen object slots [] ready = refl
 all-chosen object slots (arg ∷ args) ready =
     let parts = and_parts (is_ready (length slots) arg) (list_all (is_ready (length slots)) args) ready in
     and_from (is_chosen (slots ++ object ∷ []) arg) (are_chosen (slots ++ object ∷ []) args) (ready-chosen object slots arg parts.0) (all-chosen object slots args parts.1)
 
 module _ (N : Numbers) (object : ℕ) (named : nat_lt object (length N.objects) ≡ true) (slots : Slots) where
-  value-named : (arg : Argument) → is_ready (length slots) arg ≡ true → nat_lt (value_of slots arg) (length N.objects) ≡ true → nat_lt (value_of (slots ++ object ∷ []) arg) (length N.objects) ≡ true
+  value-named : (arg : NumberedArgument) → is_ready (length slots) arg ≡ true → nat_lt (value_of slots arg) (length N.objects) ≡ true → nat_lt (value_of (slots ++ object ∷ []) arg) (length N.objects) ≡ true
   value-named (Object number) ready is = is
   value-named (Slot place) ready is = ⊎_elim
       (λ same. ap (λ n. nat_lt n (length N.objects)) (ap (λ n. get_or (slots ++ object ∷ []) n 0) same ∙ get_or-append_seam slots object [] 0) ∙ named)
       (λ differ. ap (λ n. nat_lt n (length N.objects)) (get_or_append_left slots (object ∷ []) 0 place (let low = ltb-true place (length slots + 1) ready in omega (arith, low, differ))) ∙ is)
       (cases_eq place (length slots))
 
-  values-named : (args : List Argument) → list_all (is_ready (length slots)) args ≡ true → list_all (λ one. nat_lt one (length N.objects)) (values_of slots args) ≡ true
+  values-named : (args : List NumberedArgument) → list_all (is_ready (length slots)) args ≡ true → list_all (λ one. nat_lt one (length N.objects)) (values_of slots args) ≡ true
       → list_all (λ one. nat_lt one (length N.objects)) (values_of (slots ++ object ∷ []) args) ≡ true
   values-named [] ready is = refl
   values-named (arg ∷ args) ready is =
@@ -79,7 +79,7 @@ module _ (N : Numbers) (object : ℕ) (named : nat_lt object (length N.objects) 
       and_from (nat_lt (value_of (slots ++ object ∷ []) arg) (length N.objects)) (list_all (λ one. nat_lt one (length N.objects)) (values_of (slots ++ object ∷ []) args))
       (value-named arg here.0 parts.0) (values-named args here.1 parts.1)
 
-  decided-more : (S : Statics) (predicate : ℕ) (args : List Argument) → list_all (is_ready (length slots)) args ≡ true → is_decided N S (atom_at slots predicate args) ≡ true
+  decided-more : (S : Statics) (predicate : ℕ) (args : List NumberedArgument) → list_all (is_ready (length slots)) args ≡ true → is_decided N S (atom_at slots predicate args) ≡ true
       → is_decided N S (atom_at (slots ++ object ∷ []) predicate args) ≡ true
   decided-more S predicate args ready is =
       let parts = and_parts (is_static S predicate) (list_all (λ one. nat_lt one (length N.objects)) (values_of slots args)) is in
@@ -202,9 +202,9 @@ module _ (N : Numbers) (S : Statics) (count place : ℕ) (links : Links) where
           absurd (false≢true (ap not (sym here) ∙ absent))
 
 -- what is missing for a condition that `and` alone joins in a goal is missing for the goal
-pub tells-goal : (N : Numbers) (S : Statics) (goal : Goal) (count : ℕ) (conjuncts : List (Bor Condition)) → AreConjuncts goal conjuncts → (i : ℕ) (one : Bor Condition) → i < length conjuncts → one ≡ get_or conjuncts i one
+pub tells-goal : (N : Numbers) (S : Statics) (goal : NumberedGoal) (count : ℕ) (conjuncts : List (Bor NumberedCondition)) → AreConjuncts goal conjuncts → (i : ℕ) (one : Bor NumberedCondition) → i < length conjuncts → one ≡ get_or conjuncts i one
     → (links : Links) → TellsOf N S count one.now links → Tells N S goal count links
 tells-goal N S goal count conjuncts are i one within read links tells slots object size missing =
     are N S (slots ++ object ∷ [])
-    ∙ list_all_at (λ (conjunct : Bor Condition). may_be N S (slots ++ object ∷ []) conjunct.now true) conjuncts i one within
-    (ap (λ (conjunct : Bor Condition). may_be N S (slots ++ object ∷ []) conjunct.now true) (sym read) ∙ tells slots object size missing)
+    ∙ list_all_at (λ (conjunct : Bor NumberedCondition). may_be N S (slots ++ object ∷ []) conjunct.now true) conjuncts i one within
+    (ap (λ (conjunct : Bor NumberedCondition). may_be N S (slots ++ object ∷ []) conjunct.now true) (sym read) ∙ tells slots object size missing)

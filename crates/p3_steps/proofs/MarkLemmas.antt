@@ -6,7 +6,7 @@ use Rattle.std.proofs.lemmas.Bool.{and_parts, cases_eq, eqb-true, false≢true, 
 use Rattle.std.proofs.lemmas.List.{get_or-set_same, get_or-set_other, length-set, take_more}
 use Rattle.std.proofs.lemmas.List.Folds.{list_any-append}
 use Rattle.p3_numbers.specs.Slots.{Slots}
-use Rattle.p3_numbers.specs.declared.goal.Goal.{Goal}
+use Rattle.p3_numbers.specs.declared.goal.NumberedGoal.{NumberedGoal}
 use Rattle.p3_numbers.specs.declared.numbers.Numbers.{Numbers}
 use Rattle.p3_expansion.specs.declared.statics.Statics.{Statics}
 use Rattle.p3_steps.specs.Candidates.{is_unmarked, Marks, RulesOut, RulesUnmarked}
@@ -62,7 +62,7 @@ module _ (row : List ℕ) (at object : ℕ) (old marks : List Bool) (within : at
           left false is = is
 
 -- what is not among some is not marked where they are
-pub rules-unmarked : (N : Numbers) (S : Statics) (goal : Goal) (slots : Slots) (row : List ℕ) (old marks : List Bool) → length old ≡ length N.objects → RulesOut N S goal slots row → Marks row old marks → RulesUnmarked N S goal slots marks
+pub rules-unmarked : (N : Numbers) (S : Statics) (goal : NumberedGoal) (slots : Slots) (row : List ℕ) (old marks : List Bool) → length old ≡ length N.objects → RulesOut N S goal slots row → Marks row old marks → RulesUnmarked N S goal slots marks
 rules-unmarked N S goal slots row old marks size out marked object is =
     let parts = and_parts (nat_lt object (length marks)) (not (get_or marks object false)) is in
     out object (let low = ltb-true object (length marks) parts.0 in let same = marked.size in omega (arith, low, same, size)) (by (list_any (λ one. one == object) row) refl)

@@ -14,7 +14,7 @@ use Rattle.p3_formula.specs.declared.task.GroundStep.{GroundStep}
 use Rattle.p3_numbers.specs.Choices.{choice, choice_count}
 use Rattle.p3_numbers.specs.Goals.{preferences}
 use Rattle.p3_numbers.specs.Slots.{Slots}
-use Rattle.p3_numbers.specs.declared.goal.Goal.{Goal}
+use Rattle.p3_numbers.specs.declared.goal.NumberedGoal.{NumberedGoal}
 use Rattle.p3_numbers.specs.declared.numbers.Numbers.{Numbers}
 use Rattle.p3_numbers.specs.declared.task.NumberedAction.{NumberedAction}
 use Rattle.p3_numbers.specs.declared.task.NumberedTask.{NumberedTask}
@@ -59,7 +59,7 @@ module _ (X : NumberedTask) (S : Statics) (places : ℕ) where
   }
 
   module _ (planned : PlannedStep) (slots : Slots) (same : slots ≡ slots_of N planned) where
-    abbrev goal : Goal
+    abbrev goal : NumberedGoal
     goal = planned.action.pre
 
     covers-pre : Covers (step_atoms N planned) (hard_atoms N (slots_of N planned) goal)

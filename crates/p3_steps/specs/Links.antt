@@ -2,10 +2,10 @@
 use Rattle.std.specs.Prelude.{◌≡◌, ℕ, ◌+◌, ◌==◌, nat_lt, Bool, true, false, not, ◌&&◌, ◌||◌, List, [], ◌∷◌, ◌++◌, length, slice_index_or}
 use Rattle.std.specs.List.{list_any, list_all}
 use Rattle.p3_numbers.specs.Slots.{Slots}
-use Rattle.p3_numbers.specs.declared.condition.Argument.{Argument}
-use Rattle.p3_numbers.specs.declared.condition.Argument.TheVariants.{Slot, Object}
-use Rattle.p3_numbers.specs.declared.condition.Condition.{Condition}
-use Rattle.p3_numbers.specs.declared.goal.Goal.{Goal}
+use Rattle.p3_numbers.specs.declared.condition.NumberedArgument.{NumberedArgument}
+use Rattle.p3_numbers.specs.declared.condition.NumberedArgument.TheVariants.{Slot, Object}
+use Rattle.p3_numbers.specs.declared.condition.NumberedCondition.{NumberedCondition}
+use Rattle.p3_numbers.specs.declared.goal.NumberedGoal.{NumberedGoal}
 use Rattle.p3_numbers.specs.declared.numbers.Numbers.{Numbers}
 use Rattle.p3_expansion.specs.Atoms.{GroundAtom, atom_at}
 use Rattle.p3_expansion.specs.Statics.{is_decided}
@@ -16,17 +16,17 @@ use Rattle.p3_steps.specs.declared.links.Links.{Links}
 -- ---- arguments, where so many variables have their objects and one more is to get its
 
 -- it is the newest variable
-abbrev pub is_newest : ℕ → Argument → Bool
+abbrev pub is_newest : ℕ → NumberedArgument → Bool
 is_newest count (Slot place) = place == count
 is_newest count (Object number) = false
 
 -- it is an older variable
-abbrev pub is_older : ℕ → Argument → Bool
+abbrev pub is_older : ℕ → NumberedArgument → Bool
 is_older count (Slot place) = nat_lt place count
 is_older count (Object number) = false
 
 -- it is no later variable
-abbrev pub is_ready : ℕ → Argument → Bool
+abbrev pub is_ready : ℕ → NumberedArgument → Bool
 is_ready count (Slot place) = nat_lt place (count + 1)
 is_ready count (Object number) = true
 
@@ -36,11 +36,11 @@ abbrev pub word_at : GroundAtom → ℕ → ℕ
 word_at atom place = slice_index_or atom place 0
 
 -- the newest variable's object is the word at the place
-abbrev pub IsNewestPlace : ℕ → List Argument → ℕ → Type 0
+abbrev pub IsNewestPlace : ℕ → List NumberedArgument → ℕ → Type 0
 IsNewestPlace count args place = (predicate object : ℕ) (slots : Slots) → length slots ≡ count → word_at (atom_at (slots ++ object ∷ []) predicate args) place ≡ object
 
 -- the newest variable's object is not the word at the place
-abbrev pub IsKeyPlace : ℕ → List Argument → ℕ → Type 0
+abbrev pub IsKeyPlace : ℕ → List NumberedArgument → ℕ → Type 0
 IsKeyPlace count args place = (predicate object : ℕ) (slots : Slots) → length slots ≡ count → word_at (atom_at (slots ++ object ∷ []) predicate args) place ≡ word_at (atom_at slots predicate args) place
 
 -- ---- files
@@ -78,12 +78,12 @@ is_missing N S links slots object =
     && (nat_lt object (length N.objects) && not (list_any (λ one. one == object) (row_at links slots))))
 
 -- the condition cannot hold with an object that is missing
-abbrev pub TellsOf : Numbers → Statics → ℕ → Condition → Links → Type 0
+abbrev pub TellsOf : Numbers → Statics → ℕ → NumberedCondition → Links → Type 0
 TellsOf N S count condition links = (slots : Slots) (object : ℕ) → length slots ≡ count → is_missing N S links slots object ≡ true → may_be N S (slots ++ object ∷ []) condition true ≡ false
 
-abbrev pub TellsOfAtom : Numbers → Statics → ℕ → ℕ → List Argument → Links → Type 0
+abbrev pub TellsOfAtom : Numbers → Statics → ℕ → ℕ → List NumberedArgument → Links → Type 0
 TellsOfAtom N S count predicate args links = (slots : Slots) (object : ℕ) → length slots ≡ count → is_missing N S links slots object ≡ true → atom_may N S (slots ++ object ∷ []) predicate args true ≡ false
 
 -- nor can the goal begin
-abbrev pub Tells : Numbers → Statics → Goal → ℕ → Links → Type 0
+abbrev pub Tells : Numbers → Statics → NumberedGoal → ℕ → Links → Type 0
 Tells N S goal count links = (slots : Slots) (object : ℕ) → length slots ≡ count → is_missing N S links slots object ≡ true → may_begin N S (slots ++ object ∷ []) goal ≡ false

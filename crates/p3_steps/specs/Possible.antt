@@ -6,12 +6,12 @@ use Rattle.p3_numbers.specs.Conditions.{met}
 use Rattle.p3_numbers.specs.Folds.{fold_condition, fold_goal}
 use Rattle.p3_numbers.specs.Goals.{hard_met}
 use Rattle.p3_numbers.specs.Slots.{Slots, value_of}
-use Rattle.p3_numbers.specs.declared.condition.Argument.{Argument}
-use Rattle.p3_numbers.specs.declared.condition.Argument.TheVariants.{Slot, Object}
-use Rattle.p3_numbers.specs.declared.condition.Condition.{Condition, Condition-F}
-use Rattle.p3_numbers.specs.declared.condition.Condition.TheOpen as layer
-use Rattle.p3_numbers.specs.declared.goal.Goal.{Goal, Goal-F}
-use Rattle.p3_numbers.specs.declared.goal.Goal.TheOpen as goal_layer
+use Rattle.p3_numbers.specs.declared.condition.NumberedArgument.{NumberedArgument}
+use Rattle.p3_numbers.specs.declared.condition.NumberedArgument.TheVariants.{Slot, Object}
+use Rattle.p3_numbers.specs.declared.condition.NumberedCondition.{NumberedCondition, NumberedCondition-F}
+use Rattle.p3_numbers.specs.declared.condition.NumberedCondition.TheOpen as layer
+use Rattle.p3_numbers.specs.declared.goal.NumberedGoal.{NumberedGoal, NumberedGoal-F}
+use Rattle.p3_numbers.specs.declared.goal.NumberedGoal.TheOpen as goal_layer
 use Rattle.p3_numbers.specs.declared.numbers.Numbers.{Numbers}
 use Rattle.p3_expansion.specs.Atoms.{GroundAtom, atom_at}
 use Rattle.p3_expansion.specs.Meanings.{each_or_some, both_or_one}
@@ -20,15 +20,15 @@ use Rattle.p3_expansion.specs.declared.statics.Statics.{Statics}
 
 -- ---- arguments whose objects are chosen: the slots are those of the first variables
 
-abbrev pub is_chosen : Slots → Argument → Bool
+abbrev pub is_chosen : Slots → NumberedArgument → Bool
 is_chosen slots (Slot place) = nat_lt place (length slots)
 is_chosen slots (Object number) = true
 
-abbrev pub are_chosen : Slots → List Argument → Bool
+abbrev pub are_chosen : Slots → List NumberedArgument → Bool
 are_chosen slots args = list_all (is_chosen slots) args
 
 -- the objects are chosen, and no step changes the atom
-abbrev pub is_known : Numbers → Statics → Slots → ℕ → List Argument → Bool
+abbrev pub is_known : Numbers → Statics → Slots → ℕ → List NumberedArgument → Bool
 is_known N S slots predicate args = are_chosen slots args && is_decided N S (atom_at slots predicate args)
 
 abbrev pub is_at_start : Statics → GroundAtom → Bool
@@ -40,14 +40,14 @@ abbrev pub has_truth : Bool → Bool → Bool
 has_truth true truth = truth
 has_truth false truth = not truth
 
-abbrev pub atom_may : Numbers → Statics → Slots → ℕ → List Argument → Bool → Bool
+abbrev pub atom_may : Numbers → Statics → Slots → ℕ → List NumberedArgument → Bool → Bool
 atom_may N S slots predicate args wish = not (is_known N S slots predicate args) || has_truth wish (is_at_start S (atom_at slots predicate args))
 
-abbrev pub equality_may : Slots → Argument → Argument → Bool → Bool
+abbrev pub equality_may : Slots → NumberedArgument → NumberedArgument → Bool → Bool
 equality_may slots left right wish = not (is_chosen slots left && is_chosen slots right) || has_truth wish (value_of slots left == value_of slots right)
 
 -- objects of quantifiers are never chosen, and their ranges may be empty
-abbrev pub may_layer : Numbers → Statics → Slots → Condition-F (Bool → Bool) → Bool → Bool
+abbrev pub may_layer : Numbers → Statics → Slots → NumberedCondition-F (Bool → Bool) → Bool → Bool
 may_layer N S slots (layer.Atom predicate args) wish = atom_may N S slots predicate args wish
 may_layer N S slots (layer.Equal left right) wish = equality_may slots left right wish
 may_layer N S slots (layer.And parts) wish = each_or_some wish (λ part. part wish) parts
@@ -58,22 +58,22 @@ may_layer N S slots (layer.Exists ranges body) wish = not wish || body true
 may_layer N S slots (layer.Forall ranges body) wish = wish || body false
 
 -- the condition may have the truth
-unfoldable pub may_be : Numbers → Statics → Slots → Condition → Bool → Bool
+unfoldable pub may_be : Numbers → Statics → Slots → NumberedCondition → Bool → Bool
 may_be N S slots condition wish = fold_condition (may_layer N S slots) condition wish
 
-abbrev pub may_begin_layer : Numbers → Statics → Slots → Goal-F Bool → Bool
+abbrev pub may_begin_layer : Numbers → Statics → Slots → NumberedGoal-F Bool → Bool
 may_begin_layer N S slots (goal_layer.Plain condition) = may_be N S slots condition true
 may_begin_layer N S slots (goal_layer.Both parts) = list_all (λ part. part) parts
 may_begin_layer N S slots (goal_layer.Each ranges body) = true
 may_begin_layer N S slots (goal_layer.Soft preference) = true
 
 -- the hard part of a precondition may hold
-unfoldable pub may_begin : Numbers → Statics → Slots → Goal → Bool
+unfoldable pub may_begin : Numbers → Statics → Slots → NumberedGoal → Bool
 may_begin N S slots goal = fold_goal (may_begin_layer N S slots) goal
 
 -- ---- the atoms that `and` alone joins and whose objects are chosen
 
-abbrev pub joined_atoms_layer : Slots → Condition-F (List GroundAtom) → List GroundAtom
+abbrev pub joined_atoms_layer : Slots → NumberedCondition-F (List GroundAtom) → List GroundAtom
 joined_atoms_layer slots (layer.Atom predicate args) = if are_chosen slots args then atom_at slots predicate args ∷ [] else []
 joined_atoms_layer slots (layer.Equal left right) = []
 joined_atoms_layer slots (layer.And parts) = flat_map (λ part. part) parts
@@ -83,16 +83,16 @@ joined_atoms_layer slots (layer.Imply first second) = []
 joined_atoms_layer slots (layer.Exists ranges body) = []
 joined_atoms_layer slots (layer.Forall ranges body) = []
 
-unfoldable pub joined_atoms : Slots → Condition → List GroundAtom
+unfoldable pub joined_atoms : Slots → NumberedCondition → List GroundAtom
 joined_atoms slots condition = fold_condition (joined_atoms_layer slots) condition
 
-abbrev pub goal_joined_layer : Slots → Goal-F (List GroundAtom) → List GroundAtom
+abbrev pub goal_joined_layer : Slots → NumberedGoal-F (List GroundAtom) → List GroundAtom
 goal_joined_layer slots (goal_layer.Plain condition) = joined_atoms slots condition
 goal_joined_layer slots (goal_layer.Both parts) = flat_map (λ part. part) parts
 goal_joined_layer slots (goal_layer.Each ranges body) = []
 goal_joined_layer slots (goal_layer.Soft preference) = []
 
-unfoldable pub goal_joined_atoms : Slots → Goal → List GroundAtom
+unfoldable pub goal_joined_atoms : Slots → NumberedGoal → List GroundAtom
 goal_joined_atoms slots goal = fold_goal (goal_joined_layer slots) goal
 
 -- a step may change the atom, or it holds at the start
@@ -103,13 +103,13 @@ is_possible N S atom = not (is_decided N S atom) || is_at_start S atom
 
 -- what holds in a state where all that no step changes is as at the start was possible before all objects were chosen
 abbrev pub MayBeWhereMet : Type 0
-MayBeWhereMet = (N : Numbers) (S : Statics) (s : State) → IsSettled N S s → (slots rest : Slots) (condition : Condition) (wish : Bool)
+MayBeWhereMet = (N : Numbers) (S : Statics) (s : State) → IsSettled N S s → (slots rest : Slots) (condition : NumberedCondition) (wish : Bool)
     → met N s (slots ++ rest) condition ≡ wish → may_be N S slots condition wish ≡ true
 
 abbrev pub MayBeginWhereMet : Type 0
-MayBeginWhereMet = (N : Numbers) (S : Statics) (s : State) → IsSettled N S s → (slots rest : Slots) (goal : Goal)
+MayBeginWhereMet = (N : Numbers) (S : Statics) (s : State) → IsSettled N S s → (slots rest : Slots) (goal : NumberedGoal)
     → hard_met N s (slots ++ rest) goal ≡ true → may_begin N S slots goal ≡ true
 
 -- what `and` alone joins in what may begin is possible
 abbrev pub JoinedArePossible : Type 0
-JoinedArePossible = (N : Numbers) (S : Statics) (slots : Slots) (goal : Goal) → may_begin N S slots goal ≡ true → list_all (is_possible N S) (goal_joined_atoms slots goal) ≡ true
+JoinedArePossible = (N : Numbers) (S : Statics) (slots : Slots) (goal : NumberedGoal) → may_begin N S slots goal ≡ true → list_all (is_possible N S) (goal_joined_atoms slots goal) ≡ true

@@ -19,7 +19,7 @@ ghost use Rattle.p3_steps.specs.Steps.{
 };
 
 use crate::choices::{candidates, candidates_among};
-use crate::costs::Costs;
+use crate::costs::EffectCosts;
 use crate::made::{room_of, step_at};
 use p3_base::{List, NoMemory};
 use p3_expansion::{Statics, Work, choice_count, place_choice};
@@ -31,7 +31,7 @@ use p3_numbers::{NumberedAction, NumberedTask};
 fn push_steps_at(
     task: &NumberedTask,
     statics: &Statics,
-    costs: &Costs,
+    costs: &EffectCosts,
     work: &mut Work,
     action: &NumberedAction,
     first: u32,
@@ -77,7 +77,7 @@ fn push_steps_at(
 fn push_action_steps(
     task: &NumberedTask,
     statics: &Statics,
-    costs: &Costs,
+    costs: &EffectCosts,
     work: &mut Work,
     action: &NumberedAction,
     first: u32,
@@ -108,7 +108,7 @@ fn push_action_steps(
 fn push_steps_among(
     task: &NumberedTask,
     statics: &Statics,
-    costs: &Costs,
+    costs: &EffectCosts,
     work: &mut Work,
     action: &NumberedAction,
     first: u32,
@@ -154,7 +154,7 @@ fn push_steps_among(
 pub fn steps(
     task: &NumberedTask,
     statics: &Statics,
-    costs: &Costs,
+    costs: &EffectCosts,
     work: &mut Work,
 ) -> Result<List<GroundStep>, NoMemory>
     requires few { count_of_steps task.now.numbers task.now.actions ≤ step_count_limit }
@@ -177,7 +177,7 @@ pub fn steps(
 pub fn steps_among(
     task: &NumberedTask,
     statics: &Statics,
-    costs: &Costs,
+    costs: &EffectCosts,
     work: &mut Work,
     those: &[u32],
 ) -> Result<List<GroundStep>, NoMemory>

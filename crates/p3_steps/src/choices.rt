@@ -20,7 +20,7 @@ use crate::links::{Links, all_links, shortest_row};
 use p3_base::NoMemory;
 use p3_expansion::{Statics, choice_count, objects_of, place_choice};
 use p3_formula::Bits;
-use p3_numbers::{Goal, Numbers};
+use p3_numbers::{NumberedGoal, Numbers};
 use std::alloc::Global;
 
 /// Marks the objects that have names.
@@ -231,7 +231,7 @@ pub(crate) fn candidates(
     numbers: &Numbers,
     statics: &Statics,
     ranges: &[u32],
-    goal: &Goal,
+    goal: &NumberedGoal,
 ) -> Result<Vec<u32>, NoMemory>
     requires { count_of numbers.now ranges.now ≤ step_count_limit }
     ensures { IfOk result (λ kept. kept.items
@@ -279,7 +279,7 @@ pub(crate) fn candidates_among(
     numbers: &Numbers,
     statics: &Statics,
     ranges: &[u32],
-    goal: &Goal,
+    goal: &NumberedGoal,
     first: u32,
     those: &[u32],
 ) -> Result<Vec<u32>, NoMemory>

@@ -7,17 +7,17 @@ ghost use Rattle.p3_steps.specs.Possible.{may_begin};
 use crate::possible::condition_may;
 use p3_base::NoMemory;
 use p3_expansion::Statics;
-use p3_numbers::{Condition, Goal, Numbers};
+use p3_numbers::{NumberedCondition, NumberedGoal, Numbers};
 use std::alloc::Global;
 
 /// Puts the conditions that `and` alone joins in a condition behind those found.
 #[cycle(conditions)]
 #[tactic(auto, using(crate::proofs::PossibleLemmas::condition_laws))]
-fn push_joined<'t>(found: &mut Vec<&'t Condition>, condition: &'t Condition) -> Result<(), NoMemory>
+fn push_joined<'t>(found: &mut Vec<&'t NumberedCondition>, condition: &'t NumberedCondition) -> Result<(), NoMemory>
     ensures { OnOk result (Joins condition.now found.old.items found.new.items) }
 {
     match condition {
-        Condition::And(parts) => {
+        NumberedCondition::And(parts) => {
             push_all_joined(found, parts.items())?;
             Ok(())
         }
@@ -31,8 +31,8 @@ fn push_joined<'t>(found: &mut Vec<&'t Condition>, condition: &'t Condition) -> 
 /// Puts the conditions that `and` alone joins in each of the parts behind those found.
 #[cycle(conditions)]
 fn push_all_joined<'t>(
-    found: &mut Vec<&'t Condition>,
-    parts: &'t [Condition],
+    found: &mut Vec<&'t NumberedCondition>,
+    parts: &'t [NumberedCondition],
 ) -> Result<(), NoMemory>
     ensures { OnOk result (JoinsAll parts.now found.old.items found.new.items) }
 {
@@ -45,26 +45,26 @@ fn push_all_joined<'t>(
 /// Puts the conditions that `and` alone joins in a precondition behind those found.
 #[cycle(goals)]
 #[tactic(auto, using(crate::proofs::PossibleLemmas::goal_laws))]
-fn push_conjuncts<'t>(found: &mut Vec<&'t Condition>, goal: &'t Goal) -> Result<(), NoMemory>
+fn push_conjuncts<'t>(found: &mut Vec<&'t NumberedCondition>, goal: &'t NumberedGoal) -> Result<(), NoMemory>
     ensures { OnOk result (JoinsGoal goal.now found.old.items found.new.items) }
 {
     match goal {
-        Goal::Plain(condition) => {
+        NumberedGoal::Plain(condition) => {
             push_joined(found, condition)?;
             Ok(())
         }
-        Goal::Both(parts) => {
+        NumberedGoal::Both(parts) => {
             push_all_conjuncts(found, parts.items())?;
             Ok(())
         }
-        Goal::Each(_, _) => Ok(()),
-        Goal::Soft(_) => Ok(()),
+        NumberedGoal::Each(_, _) => Ok(()),
+        NumberedGoal::Soft(_) => Ok(()),
     }
 }
 
 /// Puts the conditions that `and` alone joins in each of the parts behind those found.
 #[cycle(goals)]
-fn push_all_conjuncts<'t>(found: &mut Vec<&'t Condition>, parts: &'t [Goal]) -> Result<(), NoMemory>
+fn push_all_conjuncts<'t>(found: &mut Vec<&'t NumberedCondition>, parts: &'t [NumberedGoal]) -> Result<(), NoMemory>
     ensures { OnOk result (JoinsAllGoals parts.now found.old.items found.new.items) }
 {
     for part in parts {
@@ -74,7 +74,7 @@ fn push_all_conjuncts<'t>(found: &mut Vec<&'t Condition>, parts: &'t [Goal]) -> 
 }
 
 /// The conditions that `and` alone joins in a precondition.
-fn conjuncts_of<'t>(alloc: Global, goal: &'t Goal) -> Result<Vec<&'t Condition>, NoMemory>
+fn conjuncts_of<'t>(alloc: Global, goal: &'t NumberedGoal) -> Result<Vec<&'t NumberedCondition>, NoMemory>
     ensures { IfOk result (λ conjuncts. AreConjuncts goal.now conjuncts.items) }
 {
     let mut conjuncts = Vec::new(alloc);
@@ -87,8 +87,8 @@ fn conjuncts_of<'t>(alloc: Global, goal: &'t Goal) -> Result<Vec<&'t Condition>,
 pub(crate) struct Test<'t> {
     pub(crate) numbers: &'t Numbers,
     pub(crate) statics: &'t Statics,
-    pub(crate) goal: &'t Goal,
-    pub(crate) conjuncts: Vec<&'t Condition>,
+    pub(crate) goal: &'t NumberedGoal,
+    pub(crate) conjuncts: Vec<&'t NumberedCondition>,
     ghost are: { ∥ AreConjuncts goal.now conjuncts.items ∥₁ },
 }
 
@@ -98,7 +98,7 @@ impl<'t> Test<'t> {
         alloc: Global,
         numbers: &'t Numbers,
         statics: &'t Statics,
-        goal: &'t Goal,
+        goal: &'t NumberedGoal,
     ) -> Result<Test<'t>, NoMemory>
         ensures numbers { IfOk result (λ test. test.numbers.now ≡ numbers.now) }
         ensures statics { IfOk result (λ test. test.statics.now ≡ statics.now) }

@@ -18,7 +18,7 @@ ghost use Rattle.p3_steps.specs.Costs.{
 
 use p3_base::{NoMemory, TooLarge};
 use p3_names::{Digest, Key};
-use p3_numbers::{Argument, NumberedAmount, NumberedEffect, NumberedValue};
+use p3_numbers::{NumberedArgument, NumberedAmount, NumberedEffect, NumberedValue};
 use p3_tree::Numeral;
 use std::alloc::Global;
 use std::collections::HashMap;
@@ -29,7 +29,7 @@ type Table<'t> = HashMap<(u32, &'t [u32]), u128, Key>;
 /// What effects cost: the values that the initial state gives to static functions, looked up by
 /// hashing. Costs are in units of the last of the task's decimal places.
 #[derive(Drop)]
-pub struct Costs<'t> {
+pub struct EffectCosts<'t> {
     values: &'t [NumberedValue],
     places: u32,
     table: Table<'t>,
@@ -46,7 +46,7 @@ pub fn units_at(number: &Numeral, places: u32) -> u128
 }
 
 /// A value goes into the table where none is there for its function and objects.
-#[tactic(auto, unfolding(crate::specs::Costs::entry_at))]
+#[tactic(auto, unfolding(crate::specs::EffectCosts::entry_at))]
 fn note_value<'t>(
     table: &mut Table<'t>,
     places: u32,
@@ -86,7 +86,7 @@ fn value_key(values: &[NumberedValue]) -> Key
 }
 
 /// The table of the values.
-#[tactic(auto, unfolding(crate::specs::Costs::entry_at))]
+#[tactic(auto, unfolding(crate::specs::EffectCosts::entry_at))]
 fn table_of<'t>(
     alloc: Global,
     values: &'t [NumberedValue],
@@ -116,19 +116,19 @@ fn sum(first: u128, second: u128) -> Result<u128, TooLarge>
     }
 }
 
-impl<'t> Costs<'t> {
+impl<'t> EffectCosts<'t> {
     /// What effects cost by these values, in units of the last of so many decimal places.
     pub fn of(
         alloc: Global,
         values: &'t [NumberedValue],
         places: u32,
-    ) -> Result<Costs<'t>, NoMemory>
+    ) -> Result<EffectCosts<'t>, NoMemory>
         requires { places ≤ 6 }
         ensures values { IfOk result (λ costs. costs.values.now ≡ values.now) }
         ensures places { IfOk result (λ costs. costs.places ≡ places) }
     {
         let table = table_of(alloc, values, places)?;
-        Ok(Costs {
+        Ok(EffectCosts {
             values,
             places,
             table,
@@ -213,7 +213,7 @@ impl<'t> Costs<'t> {
 }
 
 /// Puts what the arguments mean in the place of the words.
-fn spell(words: &mut Vec<u32>, slots: &[u32], args: &[Argument]) -> Result<(), NoMemory>
+fn spell(words: &mut Vec<u32>, slots: &[u32], args: &[NumberedArgument]) -> Result<(), NoMemory>
     ensures { OnOk result (words.new.items ≡ values_of slots.now args.now) }
 {
     words.clear();
@@ -224,14 +224,14 @@ fn spell(words: &mut Vec<u32>, slots: &[u32], args: &[Argument]) -> Result<(), N
 }
 
 /// The object that an argument means.
-fn value_of(slots: &[u32], argument: Argument) -> u32
+fn value_of(slots: &[u32], argument: NumberedArgument) -> u32
     ensures { result ≡ meaning_of slots.now argument }
 {
     match argument {
-        Argument::Slot(place) => match slots.get(place as usize) {
+        NumberedArgument::Slot(place) => match slots.get(place as usize) {
             Some(object) => *object,
             None => 0,
         },
-        Argument::Object(object) => object,
+        NumberedArgument::Object(object) => object,
     }
 }

@@ -20,14 +20,14 @@ ghost use Rattle.p3_steps.specs.Links.{
 use crate::conjuncts::Test;
 use p3_base::{List, NoMemory};
 use p3_expansion::{Atoms, object_at, spell};
-use p3_numbers::{Argument, Condition};
+use p3_numbers::{NumberedArgument, NumberedCondition};
 use std::alloc::Global;
 
 /// The objects that facts of an atom have for the newest variable.
 #[derive(Drop)]
 pub(crate) struct Links<'t> {
     predicate: u32,
-    args: &'t [Argument],
+    args: &'t [NumberedArgument],
     /// The place of the word by which the objects are filed; that of the predicate is 0.
     key: usize,
     /// The objects, by the number that this word is.
@@ -35,44 +35,44 @@ pub(crate) struct Links<'t> {
 }
 
 /// Whether the argument is the variable behind the first so many.
-fn is_newest(count: usize, arg: Argument) -> bool
+fn is_newest(count: usize, arg: NumberedArgument) -> bool
     ensures { result ≡ newest count arg }
 {
     match arg {
-        Argument::Slot(place) => place as usize == count,
-        Argument::Object(_) => false,
+        NumberedArgument::Slot(place) => place as usize == count,
+        NumberedArgument::Object(_) => false,
     }
 }
 
 /// Whether the argument is one of the first so many variables.
-fn is_older(count: usize, arg: Argument) -> bool
+fn is_older(count: usize, arg: NumberedArgument) -> bool
     ensures { result ≡ older count arg }
 {
     match arg {
-        Argument::Slot(place) => (place as usize) < count,
-        Argument::Object(_) => false,
+        NumberedArgument::Slot(place) => (place as usize) < count,
+        NumberedArgument::Object(_) => false,
     }
 }
 
 /// Whether the argument is no variable behind the first so many and the next one.
-fn is_ready(count: usize, arg: Argument) -> bool
+fn is_ready(count: usize, arg: NumberedArgument) -> bool
     ensures { result ≡ ready count arg }
 {
     match arg {
-        Argument::Slot(place) => place as usize <= count,
-        Argument::Object(_) => true,
+        NumberedArgument::Slot(place) => place as usize <= count,
+        NumberedArgument::Object(_) => true,
     }
 }
 
 /// Whether no argument is such a variable.
-fn are_ready(count: usize, args: &[Argument]) -> bool
+fn are_ready(count: usize, args: &[NumberedArgument]) -> bool
     ensures { result ≡ list_all (ready count) args.now }
 {
     args.iter().all(|arg| is_ready(count, *arg))
 }
 
 /// Where an atom has the object of the variable behind the first so many.
-fn newest_place(count: usize, args: &[Argument]) -> Option<usize>
+fn newest_place(count: usize, args: &[NumberedArgument]) -> Option<usize>
     ensures { IfSome result (IsNewestPlace count args.now) }
 {
     for place in 0..args.len() {
@@ -84,7 +84,7 @@ fn newest_place(count: usize, args: &[Argument]) -> Option<usize>
 }
 
 /// Where an atom has the object of one of the first so many variables, or else its predicate.
-fn key_place(count: usize, args: &[Argument]) -> usize
+fn key_place(count: usize, args: &[NumberedArgument]) -> usize
     ensures { IsKeyPlace count args.now result }
 {
     for place in 0..args.len() {
@@ -171,7 +171,7 @@ fn links_of_atom<'t>(
     alloc: Global,
     test: &Test<'t>,
     predicate: u32,
-    args: &'t [Argument],
+    args: &'t [NumberedArgument],
     count: usize,
 ) -> Result<Option<Links<'t>>, NoMemory>
     ensures { IfOk result (λ links. IfSome links
@@ -198,14 +198,14 @@ fn links_of_atom<'t>(
 fn links_of<'t>(
     alloc: Global,
     test: &Test<'t>,
-    condition: &'t Condition,
+    condition: &'t NumberedCondition,
     count: usize,
 ) -> Result<Option<Links<'t>>, NoMemory>
     ensures { IfOk result (λ links. IfSome links
         (TellsOf test.now.numbers.now test.now.statics.now count condition.now)) }
 {
     match condition {
-        Condition::Atom { predicate, args } => {
+        NumberedCondition::Atom { predicate, args } => {
             let links = links_of_atom(alloc, test, *predicate, args.items(), count)?;
             Ok(links)
         }

@@ -5,7 +5,7 @@ ghost use Rattle.p3_tree.specs.Sides.{step_count_limit};
 ghost use Rattle.p3_numbers.specs.Choices.{choice as objects_of_choice};
 ghost use Rattle.p3_steps.specs.Steps.{MakesStep, planned_step};
 
-use crate::costs::Costs;
+use crate::costs::EffectCosts;
 use p3_base::{List, NoMemory};
 use p3_expansion::{
     Statics, Work, changes, hard_form, literal_count, preference_count, push_preferences,
@@ -35,7 +35,7 @@ pub(crate) fn room_of(action: &NumberedAction) -> Room {
 pub(crate) fn step_at(
     task: &NumberedTask,
     statics: &Statics,
-    costs: &Costs,
+    costs: &EffectCosts,
     work: &mut Work,
     words: &mut Vec<u32>,
     slots: &[u32],

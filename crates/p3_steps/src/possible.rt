@@ -14,20 +14,20 @@ ghost use Rattle.p3_steps.specs.Possible.{
 
 use p3_base::NoMemory;
 use p3_expansion::{Statics, are_same, spell};
-use p3_numbers::{Argument, Condition, Numbers};
+use p3_numbers::{NumberedArgument, NumberedCondition, Numbers};
 
 /// Whether the argument's object is chosen.
-fn is_chosen(slots: &[u32], arg: Argument) -> bool
+fn is_chosen(slots: &[u32], arg: NumberedArgument) -> bool
     ensures { result ≡ one_chosen slots.now arg }
 {
     match arg {
-        Argument::Slot(place) => (place as usize) < slots.len(),
-        Argument::Object(_) => true,
+        NumberedArgument::Slot(place) => (place as usize) < slots.len(),
+        NumberedArgument::Object(_) => true,
     }
 }
 
 /// Whether the objects of all arguments are chosen.
-fn are_chosen(slots: &[u32], args: &[Argument]) -> bool
+fn are_chosen(slots: &[u32], args: &[NumberedArgument]) -> bool
     ensures { result ≡ all_chosen slots.now args.now }
 {
     args.iter().all(|arg| is_chosen(slots, *arg))
@@ -58,7 +58,7 @@ fn atom_may(
     words: &mut Vec<u32>,
     slots: &[u32],
     predicate: u32,
-    args: &[Argument],
+    args: &[NumberedArgument],
     wish: bool,
 ) -> Result<bool, NoMemory>
     ensures { IfOk result (λ may. may
@@ -75,7 +75,7 @@ fn atom_may(
 }
 
 /// Whether the equality may have the truth.
-fn equality_may(slots: &[u32], left: Argument, right: Argument, wish: bool) -> bool
+fn equality_may(slots: &[u32], left: NumberedArgument, right: NumberedArgument, wish: bool) -> bool
     ensures { result ≡ equality_may_be slots.now left right wish }
 {
     if is_chosen(slots, left) && is_chosen(slots, right) {
@@ -92,14 +92,14 @@ pub(crate) fn condition_may(
     statics: &Statics,
     words: &mut Vec<u32>,
     slots: &[u32],
-    condition: &Condition,
+    condition: &NumberedCondition,
     wish: bool,
 ) -> Result<bool, NoMemory>
     ensures { IfOk result (λ may. may
         ≡ may_be numbers.now statics.now slots.now condition.now wish) }
 {
     match condition {
-        Condition::Atom { predicate, args } => {
+        NumberedCondition::Atom { predicate, args } => {
             let may = atom_may(
                 numbers,
                 statics,
@@ -111,32 +111,32 @@ pub(crate) fn condition_may(
             )?;
             Ok(may)
         }
-        Condition::Equal(left, right) => Ok(equality_may(slots, *left, *right, wish)),
-        Condition::And(parts) => {
+        NumberedCondition::Equal(left, right) => Ok(equality_may(slots, *left, *right, wish)),
+        NumberedCondition::And(parts) => {
             let may = parts_may(numbers, statics, words, slots, parts.items(), wish, wish)?;
             Ok(may)
         }
-        Condition::Or(parts) => {
+        NumberedCondition::Or(parts) => {
             let may = parts_may(numbers, statics, words, slots, parts.items(), !wish, wish)?;
             Ok(may)
         }
-        Condition::Not(part) => {
+        NumberedCondition::Not(part) => {
             let may = condition_may(numbers, statics, words, slots, part.get(), !wish)?;
             Ok(may)
         }
-        Condition::Imply(first, second) => {
+        NumberedCondition::Imply(first, second) => {
             let one = condition_may(numbers, statics, words, slots, first.get(), !wish)?;
             let other = condition_may(numbers, statics, words, slots, second.get(), wish)?;
             Ok(both_or_either(!wish, one, other))
         }
-        Condition::Exists(_, body) => {
+        NumberedCondition::Exists(_, body) => {
             if !wish {
                 return Ok(true);
             }
             let may = condition_may(numbers, statics, words, slots, body.get(), true)?;
             Ok(may)
         }
-        Condition::Forall(_, body) => {
+        NumberedCondition::Forall(_, body) => {
             if wish {
                 return Ok(true);
             }
@@ -153,7 +153,7 @@ fn parts_may(
     statics: &Statics,
     words: &mut Vec<u32>,
     slots: &[u32],
-    parts: &[Condition],
+    parts: &[NumberedCondition],
     every: bool,
     wish: bool,
 ) -> Result<bool, NoMemory>
@@ -175,7 +175,7 @@ fn all_may(
     statics: &Statics,
     words: &mut Vec<u32>,
     slots: &[u32],
-    parts: &[Condition],
+    parts: &[NumberedCondition],
     wish: bool,
 ) -> Result<bool, NoMemory>
     ensures { IfOk result (λ may. may ≡ list_all
@@ -196,7 +196,7 @@ fn some_may(
     statics: &Statics,
     words: &mut Vec<u32>,
     slots: &[u32],
-    parts: &[Condition],
+    parts: &[NumberedCondition],
     wish: bool,
 ) -> Result<bool, NoMemory>
     ensures { IfOk result (λ may. may ≡ list_any

@@ -18,7 +18,7 @@ use Rattle.p3_tree.specs.Refusals.Malformed.{IsMalformedAt, IsMalformed}
 use Rattle.p3_tree.specs.Refusals.Texts.{text_refusal}
 use Rattle.p3_tree.specs.declared.expression.Expression.{Expression}
 use Rattle.p3_tree.proofs.ReadingLemmas.{text_balanced}
-use Rattle.p3_places.specs.Found.{side_of, half_of, HasTree, Finds}
+use Rattle.p3_places.specs.Searches.{side_of, half_of, HasTree, Finds}
 use Rattle.p3_outline.specs.declared.view.Outline.{Outline}
 use Rattle.p3_outline.specs.Nodes.{root_of}
 use Rattle.p3_outline.specs.Outlines.{IsOutline}

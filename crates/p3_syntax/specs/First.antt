@@ -4,7 +4,7 @@ use Rattle.p3_base.specs.declared.refusal.Refusal.{Refusal}
 use Rattle.p3_base.specs.declared.refusal.Role.{Role}
 use Rattle.p3_tree.specs.Refusals.First.{Text, HalfText, IsReadable, IsRefusedText}
 use Rattle.p3_tree.specs.declared.expression.Expression.{Expression}
-use Rattle.p3_places.specs.Found.{side_of, half_of, HasTree}
+use Rattle.p3_places.specs.Searches.{side_of, half_of, HasTree}
 use Rattle.p3_outline.specs.First.{IsWithin}
 use Rattle.p3_outline.specs.Texts.{IfRefused}
 use Rattle.p3_outline.specs.declared.error.ReadFail.{ReadFail}

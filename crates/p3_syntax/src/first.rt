@@ -5,7 +5,7 @@ ghost use Rattle.p3_base.specs.declared.refusal.Role.TheVariants.{Plan};
 ghost use Rattle.p3_base.specs.declared.refusal.Side.TheVariants.{Written};
 ghost use Rattle.p3_tree.specs.Refusals.First.{IsReadable};
 ghost use Rattle.p3_tree.specs.Sides.{byte_limit};
-ghost use Rattle.p3_places.specs.Found.{half_of, HasTree};
+ghost use Rattle.p3_places.specs.Searches.{half_of, HasTree};
 ghost use Rattle.p3_outline.specs.Nodes.{root_of};
 ghost use Rattle.p3_outline.specs.Outlines.{IsOutline};
 ghost use Rattle.p3_syntax.specs.First.{IsFirstOf, StandsIn, half_text, Decides};

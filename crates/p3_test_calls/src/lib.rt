@@ -18,6 +18,6 @@ mod reached;
 #[cfg(test)]
 mod regressions;
 #[cfg(test)]
-mod watched;
+mod monitored;
 #[cfg(test)]
 mod written;

@@ -23,7 +23,7 @@ pub(crate) enum Head {
 
 /// What a line is.
 #[derive(Drop)]
-pub(crate) enum Found<'t> {
+pub(crate) enum LineFound<'t> {
     /// A whole step.
     Whole(Step),
     /// The beginning of one that has a text, with the rest of the line.
@@ -31,13 +31,13 @@ pub(crate) enum Found<'t> {
 }
 
 /// What a line is that begins with that word.
-pub(crate) fn head_of<'t>(alloc: Global, word: &str, rest: &'t str) -> Result<Found<'t>, Flaw> {
+pub(crate) fn head_of<'t>(alloc: Global, word: &str, rest: &'t str) -> Result<LineFound<'t>, Flaw> {
     match word {
         "let" | "hold" | "prints" | "holds" | "counts" => {
             let (head, piece) = begun(alloc, word, rest)?;
-            Ok(Found::Begun(head, piece))
+            Ok(LineFound::Begun(head, piece))
         }
-        _ => Ok(Found::Whole(step_of(alloc, word, rest)?)),
+        _ => Ok(LineFound::Whole(step_of(alloc, word, rest)?)),
     }
 }
 

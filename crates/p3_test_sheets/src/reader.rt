@@ -2,7 +2,7 @@
 
 use crate::complaint::Stop;
 use crate::flaw::Flaw;
-use crate::heads::{Found, Head, head_of};
+use crate::heads::{LineFound, Head, head_of};
 use crate::pieces::{Known, Named, Texts, add_piece, is_piece};
 use crate::quoted::first_word;
 use crate::row::{Line, Row, Sheet, Step};
@@ -19,7 +19,7 @@ struct Begun {
 
 /// What has been read of a file of rows.
 #[derive(Drop)]
-struct Reader<'f> {
+struct RowsReader<'f> {
     alloc: Global,
     folder: &'f Texts,
     own: Texts,
@@ -30,7 +30,7 @@ struct Reader<'f> {
 
 /// Reads a file of rows. The texts of the folder may be named in it.
 pub(crate) fn sheet_of(alloc: Global, folder: &Texts, text: &str) -> Result<Sheet, Stop> {
-    let mut reader = Reader {
+    let mut reader = RowsReader {
         alloc,
         folder,
         own: Texts::new(alloc),
@@ -51,7 +51,7 @@ pub(crate) fn sheet_of(alloc: Global, folder: &Texts, text: &str) -> Result<Shee
     }
 }
 
-impl Reader<'_> {
+impl RowsReader<'_> {
     /// Takes a line.
     fn take(&mut self, number: u32, line: &str) -> Result<(), Flaw> {
         if line.is_empty() || line.starts_with('#') {
@@ -66,8 +66,8 @@ impl Reader<'_> {
             return self.begin_row(number, rest);
         }
         match head_of(self.alloc, word, rest)? {
-            Found::Whole(step) => self.push(number, step),
-            Found::Begun(head, piece) => self.begin_text(number, head, piece),
+            LineFound::Whole(step) => self.push(number, step),
+            LineFound::Begun(head, piece) => self.begin_text(number, head, piece),
         }
     }
 

@@ -29,8 +29,8 @@ use Rattle.p3_numbers.specs.Goals.{goal_of, goal_layer, is_known_name, is_known_
 use Rattle.p3_numbers.specs.Places.{Variables, ranges_of, words_of, are_known_types, IsNumbering}
 use Rattle.p3_numbers.specs.declared.constraint.NumberedConstraint.{NumberedConstraint, Row_of-NumberedConstraint, end_of-NumberedConstraint, more_of-NumberedConstraint}
 use Rattle.p3_numbers.specs.declared.constraint.NumberedConstraint.TheVariants as numbered_constraint
-use Rattle.p3_numbers.specs.declared.goal.Goal.{Goal, Row_of-Goal, end_of-Goal, more_of-Goal}
-use Rattle.p3_numbers.specs.declared.goal.Goal.TheVariants as numbered_goal
+use Rattle.p3_numbers.specs.declared.goal.NumberedGoal.{NumberedGoal, Row_of-NumberedGoal, end_of-NumberedGoal, more_of-NumberedGoal}
+use Rattle.p3_numbers.specs.declared.goal.NumberedGoal.TheVariants as numbered_goal
 use Rattle.p3_numbers.specs.declared.numbers.Numbers.{Numbers}
 use Rattle.p3_types.specs.Cuts.{cut, choice_count, cut_choices, cut_sum}
 use Rattle.p3_types.specs.Preferences.{repeated, goal_offsets_layer, goal_offsets, constraint_offsets_layer, constraint_offsets, goal_count_layer, goal_count, constraint_count_layer, constraint_count}
@@ -48,19 +48,19 @@ module _ (N : Numbers) where
   mutual
     unfolding goal_count goal_offsets
 
-    pub goal-counted : (tree : Goal) → goal_count N tree ≡ cut (length (goal_offsets N tree))
+    pub goal-counted : (tree : NumberedGoal) → goal_count N tree ≡ cut (length (goal_offsets N tree))
     goal-counted (numbered_goal.Plain body) = cut-zero
     goal-counted (numbered_goal.Both' _ parts) =
         let offsets = fold_goals (goal_offsets_layer N) parts in
         ap (cut_sum 0) (goals-counted parts) ∙ cut-total-zero (map length offsets) ∙ ap cut (sum-lengths offsets)
-    goal-counted (numbered_goal.Each' ranges _ (more_of-Goal body _)) =
+    goal-counted (numbered_goal.Each' ranges _ (more_of-NumberedGoal body _)) =
         ap (λ n. cut (cut_choices N ranges * n)) (goal-counted body) ∙ cut-each N ranges (length (goal_offsets N body))
         ∙ ap cut (sym (length-repeated (choice_count N ranges) (goal_offsets N body)))
     goal-counted (numbered_goal.Soft preference) = cut-one
 
-    goals-counted : {n : Count} (parts : Row_of-Goal n) → fold_goals (goal_count_layer N) parts ≡ map cut (map length (fold_goals (goal_offsets_layer N) parts))
-    goals-counted end_of-Goal = refl
-    goals-counted (more_of-Goal part rest) = λ i. goal-counted part i ∷ goals-counted rest i
+    goals-counted : {n : Count} (parts : Row_of-NumberedGoal n) → fold_goals (goal_count_layer N) parts ≡ map cut (map length (fold_goals (goal_offsets_layer N) parts))
+    goals-counted end_of-NumberedGoal = refl
+    goals-counted (more_of-NumberedGoal part rest) = λ i. goal-counted part i ∷ goals-counted rest i
 
   mutual
     unfolding constraint_count constraint_offsets

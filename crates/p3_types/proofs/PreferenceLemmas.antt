@@ -9,11 +9,11 @@ use Rattle.std.proofs.lemmas.Nat.{div-add-mod', mod_below, mul-le}
 use Rattle.std.proofs.lemmas.Option.{slice_get_past}
 use denote.Hole.Carrier.{hidden}
 use Rattle.p3_numbers.specs.Folds.{fold_goal, fold_constraint}
-use Rattle.p3_numbers.specs.declared.condition.Condition.{Condition}
-use Rattle.p3_numbers.specs.declared.goal.Preference.{Preference}
-use Rattle.p3_numbers.specs.declared.goal.Goal.{Goal}
-use Rattle.p3_numbers.specs.declared.goal.Goal.TheBlock.{hidden-the_row-Goal-1}
-use Rattle.p3_numbers.specs.declared.goal.Goal.TheVariants as goal
+use Rattle.p3_numbers.specs.declared.condition.NumberedCondition.{NumberedCondition}
+use Rattle.p3_numbers.specs.declared.goal.NumberedPreference.{NumberedPreference}
+use Rattle.p3_numbers.specs.declared.goal.NumberedGoal.{NumberedGoal}
+use Rattle.p3_numbers.specs.declared.goal.NumberedGoal.TheBlock.{hidden-the_row-NumberedGoal-1}
+use Rattle.p3_numbers.specs.declared.goal.NumberedGoal.TheVariants as goal
 use Rattle.p3_numbers.specs.NumberedModal.{NumberedModal}
 use Rattle.p3_numbers.specs.declared.constraint.NumberedConstraint.{NumberedConstraint}
 use Rattle.p3_numbers.specs.declared.constraint.NumberedConstraint.TheBlock.{hidden-the_row-NumberedConstraint-1}
@@ -127,35 +127,35 @@ module _ {A : Type 0} (items : List A) (n : ℕ) where
 -- ---- goals
 
 module _ (N : Numbers) where
-  pub goal_count-Both : (parts : List Goal) → goal_count N (goal.Both parts) ≡ cut_total (goal_count N) 0 parts
+  pub goal_count-Both : (parts : List NumberedGoal) → goal_count N (goal.Both parts) ≡ cut_total (goal_count N) 0 parts
   unfolding goal_count
   goal_count-Both parts = ap (cut_sum 0) (hidden_goals (goal_count_layer N) parts) ∙ cut_total-map (fold_goal (goal_count_layer N)) 0 parts
 
-  pub goal_count-Each : (ranges : List ℕ) (body : Goal) → goal_count N (goal.Each ranges body) ≡ cut (cut_choices N ranges * goal_count N body)
-  unfolding goal_count hidden-the_row-Goal-1 hidden
+  pub goal_count-Each : (ranges : List ℕ) (body : NumberedGoal) → goal_count N (goal.Each ranges body) ≡ cut (cut_choices N ranges * goal_count N body)
+  unfolding goal_count hidden-the_row-NumberedGoal-1 hidden
   goal_count-Each ranges body = refl
 
-  pub goal_count-Plain : (body : Condition) → goal_count N (goal.Plain body) ≡ 0
+  pub goal_count-Plain : (body : NumberedCondition) → goal_count N (goal.Plain body) ≡ 0
   unfolding goal_count
   goal_count-Plain body = refl
 
-  pub goal_count-Soft : (preference : Preference) → goal_count N (goal.Soft preference) ≡ 1
+  pub goal_count-Soft : (preference : NumberedPreference) → goal_count N (goal.Soft preference) ≡ 1
   unfolding goal_count
   goal_count-Soft preference = refl
 
-  pub goal_offsets-Both : (parts : List Goal) → goal_offsets N (goal.Both parts) ≡ flat_map (goal_offsets N) parts
+  pub goal_offsets-Both : (parts : List NumberedGoal) → goal_offsets N (goal.Both parts) ≡ flat_map (goal_offsets N) parts
   unfolding goal_offsets
   goal_offsets-Both parts = ap (flat_map (λ part. part)) (hidden_goals (goal_offsets_layer N) parts) ∙ flat_map-map (λ part. part) _ parts
 
-  pub goal_offsets-Each : (ranges : List ℕ) (body : Goal) → goal_offsets N (goal.Each ranges body) ≡ repeated (choice_count N ranges) (goal_offsets N body)
-  unfolding goal_offsets hidden-the_row-Goal-1 hidden
+  pub goal_offsets-Each : (ranges : List ℕ) (body : NumberedGoal) → goal_offsets N (goal.Each ranges body) ≡ repeated (choice_count N ranges) (goal_offsets N body)
+  unfolding goal_offsets hidden-the_row-NumberedGoal-1 hidden
   goal_offsets-Each ranges body = refl
 
-  pub goal_offsets-Plain : (body : Condition) → goal_offsets N (goal.Plain body) ≡ []
+  pub goal_offsets-Plain : (body : NumberedCondition) → goal_offsets N (goal.Plain body) ≡ []
   unfolding goal_offsets
   goal_offsets-Plain body = refl
 
-  pub goal_offsets-Soft : (preference : Preference) → goal_offsets N (goal.Soft preference) ≡ preference.at ∷ []
+  pub goal_offsets-Soft : (preference : NumberedPreference) → goal_offsets N (goal.Soft preference) ≡ preference.at ∷ []
   unfolding goal_offsets
   goal_offsets-Soft preference = refl
 

@@ -50,10 +50,10 @@ module _ (side : Side) where
       (each_joined IsShortAmount (λ part. part) (map increases parts) (each_mapped IsShortEffect (AllByRecursion IsShortAmount) increases (λ part short. short) parts each))
 
   -- a part of a list, whether or not an increase may stand there
-  abbrev IsShortPart : ListPart effects.Found → Type 0
-  IsShortPart = IsPart side (λ (found : effects.Found). (free : Bool) → Gives IsShortEffect (found free))
+  abbrev IsShortPart : ListPart effects.EffectAt → Type 0
+  IsShortPart = IsPart side (λ (found : effects.EffectAt). (free : Bool) → Gives IsShortEffect (found free))
 
-  abbrev IsShortForm : (effects.Parts → effects.Found) → Type 0
+  abbrev IsShortForm : (effects.Parts → effects.EffectAt) → Type 0
   IsShortForm form = (parts : effects.Parts) → AllByRecursion IsShortPart parts → (free : Bool) → Gives IsShortEffect (form parts free)
 
   all_form_short : IsShortForm effects.all_form
@@ -94,7 +94,7 @@ module _ (side : Side) where
 
   effect_short : (e : Expression) → HasShortWords side e → Gives IsShortEffect (effects.effect_place e)
   unfolding effects.effect_place
-  effect_short e short = descends side (λ (found : effects.Found). (free : Bool) → Gives IsShortEffect (found free)) _ _ (λ e short free. nothing) (λ e parts. effect_in_short parts) e short true
+  effect_short e short = descends side (λ (found : effects.EffectAt). (free : Bool) → Gives IsShortEffect (found free)) _ _ (λ e short free. nothing) (λ e parts. effect_in_short parts) e short true
 
   pub effect_or_empty_short : (e : Expression) → HasShortWords side e → Gives IsShortEffect (effects.effect_or_empty_place e)
   effect_or_empty_short e short = passing (parts_place e) _ (λ parts. whether (is_empty parts) _ _ (just (effect.All []) (all_short [] tt)) (effect_short e short))

@@ -6,8 +6,8 @@ use Rattle.std.proofs.lemmas.List.{at_drop_more, length-map}
 use Rattle.std.proofs.lemmas.Option.{slice_get-map}
 use Rattle.p3_numbers.specs.declared.constraint.NumberedConstraint.{NumberedConstraint}
 use Rattle.p3_numbers.specs.declared.constraint.NumberedConstraint.TheVariants as constraint
-use Rattle.p3_numbers.specs.declared.goal.Goal.{Goal}
-use Rattle.p3_numbers.specs.declared.goal.Goal.TheVariants as goal
+use Rattle.p3_numbers.specs.declared.goal.NumberedGoal.{NumberedGoal}
+use Rattle.p3_numbers.specs.declared.goal.NumberedGoal.TheVariants as goal
 use Rattle.p3_numbers.specs.declared.numbers.Numbers.{Numbers}
 use Rattle.p3_types.specs.Cuts.{cut, choice_count, cut_choices}
 use Rattle.p3_types.specs.Preferences.{goal_offsets, constraint_offsets, goal_count, constraint_count, place_behind, place_within, item_at}
@@ -35,11 +35,11 @@ module _ {A : Type 0} (offsets : A → List ℕ) (count : A → ℕ) (counted : 
   part-behind left within at low is e = next-part within at ∙ get-behind (offsets x) (flat_map offsets (drop (i + 1) parts)) n place left low (is ∙ counted x) e
 
 module _ (N : Numbers) where
-  pub goal-here : (parts : List Goal) (i : ℕ) (x : Goal) (place n : ℕ) → i < length parts → x ≡ get_or parts i x → place < 2 ^ 32 → n ≡ goal_count N x → place_behind n place ≡ None
+  pub goal-here : (parts : List NumberedGoal) (i : ℕ) (x : NumberedGoal) (place n : ℕ) → i < length parts → x ≡ get_or parts i x → place < 2 ^ 32 → n ≡ goal_count N x → place_behind n place ≡ None
       → slice_get (flat_map (goal_offsets N) (drop i parts)) place ≡ slice_get (goal_offsets N x) place
   goal-here = part-here (goal_offsets N) (goal_count N) (goal-counted N)
 
-  pub goal-behind : (parts : List Goal) (i : ℕ) (x : Goal) (place n left : ℕ) → i < length parts → x ≡ get_or parts i x → place < 2 ^ 32 → n ≡ goal_count N x → place_behind n place ≡ Some left
+  pub goal-behind : (parts : List NumberedGoal) (i : ℕ) (x : NumberedGoal) (place n left : ℕ) → i < length parts → x ≡ get_or parts i x → place < 2 ^ 32 → n ≡ goal_count N x → place_behind n place ≡ Some left
       → slice_get (flat_map (goal_offsets N) (drop i parts)) place ≡ slice_get (flat_map (goal_offsets N) (drop (i + 1) parts)) left
   goal-behind = part-behind (goal_offsets N) (goal_count N) (goal-counted N)
 
@@ -53,7 +53,7 @@ module _ (N : Numbers) where
 
   -- ---- choices
 
-  pub goal-each : (tree : Goal) (ranges : List ℕ) (body : Goal) (choices count place : ℕ) (found : Option ℕ) → tree ≡ goal.Each ranges body → choices ≡ cut_choices N ranges → count ≡ goal_count N body
+  pub goal-each : (tree : NumberedGoal) (ranges : List ℕ) (body : NumberedGoal) (choices count place : ℕ) (found : Option ℕ) → tree ≡ goal.Each ranges body → choices ≡ cut_choices N ranges → count ≡ goal_count N body
       → place < 2 ^ 32 → found ≡ place_within choices count place → slice_get (goal_offsets N tree) place ≡ item_at (goal_offsets N body) found
   goal-each tree ranges body choices count place found is chosen counted low at =
       ap (λ tree. slice_get (goal_offsets N tree) place) is ∙ ap (λ items. slice_get items place) (goal_offsets-Each N ranges body)

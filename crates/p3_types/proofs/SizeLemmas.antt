@@ -4,18 +4,18 @@ use Rattle.std.proofs.lemmas.List.Folds.{fold-map}
 use mathlib.Core.Former.{Count}
 use denote.Hole.Carrier.{hidden}
 use Rattle.p3_numbers.specs.Folds.{fold_condition, fold_conditions, fold_effect, fold_effects, fold_goal, fold_goals, fold_constraint, fold_constraints}
-use Rattle.p3_numbers.specs.declared.condition.Argument.{Argument}
-use Rattle.p3_numbers.specs.declared.condition.Condition.{Condition, Condition-F, Row_of-Condition, end_of-Condition, more_of-Condition, items-the_row-Condition, items_hidden-the_row-Condition-0}
-use Rattle.p3_numbers.specs.declared.condition.Condition.TheBlock.{hidden-the_row-Condition-0, hidden-the_row-Condition-1}
-use Rattle.p3_numbers.specs.declared.condition.Condition.TheVariants as condition
+use Rattle.p3_numbers.specs.declared.condition.NumberedArgument.{NumberedArgument}
+use Rattle.p3_numbers.specs.declared.condition.NumberedCondition.{NumberedCondition, NumberedCondition-F, Row_of-NumberedCondition, end_of-NumberedCondition, more_of-NumberedCondition, items-the_row-NumberedCondition, items_hidden-the_row-NumberedCondition-0}
+use Rattle.p3_numbers.specs.declared.condition.NumberedCondition.TheBlock.{hidden-the_row-NumberedCondition-0, hidden-the_row-NumberedCondition-1}
+use Rattle.p3_numbers.specs.declared.condition.NumberedCondition.TheVariants as condition
 use Rattle.p3_numbers.specs.declared.effect.NumberedAmount.{NumberedAmount}
 use Rattle.p3_numbers.specs.declared.effect.NumberedEffect.{NumberedEffect, NumberedEffect-F, Row_of-NumberedEffect, end_of-NumberedEffect, more_of-NumberedEffect, items-the_row-NumberedEffect, items_hidden-the_row-NumberedEffect-0}
 use Rattle.p3_numbers.specs.declared.effect.NumberedEffect.TheBlock.{hidden-the_row-NumberedEffect-0, hidden-the_row-NumberedEffect-1}
 use Rattle.p3_numbers.specs.declared.effect.NumberedEffect.TheVariants as effect
-use Rattle.p3_numbers.specs.declared.goal.Preference.{Preference}
-use Rattle.p3_numbers.specs.declared.goal.Goal.{Goal, Goal-F, Row_of-Goal, end_of-Goal, more_of-Goal, items-the_row-Goal, items_hidden-the_row-Goal-0}
-use Rattle.p3_numbers.specs.declared.goal.Goal.TheBlock.{hidden-the_row-Goal-0, hidden-the_row-Goal-1}
-use Rattle.p3_numbers.specs.declared.goal.Goal.TheVariants as goal
+use Rattle.p3_numbers.specs.declared.goal.NumberedPreference.{NumberedPreference}
+use Rattle.p3_numbers.specs.declared.goal.NumberedGoal.{NumberedGoal, NumberedGoal-F, Row_of-NumberedGoal, end_of-NumberedGoal, more_of-NumberedGoal, items-the_row-NumberedGoal, items_hidden-the_row-NumberedGoal-0}
+use Rattle.p3_numbers.specs.declared.goal.NumberedGoal.TheBlock.{hidden-the_row-NumberedGoal-0, hidden-the_row-NumberedGoal-1}
+use Rattle.p3_numbers.specs.declared.goal.NumberedGoal.TheVariants as goal
 use Rattle.p3_numbers.specs.NumberedModal.{NumberedModal}
 use Rattle.p3_numbers.specs.declared.constraint.NumberedConstraint.{NumberedConstraint, NumberedConstraint-F, Row_of-NumberedConstraint, end_of-NumberedConstraint, more_of-NumberedConstraint, items-the_row-NumberedConstraint, items_hidden-the_row-NumberedConstraint-0}
 use Rattle.p3_numbers.specs.declared.constraint.NumberedConstraint.TheBlock.{hidden-the_row-NumberedConstraint-0, hidden-the_row-NumberedConstraint-1}
@@ -26,13 +26,13 @@ use Rattle.p3_types.specs.Sizes.{above, above_two, above_each, condition_layer, 
 
 -- ---- folds at a list of parts
 
-module _ {A : Type 0} (layer : Condition-F A → A) where
-  row_conditions : {n : Count} (row : Row_of-Condition n) → fold_conditions layer row ≡ map (fold_condition layer) (items-the_row-Condition n row)
-  row_conditions end_of-Condition = refl
-  row_conditions (more_of-Condition part rest) = λ i. fold_condition layer part ∷ row_conditions rest i
+module _ {A : Type 0} (layer : NumberedCondition-F A → A) where
+  row_conditions : {n : Count} (row : Row_of-NumberedCondition n) → fold_conditions layer row ≡ map (fold_condition layer) (items-the_row-NumberedCondition n row)
+  row_conditions end_of-NumberedCondition = refl
+  row_conditions (more_of-NumberedCondition part rest) = λ i. fold_condition layer part ∷ row_conditions rest i
 
-  pub hidden_conditions : (parts : List Condition) → fold_conditions layer (hidden-the_row-Condition-0 parts) ≡ map (fold_condition layer) parts
-  hidden_conditions parts = row_conditions (hidden-the_row-Condition-0 parts) ∙ ap (map (fold_condition layer)) (items_hidden-the_row-Condition-0 parts)
+  pub hidden_conditions : (parts : List NumberedCondition) → fold_conditions layer (hidden-the_row-NumberedCondition-0 parts) ≡ map (fold_condition layer) parts
+  hidden_conditions parts = row_conditions (hidden-the_row-NumberedCondition-0 parts) ∙ ap (map (fold_condition layer)) (items_hidden-the_row-NumberedCondition-0 parts)
 
 module _ {A : Type 0} (layer : NumberedEffect-F A → A) where
   row_effects : {n : Count} (row : Row_of-NumberedEffect n) → fold_effects layer row ≡ map (fold_effect layer) (items-the_row-NumberedEffect n row)
@@ -42,13 +42,13 @@ module _ {A : Type 0} (layer : NumberedEffect-F A → A) where
   pub hidden_effects : (parts : List NumberedEffect) → fold_effects layer (hidden-the_row-NumberedEffect-0 parts) ≡ map (fold_effect layer) parts
   hidden_effects parts = row_effects (hidden-the_row-NumberedEffect-0 parts) ∙ ap (map (fold_effect layer)) (items_hidden-the_row-NumberedEffect-0 parts)
 
-module _ {A : Type 0} (layer : Goal-F A → A) where
-  row_goals : {n : Count} (row : Row_of-Goal n) → fold_goals layer row ≡ map (fold_goal layer) (items-the_row-Goal n row)
-  row_goals end_of-Goal = refl
-  row_goals (more_of-Goal part rest) = λ i. fold_goal layer part ∷ row_goals rest i
+module _ {A : Type 0} (layer : NumberedGoal-F A → A) where
+  row_goals : {n : Count} (row : Row_of-NumberedGoal n) → fold_goals layer row ≡ map (fold_goal layer) (items-the_row-NumberedGoal n row)
+  row_goals end_of-NumberedGoal = refl
+  row_goals (more_of-NumberedGoal part rest) = λ i. fold_goal layer part ∷ row_goals rest i
 
-  pub hidden_goals : (parts : List Goal) → fold_goals layer (hidden-the_row-Goal-0 parts) ≡ map (fold_goal layer) parts
-  hidden_goals parts = row_goals (hidden-the_row-Goal-0 parts) ∙ ap (map (fold_goal layer)) (items_hidden-the_row-Goal-0 parts)
+  pub hidden_goals : (parts : List NumberedGoal) → fold_goals layer (hidden-the_row-NumberedGoal-0 parts) ≡ map (fold_goal layer) parts
+  hidden_goals parts = row_goals (hidden-the_row-NumberedGoal-0 parts) ∙ ap (map (fold_goal layer)) (items_hidden-the_row-NumberedGoal-0 parts)
 
 module _ {A : Type 0} (layer : NumberedConstraint-F A → A) where
   row_constraints : {n : Count} (row : Row_of-NumberedConstraint n) → fold_constraints layer row ≡ map (fold_constraint layer) (items-the_row-NumberedConstraint n row)
@@ -65,43 +65,43 @@ cut_total-map size start items = fold-map (λ total n. cut (total + n)) size sta
 -- ---- sizes
 
 module _ (N : Numbers) where
-  pub condition-Atom : (predicate : ℕ) (args : List Argument) → condition_size N (condition.Atom predicate args) ≡ 1
+  pub condition-Atom : (predicate : ℕ) (args : List NumberedArgument) → condition_size N (condition.Atom predicate args) ≡ 1
   unfolding condition_size
   condition-Atom predicate args = refl
 
-  pub condition-Equal : (left : Argument) (right : Argument) → condition_size N (condition.Equal left right) ≡ 1
+  pub condition-Equal : (left : NumberedArgument) (right : NumberedArgument) → condition_size N (condition.Equal left right) ≡ 1
   unfolding condition_size
   condition-Equal left right = refl
 
-  pub condition-And : (parts : List Condition) → condition_size N (condition.And parts) ≡ cut_total (condition_size N) 1 parts
+  pub condition-And : (parts : List NumberedCondition) → condition_size N (condition.And parts) ≡ cut_total (condition_size N) 1 parts
   unfolding condition_size
   condition-And parts = ap (cut_sum 1) (hidden_conditions (condition_layer N) parts) ∙ cut_total-map (fold_condition (condition_layer N)) 1 parts
 
-  pub condition-Or : (parts : List Condition) → condition_size N (condition.Or parts) ≡ cut_total (condition_size N) 1 parts
+  pub condition-Or : (parts : List NumberedCondition) → condition_size N (condition.Or parts) ≡ cut_total (condition_size N) 1 parts
   unfolding condition_size
   condition-Or parts = ap (cut_sum 1) (hidden_conditions (condition_layer N) parts) ∙ cut_total-map (fold_condition (condition_layer N)) 1 parts
 
-  pub condition-Not : (part : Condition) → condition_size N (condition.Not part) ≡ above (condition_size N part)
-  unfolding condition_size hidden-the_row-Condition-1 hidden
+  pub condition-Not : (part : NumberedCondition) → condition_size N (condition.Not part) ≡ above (condition_size N part)
+  unfolding condition_size hidden-the_row-NumberedCondition-1 hidden
   condition-Not part = refl
 
-  pub condition-Imply : (first : Condition) (second : Condition) → condition_size N (condition.Imply first second) ≡ above_two (condition_size N first) (condition_size N second)
-  unfolding condition_size hidden-the_row-Condition-1 hidden
+  pub condition-Imply : (first : NumberedCondition) (second : NumberedCondition) → condition_size N (condition.Imply first second) ≡ above_two (condition_size N first) (condition_size N second)
+  unfolding condition_size hidden-the_row-NumberedCondition-1 hidden
   condition-Imply first second = refl
 
-  pub condition-Exists : (ranges : List ℕ) (body : Condition) → condition_size N (condition.Exists ranges body) ≡ above_each (cut_choices N ranges) (condition_size N body)
-  unfolding condition_size hidden-the_row-Condition-1 hidden
+  pub condition-Exists : (ranges : List ℕ) (body : NumberedCondition) → condition_size N (condition.Exists ranges body) ≡ above_each (cut_choices N ranges) (condition_size N body)
+  unfolding condition_size hidden-the_row-NumberedCondition-1 hidden
   condition-Exists ranges body = refl
 
-  pub condition-Forall : (ranges : List ℕ) (body : Condition) → condition_size N (condition.Forall ranges body) ≡ above_each (cut_choices N ranges) (condition_size N body)
-  unfolding condition_size hidden-the_row-Condition-1 hidden
+  pub condition-Forall : (ranges : List ℕ) (body : NumberedCondition) → condition_size N (condition.Forall ranges body) ≡ above_each (cut_choices N ranges) (condition_size N body)
+  unfolding condition_size hidden-the_row-NumberedCondition-1 hidden
   condition-Forall ranges body = refl
 
-  pub effect-Add : (predicate : ℕ) (args : List Argument) → effect_size N (effect.Add predicate args) ≡ 1
+  pub effect-Add : (predicate : ℕ) (args : List NumberedArgument) → effect_size N (effect.Add predicate args) ≡ 1
   unfolding effect_size
   effect-Add predicate args = refl
 
-  pub effect-Del : (predicate : ℕ) (args : List Argument) → effect_size N (effect.Del predicate args) ≡ 1
+  pub effect-Del : (predicate : ℕ) (args : List NumberedArgument) → effect_size N (effect.Del predicate args) ≡ 1
   unfolding effect_size
   effect-Del predicate args = refl
 
@@ -113,7 +113,7 @@ module _ (N : Numbers) where
   unfolding effect_size hidden-the_row-NumberedEffect-1 hidden
   effect-Each ranges body = refl
 
-  pub effect-If : (test : Condition) (body : NumberedEffect) → effect_size N (effect.If test body) ≡ above_two (condition_size N test) (effect_size N body)
+  pub effect-If : (test : NumberedCondition) (body : NumberedEffect) → effect_size N (effect.If test body) ≡ above_two (condition_size N test) (effect_size N body)
   unfolding effect_size hidden-the_row-NumberedEffect-1 hidden
   effect-If test body = refl
 
@@ -121,19 +121,19 @@ module _ (N : Numbers) where
   unfolding effect_size
   effect-Cost increase = refl
 
-  pub goal-Plain : (body : Condition) → goal_size N (goal.Plain body) ≡ condition_size N body
+  pub goal-Plain : (body : NumberedCondition) → goal_size N (goal.Plain body) ≡ condition_size N body
   unfolding goal_size
   goal-Plain body = refl
 
-  pub goal-Both : (parts : List Goal) → goal_size N (goal.Both parts) ≡ cut_total (goal_size N) 1 parts
+  pub goal-Both : (parts : List NumberedGoal) → goal_size N (goal.Both parts) ≡ cut_total (goal_size N) 1 parts
   unfolding goal_size
   goal-Both parts = ap (cut_sum 1) (hidden_goals (goal_layer N) parts) ∙ cut_total-map (fold_goal (goal_layer N)) 1 parts
 
-  pub goal-Each : (ranges : List ℕ) (body : Goal) → goal_size N (goal.Each ranges body) ≡ above_each (cut_choices N ranges) (goal_size N body)
-  unfolding goal_size hidden-the_row-Goal-1 hidden
+  pub goal-Each : (ranges : List ℕ) (body : NumberedGoal) → goal_size N (goal.Each ranges body) ≡ above_each (cut_choices N ranges) (goal_size N body)
+  unfolding goal_size hidden-the_row-NumberedGoal-1 hidden
   goal-Each ranges body = refl
 
-  pub goal-Soft : (preference : Preference) → goal_size N (goal.Soft preference) ≡ above (condition_size N preference.body)
+  pub goal-Soft : (preference : NumberedPreference) → goal_size N (goal.Soft preference) ≡ above (condition_size N preference.body)
   unfolding goal_size
   goal-Soft preference = refl
 

@@ -4,7 +4,7 @@ use Rattle.p3_base.specs.declared.refusal.Code.TheVariants.{TooManyInstances, Fo
 use Rattle.p3_base.specs.declared.refusal.Refusal.{Refusal}
 use Rattle.p3_base.specs.declared.refusal.Side.{Side}
 use Rattle.p3_numbers.specs.declared.constraint.NumberedConstraint.{NumberedConstraint}
-use Rattle.p3_numbers.specs.declared.goal.Goal.{Goal}
+use Rattle.p3_numbers.specs.declared.goal.NumberedGoal.{NumberedGoal}
 use Rattle.p3_numbers.specs.declared.numbers.Numbers.{Numbers}
 use Rattle.p3_numbers.specs.declared.task.NumberedAction.{NumberedAction}
 use Rattle.p3_numbers.specs.declared.task.NumberedTask.{NumberedTask}

@@ -6,10 +6,10 @@ use Rattle.p3_numbers.specs.Tasks.{IsNumberedTask}
 use Rattle.p3_types.specs.FirstSteps.{counts_of, firsts_from}
 use Rattle.p3_types.specs.NameOrders.{action_names, IsNameOrder}
 use Rattle.p3_types.specs.Tables.{greatest_values}
-use Rattle.p3_types.specs.declared.parts.Parts.{Parts}
+use Rattle.p3_types.specs.declared.parts.CheckedParts.{CheckedParts}
 
 -- each is what it is called, for this task
-pub record ArePartsOf (T : Task) (parts : Parts) : Type 0 where
+pub record ArePartsOf (T : Task) (parts : CheckedParts) : Type 0 where
   pub numbered : IsNumberedTask T parts.numbered
   pub few : length parts.numbered.numbers.preferences < 2 ^ 32
   pub firsts : parts.first_steps.items ≡ firsts_from 0 (counts_of parts.numbered)

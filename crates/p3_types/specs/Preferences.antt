@@ -3,8 +3,8 @@ use Rattle.std.specs.Prelude.{ℕ, ◌*◌, ◌-◌, ◌/◌, ◌%◌, nat_lt, L
 use Rattle.p3_numbers.specs.Folds.{fold_goal, fold_constraint}
 use Rattle.p3_numbers.specs.declared.constraint.NumberedConstraint.{NumberedConstraint}
 use Rattle.p3_numbers.specs.declared.constraint.NumberedConstraint.TheOpen as constraint
-use Rattle.p3_numbers.specs.declared.goal.Goal.{Goal}
-use Rattle.p3_numbers.specs.declared.goal.Goal.TheOpen as goal
+use Rattle.p3_numbers.specs.declared.goal.NumberedGoal.{NumberedGoal}
+use Rattle.p3_numbers.specs.declared.goal.NumberedGoal.TheOpen as goal
 use Rattle.p3_numbers.specs.declared.numbers.Numbers.{Numbers}
 use Rattle.p3_types.specs.Cuts.{cut, choice_count, cut_choices, cut_sum}
 
@@ -15,13 +15,13 @@ repeated zero items = []
 repeated (suc n) items = items ++ repeated n items
 
 -- all offsets of one choice come before those of the next
-abbrev pub goal_offsets_layer : Numbers → goal.Goal-F (List ℕ) → List ℕ
+abbrev pub goal_offsets_layer : Numbers → goal.NumberedGoal-F (List ℕ) → List ℕ
 goal_offsets_layer N (goal.Plain body) = []
 goal_offsets_layer N (goal.Both parts) = flat_map (λ part. part) parts
 goal_offsets_layer N (goal.Each ranges body) = repeated (choice_count N ranges) body
 goal_offsets_layer N (goal.Soft preference) = preference.at ∷ []
 
-unfoldable pub goal_offsets : Numbers → Goal → List ℕ
+unfoldable pub goal_offsets : Numbers → NumberedGoal → List ℕ
 goal_offsets N tree = fold_goal (goal_offsets_layer N) tree
 
 abbrev pub constraint_offsets_layer : Numbers → constraint.NumberedConstraint-F (List ℕ) → List ℕ
@@ -35,13 +35,13 @@ constraint_offsets N tree = fold_constraint (constraint_offsets_layer N) tree
 
 -- ---- how many there are, cut
 
-abbrev pub goal_count_layer : Numbers → goal.Goal-F ℕ → ℕ
+abbrev pub goal_count_layer : Numbers → goal.NumberedGoal-F ℕ → ℕ
 goal_count_layer N (goal.Plain body) = 0
 goal_count_layer N (goal.Both parts) = cut_sum 0 parts
 goal_count_layer N (goal.Each ranges body) = cut (cut_choices N ranges * body)
 goal_count_layer N (goal.Soft preference) = 1
 
-unfoldable pub goal_count : Numbers → Goal → ℕ
+unfoldable pub goal_count : Numbers → NumberedGoal → ℕ
 goal_count N tree = fold_goal (goal_count_layer N) tree
 
 abbrev pub constraint_count_layer : Numbers → constraint.NumberedConstraint-F ℕ → ℕ

@@ -1,16 +1,16 @@
 -- The expanded sizes of numbered trees, cut.
 use Rattle.std.specs.Prelude.{ℕ, ◌+◌, ◌*◌}
 use Rattle.p3_numbers.specs.Folds.{fold_condition, fold_effect, fold_goal, fold_constraint}
-use Rattle.p3_numbers.specs.declared.condition.Condition.{Condition}
-use Rattle.p3_numbers.specs.declared.condition.Condition.TheOpen as condition
+use Rattle.p3_numbers.specs.declared.condition.NumberedCondition.{NumberedCondition}
+use Rattle.p3_numbers.specs.declared.condition.NumberedCondition.TheOpen as condition
 use Rattle.p3_numbers.specs.declared.constraint.NumberedConstraint.{NumberedConstraint}
 use Rattle.p3_numbers.specs.declared.constraint.NumberedConstraint.TheOpen as constraint
 use Rattle.p3_numbers.specs.NumberedModal.{NumberedModal}
 use Rattle.p3_base.specs.Operators.{formulas_of}
 use Rattle.p3_numbers.specs.declared.effect.NumberedEffect.{NumberedEffect}
 use Rattle.p3_numbers.specs.declared.effect.NumberedEffect.TheOpen as effect
-use Rattle.p3_numbers.specs.declared.goal.Goal.{Goal}
-use Rattle.p3_numbers.specs.declared.goal.Goal.TheOpen as goal
+use Rattle.p3_numbers.specs.declared.goal.NumberedGoal.{NumberedGoal}
+use Rattle.p3_numbers.specs.declared.goal.NumberedGoal.TheOpen as goal
 use Rattle.p3_numbers.specs.declared.numbers.Numbers.{Numbers}
 use Rattle.p3_types.specs.Cuts.{cut, cut_choices, cut_sum, cut_total}
 
@@ -24,7 +24,7 @@ above_two first second = cut (above first + second)
 abbrev pub above_each : ℕ → ℕ → ℕ
 above_each choices body = above (cut (choices * body))
 
-abbrev pub condition_layer : Numbers → condition.Condition-F ℕ → ℕ
+abbrev pub condition_layer : Numbers → condition.NumberedCondition-F ℕ → ℕ
 condition_layer N (condition.Atom predicate args) = 1
 condition_layer N (condition.Equal left right) = 1
 condition_layer N (condition.And parts) = cut_sum 1 parts
@@ -34,7 +34,7 @@ condition_layer N (condition.Imply first second) = above_two first second
 condition_layer N (condition.Exists ranges body) = above_each (cut_choices N ranges) body
 condition_layer N (condition.Forall ranges body) = above_each (cut_choices N ranges) body
 
-unfoldable pub condition_size : Numbers → Condition → ℕ
+unfoldable pub condition_size : Numbers → NumberedCondition → ℕ
 condition_size N tree = fold_condition (condition_layer N) tree
 
 abbrev pub effect_layer : Numbers → effect.NumberedEffect-F ℕ → ℕ
@@ -48,13 +48,13 @@ effect_layer N (effect.Cost increase) = 1
 unfoldable pub effect_size : Numbers → NumberedEffect → ℕ
 effect_size N tree = fold_effect (effect_layer N) tree
 
-abbrev pub goal_layer : Numbers → goal.Goal-F ℕ → ℕ
+abbrev pub goal_layer : Numbers → goal.NumberedGoal-F ℕ → ℕ
 goal_layer N (goal.Plain body) = condition_size N body
 goal_layer N (goal.Both parts) = cut_sum 1 parts
 goal_layer N (goal.Each ranges body) = above_each (cut_choices N ranges) body
 goal_layer N (goal.Soft preference) = above (condition_size N preference.body)
 
-unfoldable pub goal_size : Numbers → Goal → ℕ
+unfoldable pub goal_size : Numbers → NumberedGoal → ℕ
 goal_size N tree = fold_goal (goal_layer N) tree
 
 abbrev pub modal_size : Numbers → NumberedModal → ℕ

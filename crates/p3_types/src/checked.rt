@@ -21,7 +21,7 @@ ghost use Rattle.p3_types.specs.Tables.{
 };
 ghost use Rattle.p3_types.specs.Texts.{HasTexts, has_short_numbers};
 
-use crate::parts::{Costs, Orders, Parts};
+use crate::parts::{CostScale, Orders, CheckedParts};
 use p3_base::{Name, Side};
 use p3_numbers::NumberedTask;
 use p3_tree::Task;
@@ -64,21 +64,21 @@ impl Checked {
     ghost use Rattle.p3_types.specs.Parts.{ArePartsOf};
 
     /// The task with its parts.
-    pub(crate) fn of(task: Task, side: Side, parts: Parts) -> Checked
+    pub(crate) fn of(task: Task, side: Side, parts: CheckedParts) -> Checked
         requires well_formed { WellFormed task }
         requires texts { HasTexts side task }
         requires parts { ArePartsOf task parts }
         ensures task { result.task ≡ task }
         ensures side { result.side ≡ side }
     {
-        let Parts {
+        let CheckedParts {
             numbered,
             first_steps,
             orders,
             costs,
         } = parts;
         let Orders { actions, objects } = orders;
-        let Costs { places, greatest } = costs;
+        let CostScale { places, greatest } = costs;
         Checked {
             task,
             side,

@@ -28,7 +28,7 @@ pub(crate) struct Orders {
 
 /// What is kept of the costs.
 #[derive(Drop)]
-pub(crate) struct Costs {
+pub(crate) struct CostScale {
     /// Their decimal places.
     pub places: u32,
     /// The greatest value of each function.
@@ -37,7 +37,7 @@ pub(crate) struct Costs {
 
 /// What a checked task keeps beside its trees.
 #[derive(Drop)]
-pub(crate) struct Parts {
+pub(crate) struct CheckedParts {
     /// The task with numbers in the place of names.
     pub numbered: NumberedTask,
     /// The number of each action's first step, and behind them how many steps there are.
@@ -45,7 +45,7 @@ pub(crate) struct Parts {
     /// The places of its names by rising names.
     pub orders: Orders,
     /// Its costs.
-    pub costs: Costs,
+    pub costs: CostScale,
 }
 
 /// The places of the names by rising names.
@@ -77,7 +77,7 @@ fn orders_of(alloc: Global, task: &Task, numbers: &Numbers) -> Result<Orders, No
 }
 
 /// What is kept of the costs of a task.
-fn costs_of(alloc: Global, task: &Task, numbered: &NumberedTask) -> Result<Costs, NoMemory>
+fn costs_of(alloc: Global, task: &Task, numbered: &NumberedTask) -> Result<CostScale, NoMemory>
     requires well_formed { WellFormed task.now }
     requires numbered { IsNumberedTask task.now numbered.now }
     requires short { places_of_costs task.now ≤ 6 }
@@ -88,11 +88,11 @@ fn costs_of(alloc: Global, task: &Task, numbered: &NumberedTask) -> Result<Costs
     let places = cost_places(task);
     let functions = numbered.numbers.functions.len();
     let greatest = greatest_values(alloc, numbered.values.items(), functions, places)?;
-    Ok(Costs { places, greatest })
+    Ok(CostScale { places, greatest })
 }
 
 /// The parts together.
-fn joined(numbered: NumberedTask, first_steps: Vec<u32>, orders: Orders, costs: Costs) -> Parts
+fn joined(numbered: NumberedTask, first_steps: Vec<u32>, orders: Orders, costs: CostScale) -> CheckedParts
     ensures { result ≡ record {
       numbered = numbered;
       first_steps = first_steps;
@@ -100,7 +100,7 @@ fn joined(numbered: NumberedTask, first_steps: Vec<u32>, orders: Orders, costs: 
       costs = costs;
     } }
 {
-    Parts {
+    CheckedParts {
         numbered,
         first_steps,
         orders,
@@ -109,7 +109,7 @@ fn joined(numbered: NumberedTask, first_steps: Vec<u32>, orders: Orders, costs: 
 }
 
 /// The parts of a task.
-pub(crate) fn parts_of(alloc: Global, task: &Task) -> Result<Parts, NoMemory>
+pub(crate) fn parts_of(alloc: Global, task: &Task) -> Result<CheckedParts, NoMemory>
     requires well_formed { WellFormed task.now }
     requires short { places_of_costs task.now ≤ 6 }
     ensures { IfOk result (ArePartsOf task.now) }

@@ -6,7 +6,7 @@ ghost use Rattle.p3_types.specs.Cuts.{cut_total};
 ghost use Rattle.p3_types.specs.Preferences as instance;
 
 use crate::choices::{choice_count, cut_product, cut_sum};
-use p3_numbers::{Goal, NumberedConstraint, Numbers};
+use p3_numbers::{NumberedGoal, NumberedConstraint, Numbers};
 
 /// The place in what stands behind so many items, if it is not one of them.
 pub(crate) fn place_behind(count: u64, place: u32) -> Option<u32>
@@ -38,23 +38,23 @@ fn place_within(choices: u64, count: u64, place: u32) -> Option<u32>
 /// How many instances of preferences a goal has, cut. It takes no memory.
 #[cycle(goal_count)]
 #[tactic(auto, using(crate::proofs::PreferenceLemmas::goal_counts))]
-pub(crate) fn goal_count(numbers: &Numbers, goal: &Goal) -> u64
+pub(crate) fn goal_count(numbers: &Numbers, goal: &NumberedGoal) -> u64
     ensures { result ≡ instance.goal_count numbers.now goal.now }
 {
     match goal {
-        Goal::Plain(_) => 0,
-        Goal::Both(parts) => goals_count(numbers, parts.items()),
-        Goal::Each(ranges, body) => {
+        NumberedGoal::Plain(_) => 0,
+        NumberedGoal::Both(parts) => goals_count(numbers, parts.items()),
+        NumberedGoal::Each(ranges, body) => {
             let choices = choice_count(numbers, ranges.items());
             cut_product(choices, goal_count(numbers, body.get()))
         }
-        Goal::Soft(_) => 1,
+        NumberedGoal::Soft(_) => 1,
     }
 }
 
 /// How many the parts have, cut.
 #[cycle(goal_count)]
-fn goals_count(numbers: &Numbers, parts: &[Goal]) -> u64
+fn goals_count(numbers: &Numbers, parts: &[NumberedGoal]) -> u64
     ensures { result ≡ cut_total (instance.goal_count numbers.now) 0 parts.now }
 {
     let mut total = 0;
@@ -96,13 +96,13 @@ fn constraints_count(numbers: &Numbers, parts: &[NumberedConstraint]) -> u64
 /// The offset of the word `preference` of the instance of a goal at a place.
 #[cycle(goal_offset)]
 #[tactic(auto, using(crate::proofs::PreferenceLemmas::goal_places))]
-pub(crate) fn goal_offset(numbers: &Numbers, goal: &Goal, place: u32) -> Option<u32>
+pub(crate) fn goal_offset(numbers: &Numbers, goal: &NumberedGoal, place: u32) -> Option<u32>
     ensures { result ≡ slice_get (instance.goal_offsets numbers.now goal.now) place }
 {
     match goal {
-        Goal::Plain(_) => None,
-        Goal::Both(parts) => goals_offset(numbers, parts.items(), place),
-        Goal::Each(ranges, body) => {
+        NumberedGoal::Plain(_) => None,
+        NumberedGoal::Both(parts) => goals_offset(numbers, parts.items(), place),
+        NumberedGoal::Each(ranges, body) => {
             let choices = choice_count(numbers, ranges.items());
             let count = goal_count(numbers, body.get());
             match place_within(choices, count, place) {
@@ -110,7 +110,7 @@ pub(crate) fn goal_offset(numbers: &Numbers, goal: &Goal, place: u32) -> Option<
                 None => None,
             }
         }
-        Goal::Soft(preference) => {
+        NumberedGoal::Soft(preference) => {
             if place == 0 {
                 Some(preference.at)
             } else {
@@ -122,7 +122,7 @@ pub(crate) fn goal_offset(numbers: &Numbers, goal: &Goal, place: u32) -> Option<
 
 /// The offset at a place in the parts.
 #[cycle(goal_offset)]
-fn goals_offset(numbers: &Numbers, parts: &[Goal], place: u32) -> Option<u32>
+fn goals_offset(numbers: &Numbers, parts: &[NumberedGoal], place: u32) -> Option<u32>
     ensures { result ≡ slice_get (flat_map (instance.goal_offsets numbers.now) parts.now) place }
 {
     let mut left = place;

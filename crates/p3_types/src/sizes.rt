@@ -6,7 +6,7 @@ ghost use Rattle.p3_types.specs.Sizes as size;
 
 use crate::choices::{choice_count, cut_product, cut_sum};
 use p3_base::Operands;
-use p3_numbers::{Condition, Goal, NumberedConstraint, NumberedEffect, NumberedModal, Numbers};
+use p3_numbers::{NumberedCondition, NumberedGoal, NumberedConstraint, NumberedEffect, NumberedModal, Numbers};
 
 /// The size of a tree above one part.
 fn above(part: u64) -> u64
@@ -32,23 +32,23 @@ fn above_each(numbers: &Numbers, ranges: &[u32], body: u64) -> u64
 /// The size of a condition. It takes no memory.
 #[cycle(condition)]
 #[tactic(auto, using(crate::proofs::SizeLemmas::condition_sizes))]
-fn condition_size(numbers: &Numbers, condition: &Condition) -> u64
+fn condition_size(numbers: &Numbers, condition: &NumberedCondition) -> u64
     ensures { result ≡ size.condition_size numbers.now condition.now }
 {
     match condition {
-        Condition::Atom { .. } => 1,
-        Condition::Equal(_, _) => 1,
-        Condition::And(parts) => conditions_size(numbers, parts.items()),
-        Condition::Or(parts) => conditions_size(numbers, parts.items()),
-        Condition::Not(part) => above(condition_size(numbers, part.get())),
-        Condition::Imply(first, second) => {
+        NumberedCondition::Atom { .. } => 1,
+        NumberedCondition::Equal(_, _) => 1,
+        NumberedCondition::And(parts) => conditions_size(numbers, parts.items()),
+        NumberedCondition::Or(parts) => conditions_size(numbers, parts.items()),
+        NumberedCondition::Not(part) => above(condition_size(numbers, part.get())),
+        NumberedCondition::Imply(first, second) => {
             let first = condition_size(numbers, first.get());
             above_two(first, condition_size(numbers, second.get()))
         }
-        Condition::Exists(ranges, body) => {
+        NumberedCondition::Exists(ranges, body) => {
             above_each(numbers, ranges.items(), condition_size(numbers, body.get()))
         }
-        Condition::Forall(ranges, body) => {
+        NumberedCondition::Forall(ranges, body) => {
             above_each(numbers, ranges.items(), condition_size(numbers, body.get()))
         }
     }
@@ -56,7 +56,7 @@ fn condition_size(numbers: &Numbers, condition: &Condition) -> u64
 
 /// The size of a condition that is made of the parts.
 #[cycle(condition)]
-fn conditions_size(numbers: &Numbers, parts: &[Condition]) -> u64
+fn conditions_size(numbers: &Numbers, parts: &[NumberedCondition]) -> u64
     ensures { result ≡ cut_total (size.condition_size numbers.now) 1 parts.now }
 {
     let mut total = 1;
@@ -102,22 +102,22 @@ fn effects_size(numbers: &Numbers, parts: &[NumberedEffect]) -> u64
 /// The size of a precondition or goal. It takes no memory.
 #[cycle(goal)]
 #[tactic(auto, using(crate::proofs::SizeLemmas::goal_sizes))]
-pub(crate) fn goal_size(numbers: &Numbers, goal: &Goal) -> u64
+pub(crate) fn goal_size(numbers: &Numbers, goal: &NumberedGoal) -> u64
     ensures { result ≡ size.goal_size numbers.now goal.now }
 {
     match goal {
-        Goal::Plain(condition) => condition_size(numbers, condition),
-        Goal::Both(parts) => goals_size(numbers, parts.items()),
-        Goal::Each(ranges, body) => {
+        NumberedGoal::Plain(condition) => condition_size(numbers, condition),
+        NumberedGoal::Both(parts) => goals_size(numbers, parts.items()),
+        NumberedGoal::Each(ranges, body) => {
             above_each(numbers, ranges.items(), goal_size(numbers, body.get()))
         }
-        Goal::Soft(preference) => above(condition_size(numbers, &preference.body)),
+        NumberedGoal::Soft(preference) => above(condition_size(numbers, &preference.body)),
     }
 }
 
 /// The size of a goal that is made of the parts.
 #[cycle(goal)]
-fn goals_size(numbers: &Numbers, parts: &[Goal]) -> u64
+fn goals_size(numbers: &Numbers, parts: &[NumberedGoal]) -> u64
     ensures { result ≡ cut_total (size.goal_size numbers.now) 1 parts.now }
 {
     let mut total = 1;
@@ -128,7 +128,7 @@ fn goals_size(numbers: &Numbers, parts: &[Goal]) -> u64
 }
 
 /// The size of an operator over two conditions.
-fn pair_size(numbers: &Numbers, first: &Condition, second: &Condition) -> u64
+fn pair_size(numbers: &Numbers, first: &NumberedCondition, second: &NumberedCondition) -> u64
     ensures { result ≡ size.above_two (size.condition_size numbers.now first.now)
         (size.condition_size numbers.now second.now) }
 {

@@ -13,10 +13,10 @@ use Rattle.p3_tree.specs.Reports.Plans.{evaluated_lines, fault_line, metric_line
 use Rattle.p3_tree.specs.Reports.Watching.{judged_by, judged_lines}
 use Rattle.p3_tree.specs.Validity.{Fault, first_fault}
 use Rattle.p3_tree.specs.declared.task.Task.{Task}
-use Rattle.p3_reports.specs.Found.{IsMetric, IsQuantity}
+use Rattle.p3_reports.specs.Contents.{IsMetric, IsQuantity}
 use Rattle.p3_reports.specs.Parts.{quantity_text}
 use Rattle.p3_reports.specs.declared.quantity.Quantity.{Quantity}
-use Rattle.p3_reports.proofs.FoundLaws.{quantity_is}
+use Rattle.p3_reports.proofs.ContentsLaws.{quantity_is}
 use Rattle.p3_reports.proofs.PutLemmas.{both_put, partly_first, partly_second}
 use Rattle.p3_watch.specs.Violations.{violated_lines}
 

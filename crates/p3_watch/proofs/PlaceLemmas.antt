@@ -10,7 +10,7 @@ use Rattle.p3_watch.specs.Lines.{Begins, IsInLine, IsStart, IsToldThere, line_le
 use Rattle.p3_watch.specs.Watching.{IsWithin}
 use Rattle.p3_watch.specs.declared.watch.Line.{Line}
 use Rattle.p3_watch.specs.declared.watch.Line.TheVariants as line
-use Rattle.p3_watch.specs.declared.lines.Start.{Start}
+use Rattle.p3_watch.specs.declared.lines.LineStart.{LineStart}
 
 abbrev stays : ℕ → Bool
 stays byte = not (is_line_feed byte)
@@ -90,7 +90,7 @@ module _ (text : List ℕ) (start : ℕ) (within : start ≤ length text) where
           column_is text (feed + 1) ∙ ap (λ n. n + 1) (suffix_len-take_no stays text (feed + 1) 0 some enough (ap (λ n. not (is_line_feed (get_or text n 0))) back ∙ ap not feed_at))
 
 -- a refusal within a line that begins there stands in it
-pub in_line : (text : List ℕ) (start : Start) (refusal : Refusal) → start.offset ≤ length text → Begins text start → refusal.pos.offset ≤ line_len (drop start.offset text) → IsInLine text start refusal
+pub in_line : (text : List ℕ) (start : LineStart) (refusal : Refusal) → start.offset ≤ length text → Begins text start → refusal.pos.offset ≤ line_len (drop start.offset text) → IsInLine text start refusal
 in_line text start refusal within begins low =
     let so = along text start.offset within begins.column refusal.pos.offset low in
     let most = line_fits text start.offset within in
@@ -105,7 +105,7 @@ pub row_fits : (text : List ℕ) (offset : ℕ) → line_of text offset ≤ offs
 row_fits text offset = omega (arith, count_by-le-length is_line_feed (take offset text), length-take offset text)
 
 -- the place behind a line and its line feed, or the end of the text
-pub starts_behind : (text : List ℕ) (start new : Start) (len : ℕ) → IsStart text start → start.offset < length text → len ≡ line_len (drop start.offset text)
+pub starts_behind : (text : List ℕ) (start new : LineStart) (len : ℕ) → IsStart text start → start.offset < length text → len ≡ line_len (drop start.offset text)
     → new.row ≡ start.row + 1 → new.offset ≡ min (length text) (start.offset + len + 1) → IsStart text new
 starts_behind text start new len is some long row at = record {
   within = omega (arith, at);
@@ -120,7 +120,7 @@ starts_behind text start new len is some long row at = record {
 }
 
 -- the start of a text
-pub text_starts : (text : List ℕ) (start : Start) → start.offset ≡ 0 → start.row ≡ 1 → IsStart text start
+pub text_starts : (text : List ℕ) (start : LineStart) → start.offset ≡ 0 → start.row ≡ 1 → IsStart text start
 text_starts text start first row = record {
   within = omega (arith, first);
   begins = λ some. record {
@@ -136,7 +136,7 @@ is_inside size at more = by (nat_lt at size) refl where
   by false e = absurd (true≢false (sym (more (ltb-false at size e))))
 
 -- what a line comes to stands in that line
-pub told_there : (text : List ℕ) (start : Start) (size : ℕ) (told : Line) → IsStart text start → start.offset < length text → size ≡ line_len (drop start.offset text) → IsWithin size told → IsToldThere text start told
+pub told_there : (text : List ℕ) (start : LineStart) (size : ℕ) (told : Line) → IsStart text start → start.offset < length text → size ≡ line_len (drop start.offset text) → IsWithin size told → IsToldThere text start told
 told_there text start size line.Blank is low long within = tt
 told_there text start size line.Done is low long within = tt
 told_there text start size (line.Invalid fault) is low long within = tt

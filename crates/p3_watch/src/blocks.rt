@@ -9,8 +9,8 @@ ghost use Rattle.p3_watch.specs.Lines.{IsInLine, IsToldThere};
 ghost use Rattle.p3_watch.specs.Watching.{OfAnswer};
 
 use crate::evaluated::put_judged;
-use crate::found::named_fault;
-use crate::lines::Start;
+use crate::run_report::named_fault;
+use crate::lines::LineStart;
 use crate::watch::{Line, Watch};
 use p3_base::{Pos, Refusal, Sink, SinkFailed};
 use p3_reports::{PlacedRefusal, StackSink, put_fault, put_placed_refusal};
@@ -23,7 +23,7 @@ const BLOCK_ROOM: usize = 4096;
 pub(crate) fn put_block<S: Sink>(
     watch: &Watch<'_>,
     text: &[u8],
-    start: Start,
+    start: LineStart,
     line: Line,
     out: &mut S,
 ) -> Result<(), SinkFailed>
@@ -54,7 +54,7 @@ pub(crate) fn put_block<S: Sink>(
 fn put_lines<S: Sink>(
     watch: &Watch<'_>,
     text: &[u8],
-    start: Start,
+    start: LineStart,
     line: Line,
     out: &mut S,
 ) -> Result<(), SinkFailed>
@@ -82,7 +82,7 @@ fn put_lines<S: Sink>(
 /// Puts the line of a refusal that counts from the start of its line.
 fn put_refused<S: Sink>(
     text: &[u8],
-    start: Start,
+    start: LineStart,
     refusal: &Refusal,
     out: &mut S,
 ) -> Result<(), SinkFailed>

@@ -8,7 +8,7 @@ ghost use Rattle.p3_tree.specs.Reports.Watching.{judged_lines};
 ghost use Rattle.p3_eval.specs.Runs.{BelongTogether, OfRun};
 ghost use Rattle.p3_watch.specs.Violations.{violated_lines};
 
-use crate::found::{cost_of, metric_of, named_fault};
+use crate::run_report::{cost_of, metric_of, named_fault};
 use p3_base::{Sink, SinkFailed};
 use p3_eval::Run;
 use p3_reports::{Part, put_fault, put_part, put_parts};

@@ -15,7 +15,7 @@ ghost use Rattle.p3_watch.specs.Watching.{
 };
 
 use crate::blocks::put_block;
-use crate::lines::Start;
+use crate::lines::LineStart;
 use crate::watch::Watch;
 use p3_base::{NoMemory, Sink, SinkFailed};
 use p3_plans::{LineStep, line_step};
@@ -48,7 +48,7 @@ pub fn follow<S: Sink>(watch: &mut Watch<'_>, text: &[u8], out: &mut S) -> Follo
         → Rose (S.seen out.old).faults (S.seen out.new).faults }
     ensures faults_grow { (S.seen out.old).faults ≤ (S.seen out.new).faults }
 {
-    let mut start = Start::of_text();
+    let mut start = LineStart::of_text();
     while !start.is_end(text) {
         let line = start.line(text);
         let told = watch.line(line);
@@ -73,7 +73,7 @@ pub fn line_numbers(alloc: Global, task: &Checked, text: &[u8]) -> Result<Vec<u3
         AreLinesNumbered task.now.task numbers.items (lines_of text.now)) }
 {
     let mut numbers = Vec::new(alloc);
-    let mut start = Start::of_text();
+    let mut start = LineStart::of_text();
     while !start.is_end(text) {
         let line = start.line(text);
         push_number(&mut numbers, line_number(task, line))?;

@@ -5,10 +5,10 @@
 mod blocks;
 mod evaluated;
 mod following;
-mod found;
+mod run_report;
 mod lines;
 mod watch;
 
 pub use following::{Followed, follow, line_numbers};
-pub use found::{cost_of, metric_of, named_fault};
+pub use run_report::{cost_of, metric_of, named_fault};
 pub use watch::{Line, Watch};

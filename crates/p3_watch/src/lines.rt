@@ -7,20 +7,20 @@ ghost use Rattle.p3_watch.specs.Lines.{IsStart, line_at, line_len};
 
 /// Where a line begins.
 #[derive(Clone, Copy, Debug, Drop)]
-pub(crate) struct Start {
+pub(crate) struct LineStart {
     /// The offset of its first byte.
     pub(crate) offset: u32,
     /// Its number, counted from 1.
     pub(crate) row: u32,
 }
 
-impl Start {
+impl LineStart {
     /// Gives the start of a text.
-    pub(crate) fn of_text() -> Start
+    pub(crate) fn of_text() -> LineStart
         ensures offset { result.offset ≡ 0 }
         ensures row { result.row ≡ 1 }
     {
-        Start { offset: 0, row: 1 }
+        LineStart { offset: 0, row: 1 }
     }
 
     /// Whether no line of the text begins there.
@@ -41,7 +41,7 @@ impl Start {
     }
 
     /// Gives the start of the line behind one of so many bytes, or the end of the text.
-    pub(crate) fn behind(self, text: &[u8], len: usize) -> Start
+    pub(crate) fn behind(self, text: &[u8], len: usize) -> LineStart
         requires start { IsStart text.now self }
         requires some { self.offset < length text.now }
         requires short { length text.now ≤ plan_byte_limit }
@@ -50,7 +50,7 @@ impl Start {
         ensures offset { result.offset ≡ min (length text.now) (self.offset + len + 1) }
     {
         let end = text.len().min(self.offset as usize + len + 1);
-        Start {
+        LineStart {
             offset: end as u32,
             row: self.row + 1,
         }

@@ -31,26 +31,26 @@ use Rattle.p3_tree.specs.declared.task.Init.TheVariants as init
 use Rattle.p3_tree.specs.declared.task.Domain.{Domain}
 use Rattle.p3_tree.specs.declared.task.Problem.{Problem}
 
-abbrev Found : Type 0
-Found = Scope → List Use
+abbrev UsesAt : Type 0
+UsesAt = Scope → List Use
 
-abbrev erased_found : Found → Found
+abbrev erased_found : UsesAt → UsesAt
 erased_found found scope = map erased_use (found scope)
 
 scope_of-erased : (variables : List Typed) → scope_of (erased_all_typed variables) ≡ scope_of variables
 scope_of-erased variables = map_along erased_typed _ _ (λ variable i. (variable.name.name, type_names-erased variable.types i)) variables
 
 -- the parts, the body under variables, and two parts one after the other
-parts_found : (parts : List Found) (scope : Scope) → flat_map (λ (part : Found). part scope) (map erased_found parts) ≡ map erased_use (flat_map (λ (part : Found). part scope) parts)
-parts_found parts scope = flat_map_into erased_found erased_use (λ (part : Found). part scope) (λ (part : Found). part scope) (λ part. refl) parts
+parts_found : (parts : List UsesAt) (scope : Scope) → flat_map (λ (part : UsesAt). part scope) (map erased_found parts) ≡ map erased_use (flat_map (λ (part : UsesAt). part scope) parts)
+parts_found parts scope = flat_map_into erased_found erased_use (λ (part : UsesAt). part scope) (λ (part : UsesAt). part scope) (λ part. refl) parts
 
-under_variables : (variables : List Typed) (body : Found) (scope : Scope) → Variables (erased_all_typed variables) ∷ erased_found body (scope_of (erased_all_typed variables) ++ scope) ≡ map erased_use (Variables variables ∷ body (scope_of variables ++ scope))
+under_variables : (variables : List Typed) (body : UsesAt) (scope : Scope) → Variables (erased_all_typed variables) ∷ erased_found body (scope_of (erased_all_typed variables) ++ scope) ≡ map erased_use (Variables variables ∷ body (scope_of variables ++ scope))
 under_variables variables body scope = λ i. Variables (erased_all_typed variables) ∷ erased_found body (scope_of-erased variables i ++ scope)
 
 both_found : (first second others more : List Use) → first ≡ map erased_use others → second ≡ map erased_use more → first ++ second ≡ map erased_use (others ++ more)
 both_found first second others more e f = (λ i. e i ++ f i) ∙ sym (map-append erased_use others more)
 
-formula_layer-erased : (x : Formula-F Found) → formula_layer (erased_formula_layer erased_found x) ≡ erased_found (formula_layer x)
+formula_layer-erased : (x : Formula-F UsesAt) → formula_layer (erased_formula_layer erased_found x) ≡ erased_found (formula_layer x)
 formula_layer-erased (formula.Atom pred args) = refl
 formula_layer-erased (formula.Equal left right) = refl
 formula_layer-erased (formula.And parts) = λ i scope. parts_found parts scope i
@@ -68,7 +68,7 @@ amount_uses-erased : (a : Amount) (scope : Scope) → amount_uses (erased_amount
 amount_uses-erased (amount.Number numeral) scope = refl
 amount_uses-erased (amount.Value function args) scope = refl
 
-effect_layer-erased : (x : Effect-F Found) → effect_layer (erased_effect_layer erased_found x) ≡ erased_found (effect_layer x)
+effect_layer-erased : (x : Effect-F UsesAt) → effect_layer (erased_effect_layer erased_found x) ≡ erased_found (effect_layer x)
 effect_layer-erased (effect.Add pred args) = refl
 effect_layer-erased (effect.Del pred args) = refl
 effect_layer-erased (effect.All parts) = λ i scope. parts_found parts scope i
@@ -80,7 +80,7 @@ effect_uses-erased : (e : Effect) → effect_uses (erased_effect e) ≡ erased_f
 unfolding effect_uses
 effect_uses-erased e = fold_effect-erased effect_layer effect_layer erased_found effect_layer-erased e
 
-goal_layer-erased : (x : PreGoal-F Found) → goal_layer (erased_goal_layer erased_found x) ≡ erased_found (goal_layer x)
+goal_layer-erased : (x : PreGoal-F UsesAt) → goal_layer (erased_goal_layer erased_found x) ≡ erased_found (goal_layer x)
 goal_layer-erased (goal.Plain body) = formula_uses-erased body
 goal_layer-erased (goal.Both parts) = λ i scope. parts_found parts scope i
 goal_layer-erased (goal.Each variables body) = λ i scope. under_variables variables body scope i
@@ -93,7 +93,7 @@ goal_uses-erased g = fold_goal-erased goal_layer goal_layer erased_found goal_la
 modal_uses-erased : (m : Modal) (scope : Scope) → modal_uses (erased_modal m) scope ≡ map erased_use (modal_uses m scope)
 modal_uses-erased m scope = joined_over erased_formula ◌++◌ (λ formula. formula_uses formula scope) m ∙ joined_image (map erased_use) ◌++◌ ◌++◌ (λ first second. sym (map-append erased_use first second)) _ (λ formula. formula_uses formula scope) (λ formula i. formula_uses-erased formula i scope) m
 
-constraint_layer-erased : (x : Constraint-F Found) → constraint_layer (erased_constraint_layer erased_found x) ≡ erased_found (constraint_layer x)
+constraint_layer-erased : (x : Constraint-F UsesAt) → constraint_layer (erased_constraint_layer erased_found x) ≡ erased_found (constraint_layer x)
 constraint_layer-erased (constraint.Both parts) = λ i scope. parts_found parts scope i
 constraint_layer-erased (constraint.Each variables body) = λ i scope. under_variables variables body scope i
 constraint_layer-erased (constraint.Single operator) = λ i scope. modal_uses-erased operator scope i

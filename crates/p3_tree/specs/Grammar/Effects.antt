@@ -13,11 +13,11 @@ use Rattle.p3_tree.specs.declared.effect.Effect.{Effect}
 use Rattle.p3_tree.specs.declared.effect.Effect.TheVariants as effect
 
 -- whether an increase may stand here, and the effect
-abbrev pub Found : Type 0
-Found = Bool → Option Effect
+abbrev pub EffectAt : Type 0
+EffectAt = Bool → Option Effect
 
 abbrev pub Parts : Type 0
-Parts = List (ListPart Found)
+Parts = List (ListPart EffectAt)
 
 -- `(` name term* `)` with a name other than `total-cost`
 abbrev pub function_value_in : List Expression → Option Amount
@@ -36,11 +36,11 @@ abbrev pub total_cost_place : Place Ref
 total_cost_place e = parts_place e >>= λ parts. only parts >>= is_word total_cost
 
 -- `(and` effect* `)`
-abbrev pub all_form : Parts → Found
-all_form behind free = all_trees (map (λ (part : ListPart Found). part.tree free) behind) >>= λ parts. Some (effect.All parts)
+abbrev pub all_form : Parts → EffectAt
+all_form behind free = all_trees (map (λ (part : ListPart EffectAt). part.tree free) behind) >>= λ parts. Some (effect.All parts)
 
 -- `(forall (` variable-list `)` effect `)`; no increase stands under it
-abbrev pub each_form : Parts → Found
+abbrev pub each_form : Parts → EffectAt
 each_form behind free = do
   both ← pair behind
   variables ← variables_place both.0.raw
@@ -48,7 +48,7 @@ each_form behind free = do
   Some (effect.Each variables body)
 
 -- `(when` formula effect `)`; no increase stands under it
-abbrev pub when_form : Parts → Found
+abbrev pub when_form : Parts → EffectAt
 when_form behind free = do
   both ← pair behind
   condition ← formula_place both.0.raw
@@ -56,7 +56,7 @@ when_form behind free = do
   Some (effect.If condition body)
 
 -- `(not (` name term* `))`
-abbrev pub delete_form : Parts → Found
+abbrev pub delete_form : Parts → EffectAt
 delete_form behind free = do
   part ← only (raws behind)
   parts ← parts_place part
@@ -64,22 +64,22 @@ delete_form behind free = do
   Some (effect.Del atom.pred atom.args)
 
 -- `(increase (total-cost)` amount `)`, where an increase may stand
-abbrev pub increase_form : Parts → Found
+abbrev pub increase_form : Parts → EffectAt
 increase_form behind free = do
   both ← pair (raws behind)
   word ← total_cost_place both.0
   increase ← amount_place both.1
   if free then Some (effect.Cost word.at increase) else None
 
-abbrev pub effect_forms : List (Name × (Parts → Found))
+abbrev pub effect_forms : List (Name × (Parts → EffectAt))
 effect_forms = (codes "and", all_form) ∷ (codes "forall", each_form) ∷ (codes "when", when_form) ∷ (codes "not", delete_form) ∷ (codes "increase", increase_form) ∷ []
 
 -- any other list, which becomes true: `(` name term* `)`
-abbrev pub add_form : Parts → Found
+abbrev pub add_form : Parts → EffectAt
 add_form parts free = atom_in (raws parts) >>= λ atom. Some (effect.Add atom.pred atom.args)
 
-abbrev pub effect_in : Parts → Found
-effect_in parts free = headed (λ (part : ListPart Found). part.raw) parts >>= λ list. choose list.0.name effect_forms (λ behind. add_form parts) list.1 free
+abbrev pub effect_in : Parts → EffectAt
+effect_in parts free = headed (λ (part : ListPart EffectAt). part.raw) parts >>= λ list. choose list.0.name effect_forms (λ behind. add_form parts) list.1 free
 
 -- effect: one of these forms
 unfoldable pub effect_place : Place Effect

@@ -3,8 +3,8 @@ use Rattle.std.proofs.lemmas.Bool.{and_from}
 use Rattle.std.proofs.lemmas.Result.{IfOk-weaker}
 use Rattle.p3_endphase.specs.Ends.{AreBelow}
 use Rattle.p3_formula.specs.Forms.{is_below, truth}
-use Rattle.p3_monitors.specs.declared.watching.Monitor.{Monitor}
-use Rattle.p3_simulation.specs.Watching.{AreSoftEnds, modals}
+use Rattle.p3_monitors.specs.declared.monitoring.Monitor.{Monitor}
+use Rattle.p3_simulation.specs.Monitoring.{AreSoftEnds, modals}
 use Rattle.p3_simulation.proofs.Bounds.{below_more}
 use Rattle.p3_compile.specs.Ending.{accepting, soft_ends}
 use Rattle.p3_compile.proofs.EndLaws.{hard_inside, soft_are, finish_truth, accepting_below, cut_before, ends_below, are_soft_ends, ends_count, phase_tidy}

@@ -4,7 +4,7 @@ use Rattle.std.specs.List.Sorted.{IsPermutation}
 use Rattle.std.proofs.lemmas.List.FromFn.{length-map-range_with_len}
 use Rattle.p3_simulation.specs.Naming.{numbered}
 use Rattle.p3_compile.specs.Readers.{AreByAtom, readers_of}
-use Rattle.p3_compile.specs.Watched.{named_more}
+use Rattle.p3_compile.specs.Monitored.{named_more}
 use Rattle.p3_compile.proofs.FrameLaws.{framed_is}
 use Rattle.p3_compile.proofs.begun.framed.Goals as goal
 

@@ -1,7 +1,7 @@
 use Rattle.std.proofs.Common.{◌∙◌, ◌++◌, ◌<◌, ◌≤◌, ◌+◌, length, take, drop, get_or, sym, ap, subst}
 use Rattle.p3_compile.specs.Ending.{accepting, soft_ends}
 use Rattle.p3_compile.proofs.EndLists.{enough, left_next, ends_next}
-use Rattle.p3_simulation.specs.Watching.{modals}
+use Rattle.p3_simulation.specs.Monitoring.{modals}
 use Rattle.p3_compile.proofs.ending.soft_ends.Goals as goal
 
 pub split_at-requires : goal.split_at-requires

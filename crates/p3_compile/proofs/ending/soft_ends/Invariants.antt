@@ -1,7 +1,7 @@
 use Rattle.std.proofs.Common.{◌≡◌, ◌++◌, drop}
 use Rattle.p3_compile.specs.Ending.{soft_ends}
-use Rattle.p3_compile.specs.Watched.{soft_modals}
-use Rattle.p3_simulation.specs.Watching.{modals}
+use Rattle.p3_compile.specs.Monitored.{soft_modals}
+use Rattle.p3_simulation.specs.Monitoring.{modals}
 use Rattle.p3_compile.proofs.ending.soft_ends.Given as goal
 
 -- the instances passed, and those that are left with the other monitors, are all

@@ -1,5 +1,5 @@
 use Rattle.std.proofs.Common.{◌≡◌}
-use Rattle.p3_compile.specs.Watched.{named_more}
+use Rattle.p3_compile.specs.Monitored.{named_more}
 use Rattle.p3_compile.proofs.names.push_numbered.Given as goal
 
 -- one name more for each turn

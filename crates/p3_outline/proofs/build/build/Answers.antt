@@ -1,7 +1,7 @@
 use Rattle.std.proofs.Common.{◌≡◌, ◌∷◌, List, [], ◌∙◌, refl, sym, ap, subst, length, take, drop, true, Some, None, arith}
 use Rattle.std.specs.Option.{option_map}
 use Rattle.p3_lexer.specs.Lexing.{Progress, left, token_of, with_next}
-use Rattle.p3_places.specs.Found.{side_of}
+use Rattle.p3_places.specs.Searches.{side_of}
 use Rattle.p3_places.specs.Walks.{fault_left}
 use Rattle.p3_places.proofs.WalkLemmas.{all_passed}
 use Rattle.p3_outline.specs.Nodes.{expressions_in}

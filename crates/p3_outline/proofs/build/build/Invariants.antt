@@ -4,7 +4,7 @@ use Rattle.p3_outline.specs.Builds.{the_built}
 use Rattle.p3_outline.specs.Numbers.{number_refusal}
 use Rattle.p3_outline.proofs.BuildLemmas.{Goes}
 use Rattle.p3_outline.proofs.NumberLemmas.{numbers_from}
-use Rattle.p3_places.specs.Found.{side_of}
+use Rattle.p3_places.specs.Searches.{side_of}
 use Rattle.p3_places.specs.Walks.{place_of, fault_of, fault_left}
 use Rattle.p3_outline.proofs.build.build.Given as goal
 

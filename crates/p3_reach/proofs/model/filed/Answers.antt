@@ -1,10 +1,10 @@
 use Rattle.std.proofs.Common.{◌≡◌, ◌∙◌, ◌+◌, ◌<◌, true, length, take, get_or, sym, ap, subst, arith}
 use Rattle.std.proofs.lemmas.List.{get_or_default, length-set}
 use Rattle.std.specs.List.{list_all}
-use Rattle.p3_reach.specs.Found.{AreFiled}
+use Rattle.p3_reach.specs.Derived.{AreFiled}
 use Rattle.p3_reach.specs.Rules.{is_rule_below}
 use Rattle.p3_reach.specs.declared.rules.Rule.{Rule}
-use Rattle.p3_reach.proofs.FoundLaws.{filed_more, premises_within}
+use Rattle.p3_reach.proofs.DerivedLaws.{filed_more, premises_within}
 use Rattle.p3_reach.proofs.model.filed.Goals as goal
 
 pub loop-rule-preserved : goal.loop-rule-preserved

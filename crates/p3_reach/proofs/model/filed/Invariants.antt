@@ -1,5 +1,5 @@
 use Rattle.std.proofs.Common.{◌≡◌, length, take}
-use Rattle.p3_reach.specs.Found.{AreFiled}
+use Rattle.p3_reach.specs.Derived.{AreFiled}
 use Rattle.p3_reach.proofs.model.filed.Given as goal
 
 -- the rules passed are filed

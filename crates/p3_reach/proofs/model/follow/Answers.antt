@@ -2,9 +2,9 @@ use Rattle.std.proofs.Common.{◌≡◌, ◌∙◌, ◌+◌, ◌<◌, length, ta
 use Rattle.std.proofs.lemmas.Bool.{and_left, and_right, and_from}
 use Rattle.std.proofs.lemmas.List.{get_or_default}
 use Rattle.p3_formula.specs.Forms.{is_set}
-use Rattle.p3_reach.specs.Found.{Follows}
+use Rattle.p3_reach.specs.Derived.{Follows}
 use Rattle.p3_reach.specs.declared.rules.Rule.{Rule}
-use Rattle.p3_reach.proofs.FoundLaws.{follows_idle, follows_more, gives_within}
+use Rattle.p3_reach.proofs.DerivedLaws.{follows_idle, follows_more, gives_within}
 use Rattle.p3_reach.proofs.model.follow.Goals as goal
 use Rattle.p3_reach.proofs.model.follow.Goals.{then-get+then-get-2+in_ok-add, else-get, else-get-via-then-get+else-get-2, else-get-via-else-get}
 

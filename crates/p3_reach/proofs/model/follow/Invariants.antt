@@ -1,5 +1,5 @@
 use Rattle.std.proofs.Common.{take}
-use Rattle.p3_reach.specs.Found.{Follows}
+use Rattle.p3_reach.specs.Derived.{Follows}
 use Rattle.p3_reach.proofs.model.follow.Given as goal
 
 -- the rules passed were followed

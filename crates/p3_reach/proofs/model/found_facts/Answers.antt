@@ -1,6 +1,6 @@
 use Rattle.std.proofs.Common.{◌+◌, sym, subst}
-use Rattle.p3_reach.specs.Found.{IsFactsUpTo}
-use Rattle.p3_reach.proofs.FoundLaws.{facts_not, facts_more}
+use Rattle.p3_reach.specs.Derived.{IsFactsUpTo}
+use Rattle.p3_reach.proofs.DerivedLaws.{facts_not, facts_more}
 use Rattle.p3_reach.proofs.model.found_facts.Goals as goal
 use Rattle.p3_reach.proofs.model.found_facts.Goals.{then-facts-proposition+in_ok-add, else-facts-proposition}
 

@@ -1,4 +1,4 @@
-use Rattle.p3_reach.specs.Found.{IsFactsUpTo}
+use Rattle.p3_reach.specs.Derived.{IsFactsUpTo}
 use Rattle.p3_reach.proofs.model.found_facts.Given as goal
 
 -- the facts passed are found

@@ -1,9 +1,9 @@
 use Rattle.std.proofs.Common.{◌≡◌, ◌∙◌, ◌<◌, true, length, get_or, sym, subst, arith}
 use Rattle.std.proofs.lemmas.List.{get_or_default}
 use Rattle.std.specs.List.{list_all}
-use Rattle.p3_reach.specs.Found.{Follows, file_of}
+use Rattle.p3_reach.specs.Derived.{Follows, file_of}
 use Rattle.p3_reach.specs.Rules.{is_rule_below}
-use Rattle.p3_reach.proofs.FoundLaws.{file_read, file_below, followed_more, followed_all}
+use Rattle.p3_reach.proofs.DerivedLaws.{file_read, file_below, followed_more, followed_all}
 use Rattle.p3_reach.proofs.model.least_model.Goals as goal
 
 pub follow-requires-clause-within : goal.follow-requires-clause-within

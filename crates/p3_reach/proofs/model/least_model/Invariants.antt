@@ -1,5 +1,5 @@
 use Rattle.std.proofs.Common.{◌^◌, ◌-◌}
-use Rattle.p3_reach.specs.Found.{IsFollowed}
+use Rattle.p3_reach.specs.Derived.{IsFollowed}
 use Rattle.p3_reach.proofs.model.least_model.Given as goal
 
 -- the propositions in the places passed were followed

@@ -1,6 +1,6 @@
 use Rattle.std.proofs.Common.{refl}
 use Rattle.p3_reports.proofs.ExplainedLaws.{explain_report_is}
-use Rattle.p3_reports.proofs.FoundLaws.{compile_report_is, embed_report_is, evaluate_report_is, generate_report_is, lift_report_is}
+use Rattle.p3_reports.proofs.ContentsLaws.{compile_report_is, embed_report_is, evaluate_report_is, generate_report_is, lift_report_is}
 use Rattle.p3_reports.proofs.laws.reports_are_lines.Goals as goal
 
 pub returns : goal.returns

@@ -3,7 +3,7 @@ use Rattle.std.specs.List.{All}
 use Rattle.std.proofs.lemmas.List.{get_or_default}
 use Rattle.p3_run.specs.Groups.{IsReader}
 use Rattle.p3_run.specs.Readers.{readers_at}
-use Rattle.p3_run.specs.declared.readers.Reader.{Reader}
+use Rattle.p3_run.specs.declared.readers.OperatorReader.{OperatorReader}
 use Rattle.p3_run.proofs.changing.follow_atom.Goals as goal
 
 pub renew_all-requires-clause-readers : goal.renew_all-requires-clause-readers
@@ -12,4 +12,4 @@ renew_all-requires-clause-readers c =
     let atom = c.args.atom in
     let there : atom < length readers = omega (arith, c.requires.within, c.requires.can.bits, c.requires.readers.atoms) in
     let e : c.items.result.now ≡ readers_at readers atom = c.items.ensures ∙ c.index-readers-atom.is ∙ get_or_default readers atom c.index-readers-atom.result [] there in
-    subst (λ (list : List Reader). All (IsReader c.args.task.now) list) (sym e) (c.requires.readers.within atom)
+    subst (λ (list : List OperatorReader). All (IsReader c.args.task.now) list) (sym e) (c.requires.readers.within atom)

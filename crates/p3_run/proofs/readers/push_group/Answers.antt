@@ -6,7 +6,7 @@ use Rattle.p3_base.specs.declared.operator.Operator.TheVariants.{AtEnd}
 use Rattle.p3_run.specs.Groups.{modal_at, modals_at, IsReader}
 use Rattle.p3_formula.specs.AtomLists.{modal_atoms}
 use Rattle.p3_run.specs.Readers.{filed_all, AreFiledTo}
-use Rattle.p3_run.specs.declared.readers.Reader.{Reader}
+use Rattle.p3_run.specs.declared.readers.OperatorReader.{OperatorReader}
 use Rattle.p3_run.proofs.ReaderLaws.{filed_one}
 use Rattle.p3_run.proofs.readers.push_group.Goals as goal
 
@@ -16,7 +16,7 @@ loop-place-preserved c =
     let place = c.loop-place.place in
     let modals = c.modals_at-modals.result.now in
     let readers = c.loop-place.readers.items in
-    let reader : Reader = record { group = c.args.group; place = place } in
+    let reader : OperatorReader = record { group = c.args.group; place = place } in
     let are : modals ≡ modals_at G c.args.group = c.modals_at-modals.ensures in
     let is : IsReader G reader = record { group = c.requires.within; place = subst (λ (list : List GroundModal). place < length list) are c.loop-place-test.true } in
     let one : c.index-modals-place.result ≡ modal_at G reader =

@@ -1,6 +1,6 @@
 use Rattle.std.proofs.Common.{◌∙◌, ◌++◌, ◌+◌, ◌-◌, ◌<◌, ◌^◌, length, sym, ap, subst}
 use Rattle.p3_simulation.specs.Naming.{question_names, wide_steps}
-use Rattle.p3_simulation.specs.Watching.{initial_bits}
+use Rattle.p3_simulation.specs.Monitoring.{initial_bits}
 use Rattle.p3_compile.specs.Stepping.{current_names}
 use Rattle.p3_compile.proofs.begun.BegunTarget.of.Goals as goal
 

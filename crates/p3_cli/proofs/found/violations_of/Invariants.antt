@@ -1,9 +1,0 @@
-use Rattle.std.proofs.Common.{◌≡◌, map, take}
-use Rattle.p3_tree.specs.PreferenceNames.{ordered_names}
-use Rattle.p3_reports.specs.Found.{count_of}
-use Rattle.p3_eval.specs.Runs.{OfRun}
-use Rattle.p3_cli.proofs.found.violations_of.Given as goal
-
-abbrev pub invariant-loop-number : goal.invariant-loop-number
-invariant-loop-number l =
-    OfRun l.checked.task l.run (λ plan. l.found ≡ map (count_of l.checked.task plan) (take l.number (ordered_names l.checked.task)))
