@@ -3,15 +3,15 @@ use Rattle.std.proofs.Common.{◌≡◌, ◌∙◌, ℕ, List, [], ◌∷◌, le
 use Rattle.std.specs.Prelude.{ℤ}
 use Rattle.std.specs.List.{list_all}
 use Rattle.std.proofs.lemmas.Bool.{and_from, and_parts}
-use Rattle.p3_tree.specs.Erased.{erased}
-use Rattle.p3_tree.specs.Faithful.{Faithful}
-use Rattle.p3_tree.specs.Metrics.{value}
-use Rattle.p3_tree.specs.Names.{Name, is_empty}
-use Rattle.p3_tree.specs.Plans.{Plan}
-use Rattle.p3_tree.specs.PlanTexts.{IsPlanText}
+use Rattle.p3_task.specs.Erased.{erased}
+use Rattle.p3_task.specs.Faithful.{Faithful}
+use Rattle.p3_task.specs.Metrics.{value}
+use Rattle.p3_task.specs.Names.{Name, is_empty}
+use Rattle.p3_task.specs.Plans.{Plan}
+use Rattle.p3_task.specs.PlanTexts.{IsPlanText}
 use Rattle.p3_tree.specs.Reports.Plans.{embedded_lines}
-use Rattle.p3_tree.specs.declared.task.Task.{Task}
-use Rattle.p3_tree.proofs.OffsetLemmas.{offset_free}
+use Rattle.p3_task.specs.declared.task.Task.{Task}
+use Rattle.p3_task.proofs.OffsetLemmas.{offset_free}
 use Rattle.p3_formula.specs.Targets.{Compiled, target_cost}
 use Rattle.p3_formula.specs.declared.target.Target.{Target}
 use Rattle.p3_formula.specs.declared.target.Weights.{Weights}
@@ -25,7 +25,7 @@ use Rattle.p3_embed.specs.Plans.{IsEmbeddedPlan}
 use Rattle.p3_cli.specs.Embedding.{IsEmbedded, IsSource}
 use Rattle.p3_cli.specs.Translation.{CanBeCompiled}
 use Rattle.p3_tree.specs.Reports.Plans.{generated_lines}
-use Rattle.p3_tree.specs.Validity.{is_valid}
+use Rattle.p3_task.specs.Validity.{is_valid}
 use Rattle.p3_ground.specs.StandsFor.{StandsFor}
 use Rattle.p3_cli.specs.Sampling.{IsSampled}
 use Rattle.p3_cli.proofs.FaithfulLaws.{compiled_faithful, faithful_read, is_source, source_cost, text_of_task}

@@ -4,19 +4,19 @@ use Rattle.std.specs.Prelude.{ℤ}
 use Rattle.std.proofs.lemmas.Int.{ints}
 use Rattle.std.proofs.lemmas.List.{length-map}
 use Rattle.std.proofs.lemmas.Slice.Zip.{AllZip-long}
-use Rattle.p3_tree.specs.Constraints.{instances}
-use Rattle.p3_tree.specs.Erased.{erased}
-use Rattle.p3_tree.specs.Faithful.{Faithful, IsSound, HasOneSource, extra}
-use Rattle.p3_tree.specs.Lifting.{lift}
-use Rattle.p3_tree.specs.Names.{Name, is_empty}
-use Rattle.p3_tree.specs.Metrics.{value, loss, loss_at, base_loss, violated}
-use Rattle.p3_tree.specs.Offences.{WellFormed}
-use Rattle.p3_tree.specs.Plans.{Plan, steps_fit}
-use Rattle.p3_tree.specs.StepNumbers.{HasNumber, HasStepNumbers}
-use Rattle.p3_tree.specs.Validity.{Valid, is_valid}
-use Rattle.p3_tree.specs.declared.task.Task.{Task}
-use Rattle.p3_tree.proofs.OffsetLemmas.{faithful_offset_free}
-use Rattle.p3_tree.proofs.StepNumberLaws.{steps_have_numbers}
+use Rattle.p3_task.specs.Constraints.{instances}
+use Rattle.p3_task.specs.Erased.{erased}
+use Rattle.p3_task.specs.Faithful.{Faithful, IsSound, HasOneSource, extra}
+use Rattle.p3_task.specs.Lifting.{lift}
+use Rattle.p3_task.specs.Names.{Name, is_empty}
+use Rattle.p3_task.specs.Metrics.{value, loss, loss_at, base_loss, violated}
+use Rattle.p3_task.specs.Offences.{WellFormed}
+use Rattle.p3_task.specs.Plans.{Plan, steps_fit}
+use Rattle.p3_task.specs.StepNumbers.{HasNumber, HasStepNumbers}
+use Rattle.p3_task.specs.Validity.{Valid, is_valid}
+use Rattle.p3_task.specs.declared.task.Task.{Task}
+use Rattle.p3_task.proofs.OffsetLemmas.{faithful_offset_free}
+use Rattle.p3_task.proofs.StepNumberLaws.{steps_have_numbers}
 use Rattle.p3_formula.specs.GroundPlans.{GroundPlan, ground_cost, ground_loss}
 use Rattle.p3_formula.specs.Targets.{TargetPlan, TargetValid, Compiled, IsSized, IsSoundFor, IsWellNamed, HasOneOrigin, Translates, ground_lift, target_cost}
 use Rattle.p3_formula.specs.declared.target.Target.{Target}

@@ -8,19 +8,19 @@ use Rattle.std.proofs.lemmas.Option.{get_or_from_slice_get, slice_get-get_or, sl
 use Rattle.p3_base.specs.declared.refusal.Code.TheVariants.{FlatTooWide}
 use Rattle.p3_base.specs.declared.refusal.Refusal.{Refusal}
 use Rattle.p3_base.specs.declared.refusal.Role.TheVariants as role
-use Rattle.p3_tree.specs.Faithful.{Faithful}
-use Rattle.p3_tree.specs.Lifting.{steps}
-use Rattle.p3_tree.specs.Names.{Name}
-use Rattle.p3_tree.specs.Offences.{WellFormed}
-use Rattle.p3_tree.specs.Plans.{action_named}
-use Rattle.p3_tree.specs.Refusals.Places.{refusal_at_word}
-use Rattle.p3_tree.specs.Sides.{step_count_limit}
-use Rattle.p3_tree.specs.StepNumbers.{HasNumber, IsOwn}
-use Rattle.p3_tree.specs.declared.task.Action.{Action}
-use Rattle.p3_tree.specs.declared.task.Step.{Step}
-use Rattle.p3_tree.specs.declared.task.Task.{Task}
-use Rattle.p3_tree.proofs.OnceLemmas.{find_found}
-use Rattle.p3_tree.proofs.StepNumberLaws.{steps_have_numbers}
+use Rattle.p3_task.specs.Faithful.{Faithful}
+use Rattle.p3_task.specs.Lifting.{steps}
+use Rattle.p3_task.specs.Names.{Name}
+use Rattle.p3_task.specs.Offences.{WellFormed}
+use Rattle.p3_task.specs.Plans.{action_named}
+use Rattle.p3_task.specs.Refusals.Places.{refusal_at_word}
+use Rattle.p3_task.specs.Sides.{step_count_limit}
+use Rattle.p3_task.specs.StepNumbers.{HasNumber, IsOwn}
+use Rattle.p3_task.specs.declared.task.Action.{Action}
+use Rattle.p3_task.specs.declared.task.Step.{Step}
+use Rattle.p3_task.specs.declared.task.Task.{Task}
+use Rattle.p3_task.proofs.OnceLemmas.{find_found}
+use Rattle.p3_task.proofs.StepNumberLaws.{steps_have_numbers}
 use Rattle.p3_formula.specs.Targets.{Compiled, IsSized, IsWellNamed, Translates}
 use Rattle.p3_formula.specs.declared.target.Target.{Target}
 use Rattle.p3_formula.specs.declared.target.TargetAction.{TargetAction}

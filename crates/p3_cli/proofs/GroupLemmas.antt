@@ -1,10 +1,10 @@
 -- What is true of each item that a place gives is true of all items of a grouped list.
 use Rattle.std.proofs.Common.{true, false, not, ◌&&◌, List, [], ◌∷◌, ◌++◌, map, fold, Option, Some, None}
 use Rattle.std.specs.List.{AllByRecursion}
-use Rattle.p3_tree.specs.Names.{is_empty}
-use Rattle.p3_tree.specs.Grammar.Words.{Place}
-use Rattle.p3_tree.specs.Grammar.Lists.{Scan, is_dash, with_type, with_item, scanned, grouped}
-use Rattle.p3_tree.specs.declared.expression.Expression.{Expression}
+use Rattle.p3_task.specs.Names.{is_empty}
+use Rattle.p3_task.specs.Grammar.Words.{Place}
+use Rattle.p3_task.specs.Grammar.Lists.{Scan, is_dash, with_type, with_item, scanned, grouped}
+use Rattle.p3_task.specs.declared.expression.Expression.{Expression}
 use Rattle.p3_types.proofs.Gives.{Gives, nothing, just, using, passing, whether, each_mapped, each_appended}
 
 module _ {A B : Type 0} (P : A → Type 0) (Q : Expression → Type 0) (item : Place A) (type : Place B) (one : (e : Expression) → Q e → Gives P (item e)) where

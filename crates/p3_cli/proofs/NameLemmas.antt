@@ -4,25 +4,25 @@ use Rattle.std.specs.List.{AllByRecursion, list_all}
 use Rattle.std.proofs.lemmas.Bool.{and_parts}
 use Rattle.std.proofs.lemmas.List.Folds.{list_all-append}
 use mathlib.Core.Former.{Count}
-use Rattle.p3_tree.specs.Expressions.{kept, spelling, spellings}
-use Rattle.p3_tree.specs.Grammar.Constraints.{constraint_or_empty_place}
-use Rattle.p3_tree.specs.Grammar.Effects.{effect_or_empty_place}
-use Rattle.p3_tree.specs.Grammar.Goals.{goal_or_empty_place}
-use Rattle.p3_tree.specs.Grammar.Halves.{Section, action_in, action_keywords, all_actions, at_most_one, body_at, domain_keywords, domain_place, functions_in, half_at, half_in, init_place, keyword_parts, kinds_in, no_constraints, once, optional, or_absent, part_at, predicates_in, problem_keywords, problem_place, requirements, section_of, section_place, sections_among, sections_named, titled}
-use Rattle.p3_tree.specs.Grammar.Lists.{objects_in, one_type_place, typed_item, variables_place}
-use Rattle.p3_tree.specs.Grammar.Metrics.{metric_in}
-use Rattle.p3_tree.specs.Grammar.Texts.{IsBalanced}
-use Rattle.p3_tree.specs.Grammar.Words.{◌>>=◌, each_at, expressions, is_name, is_word, name_place, parts_place}
-use Rattle.p3_tree.specs.Names.{Name}
-use Rattle.p3_tree.specs.Tokens.{Token, Open, Close, Word, tokens_of}
-use Rattle.p3_tree.specs.declared.effect.Effect.TheVariants as effect
-use Rattle.p3_tree.specs.declared.expression.Expression.{Expression, Row_of-Expression, end_of-Expression, more_of-Expression}
-use Rattle.p3_tree.specs.declared.expression.Expression.TheVariants as expression
-use Rattle.p3_tree.specs.declared.goal.PreGoal.TheVariants as goal
-use Rattle.p3_tree.specs.declared.task.Action.{Action}
-use Rattle.p3_tree.specs.declared.task.Domain.{Domain}
-use Rattle.p3_tree.specs.declared.term.Ref.{Ref}
-use Rattle.p3_tree.specs.declared.term.Typed.{Typed}
+use Rattle.p3_task.specs.Expressions.{kept, spelling, spellings}
+use Rattle.p3_task.specs.Grammar.Constraints.{constraint_or_empty_place}
+use Rattle.p3_task.specs.Grammar.Effects.{effect_or_empty_place}
+use Rattle.p3_task.specs.Grammar.Goals.{goal_or_empty_place}
+use Rattle.p3_task.specs.Grammar.Halves.{Section, action_in, action_keywords, all_actions, at_most_one, body_at, domain_keywords, domain_place, functions_in, half_at, half_in, init_place, keyword_parts, kinds_in, no_constraints, once, optional, or_absent, part_at, predicates_in, problem_keywords, problem_place, requirements, section_of, section_place, sections_among, sections_named, titled}
+use Rattle.p3_task.specs.Grammar.Lists.{objects_in, one_type_place, typed_item, variables_place}
+use Rattle.p3_task.specs.Grammar.Metrics.{metric_in}
+use Rattle.p3_task.specs.Grammar.Texts.{IsBalanced}
+use Rattle.p3_task.specs.Grammar.Words.{◌>>=◌, each_at, expressions, is_name, is_word, name_place, parts_place}
+use Rattle.p3_task.specs.Names.{Name}
+use Rattle.p3_task.specs.Tokens.{Token, Open, Close, Word, tokens_of}
+use Rattle.p3_task.specs.declared.effect.Effect.TheVariants as effect
+use Rattle.p3_task.specs.declared.expression.Expression.{Expression, Row_of-Expression, end_of-Expression, more_of-Expression}
+use Rattle.p3_task.specs.declared.expression.Expression.TheVariants as expression
+use Rattle.p3_task.specs.declared.goal.PreGoal.TheVariants as goal
+use Rattle.p3_task.specs.declared.task.Action.{Action}
+use Rattle.p3_task.specs.declared.task.Domain.{Domain}
+use Rattle.p3_task.specs.declared.term.Ref.{Ref}
+use Rattle.p3_task.specs.declared.term.Typed.{Typed}
 use Rattle.p3_types.proofs.Gives.{Gives, nothing, just, using, passing, whether, each_filtered, each_mapped, headed_gives, trees_give}
 use Rattle.p3_cli.proofs.GroupLemmas.{grouped_gives}
 

@@ -1,9 +1,9 @@
 -- What a command makes of a plan that a text spells, by its steps, and why it makes nothing of it.
 use Rattle.std.proofs.Common.{◌≡◌, ◌≤◌, List, None, length, inl, inr, ℕ}
 use Rattle.p3_base.specs.declared.refusal.Side.TheVariants.{Source, Written}
-use Rattle.p3_tree.specs.PlanTexts.{IsPlanText, plan_offence, step_limit}
-use Rattle.p3_tree.specs.Plans.{Plan}
-use Rattle.p3_tree.specs.declared.task.Task.{Task}
+use Rattle.p3_task.specs.PlanTexts.{IsPlanText, plan_offence, step_limit}
+use Rattle.p3_task.specs.Plans.{Plan}
+use Rattle.p3_task.specs.declared.task.Task.{Task}
 use Rattle.p3_plans.specs.Laws.{HasPlan}
 use Rattle.p3_plans.proofs.PlanLaws.{a_plan_where_no_offence}
 use Rattle.p3_eval.specs.Steps as of

@@ -5,15 +5,15 @@ use Rattle.p3_base.specs.declared.refusal.Side.TheVariants.{Source, Written}
 use Rattle.p3_tree.specs.Commands.{Command}
 use Rattle.p3_tree.specs.declared.command.CommandKind.{CommandKind}
 use Rattle.p3_tree.specs.declared.command.CommandKind.TheVariants.{Compile, Lift, Embed, Evaluate, Generate, CompileFlat, Explain, Watch}
-use Rattle.p3_tree.specs.Lifting.{is_plain, lift}
-use Rattle.p3_tree.specs.PlanTexts.{plan_offence}
-use Rattle.p3_tree.specs.Plans.{Plan}
-use Rattle.p3_tree.specs.Refusals.First.{AreAccepted, IsFirstRefusal}
-use Rattle.p3_tree.specs.Validity.{Fault, Valid, first_fault, step_fault}
-use Rattle.p3_tree.specs.declared.task.Task.{Task}
-use Rattle.p3_tree.proofs.RefusalLaws.{nothing_is_refused}
-use Rattle.p3_tree.proofs.TextLemmas.{one_task_at_most}
-use Rattle.p3_tree.proofs.ValidityLemmas.{valid_where_no_fault}
+use Rattle.p3_task.specs.Lifting.{is_plain, lift}
+use Rattle.p3_task.specs.PlanTexts.{plan_offence}
+use Rattle.p3_task.specs.Plans.{Plan}
+use Rattle.p3_task.specs.Refusals.First.{AreAccepted, IsFirstRefusal}
+use Rattle.p3_task.specs.Validity.{Fault, Valid, first_fault, step_fault}
+use Rattle.p3_task.specs.declared.task.Task.{Task}
+use Rattle.p3_task.proofs.RefusalLaws.{nothing_is_refused}
+use Rattle.p3_task.proofs.TextLemmas.{one_task_at_most}
+use Rattle.p3_task.proofs.ValidityLemmas.{valid_where_no_fault}
 use Rattle.p3_plans.proofs.PlanLaws.{a_plan_where_no_offence, one_plan_at_most}
 use Rattle.p3_eval.specs.Judged.{fault_in}
 use Rattle.p3_lift.specs.Lifting.{IsLiftFail, IsLifted, loss_above}

@@ -3,17 +3,17 @@ use Rattle.std.proofs.Common.{◌≡◌, ◌≤◌, ◌∷◌, ◌++◌, Some, N
 use Rattle.p3_base.specs.declared.refusal.Refusal.{Refusal}
 use Rattle.p3_base.specs.declared.refusal.Side.{Side}
 use Rattle.p3_base.specs.declared.refusal.Side.TheVariants.{Source, Written}
-use Rattle.p3_tree.specs.Grammar.Halves.{domain_place, problem_place}
-use Rattle.p3_tree.specs.FirstOffence.{first_offence}
-use Rattle.p3_tree.specs.PlanTexts.{plan_offence}
-use Rattle.p3_tree.specs.Refusals.First.{AreReadable, HalfText, IsFirstRefusal, SpellATask, IsReadable, IsRefusedText, given_task, given_texts, halves, refusal_of, task_refusal}
-use Rattle.p3_tree.specs.Refusals.Counts.{action_refusals, size_refusals}
-use Rattle.p3_tree.specs.Refusals.Metric.{metric_refusals}
-use Rattle.p3_tree.specs.Refusals.Places.{first_some}
-use Rattle.p3_tree.specs.Sides.{InDomain, InProblem, byte_limit}
-use Rattle.p3_tree.specs.declared.task.Domain.{Domain}
-use Rattle.p3_tree.specs.declared.task.Problem.{Problem}
-use Rattle.p3_tree.specs.declared.task.Task.{Task}
+use Rattle.p3_task.specs.Grammar.Halves.{domain_place, problem_place}
+use Rattle.p3_task.specs.FirstOffence.{first_offence}
+use Rattle.p3_task.specs.PlanTexts.{plan_offence}
+use Rattle.p3_task.specs.Refusals.First.{AreReadable, HalfText, IsFirstRefusal, SpellATask, IsReadable, IsRefusedText, given_task, given_texts, halves, refusal_of, task_refusal}
+use Rattle.p3_task.specs.Refusals.Counts.{action_refusals, size_refusals}
+use Rattle.p3_task.specs.Refusals.Metric.{metric_refusals}
+use Rattle.p3_task.specs.Refusals.Places.{first_some}
+use Rattle.p3_task.specs.Sides.{InDomain, InProblem, byte_limit}
+use Rattle.p3_task.specs.declared.task.Domain.{Domain}
+use Rattle.p3_task.specs.declared.task.Problem.{Problem}
+use Rattle.p3_task.specs.declared.task.Task.{Task}
 use Rattle.p3_syntax.specs.Texts.{IsHalfText}
 use Rattle.p3_outline.specs.Texts.{IfRefused}
 use Rattle.p3_outline.specs.declared.error.ReadFail.{ReadFail}

@@ -4,7 +4,7 @@ use Rattle.p3_formula.specs.Targets.{Compiled}
 use Rattle.p3_formula.specs.declared.target.Target.{Target}
 use Rattle.p3_formula.specs.declared.target.Weights.{Weights}
 use Rattle.p3_formula.specs.declared.task.GroundTask.{GroundTask}
-use Rattle.p3_tree.specs.declared.task.Task.{Task}
+use Rattle.p3_task.specs.declared.task.Task.{Task}
 use Rattle.p3_compile.specs.Compiling.{IsCompiledTo}
 use Rattle.p3_writer.specs.Layout.{domain_layout, problem_layout}
 use Rattle.p3_writer.specs.TaskOf.{task_of}

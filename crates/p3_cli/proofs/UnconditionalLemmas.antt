@@ -1,12 +1,12 @@
 -- Whether a task has conditional effects does not depend on offsets.
 use Rattle.std.proofs.Common.{◌≡◌, ◌∙◌, Bool, refl, sym}
-use Rattle.p3_tree.specs.Erased.{erased, erased_action, erased_effect}
-use Rattle.p3_tree.specs.Unconditional.{is_effect_unconditional, is_unconditional, unconditional_layer}
-use Rattle.p3_tree.specs.declared.effect.Effect.{Effect, Effect-F}
-use Rattle.p3_tree.specs.declared.effect.Effect.TheOpen as effect
-use Rattle.p3_tree.specs.declared.task.Task.{Task}
-use Rattle.p3_tree.proofs.Erased.Along.{all_along}
-use Rattle.p3_tree.proofs.Erased.Folds.{erased_effect_layer, fold_effect-erased}
+use Rattle.p3_task.specs.Erased.{erased, erased_action, erased_effect}
+use Rattle.p3_task.specs.Unconditional.{is_effect_unconditional, is_unconditional, unconditional_layer}
+use Rattle.p3_task.specs.declared.effect.Effect.{Effect, Effect-F}
+use Rattle.p3_task.specs.declared.effect.Effect.TheOpen as effect
+use Rattle.p3_task.specs.declared.task.Task.{Task}
+use Rattle.p3_task.proofs.Erased.Along.{all_along}
+use Rattle.p3_task.proofs.Erased.Folds.{erased_effect_layer, fold_effect-erased}
 
 abbrev itself : {A : Type 0} → A → A
 itself a = a

@@ -7,19 +7,19 @@ use Rattle.std.proofs.lemmas.Bool.{and_parts}
 use Rattle.std.proofs.lemmas.List.Elements.{All-contains, All-head, All-tail}
 use Rattle.std.proofs.lemmas.List.Sums.{sum_by-append, sum_by-cons}
 use Rattle.std.proofs.lemmas.Bool.Decides.{nat_tests}
-use Rattle.p3_tree.specs.Constraints.{HardModal, Instance, hard_list, instances, operators}
-use Rattle.p3_tree.specs.Literals.{Literal}
-use Rattle.p3_tree.specs.States.{has_fact, same_fact}
-use Rattle.p3_tree.specs.Modal.{Modal}
+use Rattle.p3_task.specs.Constraints.{HardModal, Instance, hard_list, instances, operators}
+use Rattle.p3_task.specs.Literals.{Literal}
+use Rattle.p3_task.specs.States.{has_fact, same_fact}
+use Rattle.p3_task.specs.Modal.{Modal}
 use Rattle.p3_base.proofs.OperatorLaws.{pairs_at_end}
-use Rattle.p3_tree.specs.declared.state.Fact.{Fact}
-use Rattle.p3_tree.specs.declared.task.Step.{Step}
-use Rattle.p3_tree.specs.declared.task.Task.{Task}
-use Rattle.p3_tree.specs.Mentions.{operator_atoms, step_literals}
-use Rattle.p3_tree.specs.Refusals.Flat.{most_conditions}
-use Rattle.p3_tree.specs.States.{Environment}
-use Rattle.p3_tree.specs.Touching.{all_operators, can_touch, conds, has_literal_of}
-use Rattle.p3_tree.proofs.StateLemmas.{same_fact-Decides}
+use Rattle.p3_task.specs.declared.state.Fact.{Fact}
+use Rattle.p3_task.specs.declared.task.Step.{Step}
+use Rattle.p3_task.specs.declared.task.Task.{Task}
+use Rattle.p3_task.specs.Mentions.{operator_atoms, step_literals}
+use Rattle.p3_task.specs.Refusals.Flat.{most_conditions}
+use Rattle.p3_task.specs.States.{Environment}
+use Rattle.p3_task.specs.Touching.{all_operators, can_touch, conds, has_literal_of}
+use Rattle.p3_task.proofs.StateLemmas.{same_fact-Decides}
 use Rattle.p3_formula.specs.Forms.{is_other}
 use Rattle.p3_formula.specs.Modals.{is_read, modal_has, touches}
 use Rattle.p3_base.specs.Operators.{formulas_of, is_at_end}

@@ -9,20 +9,20 @@ use Rattle.std.proofs.lemmas.List.Folds.{list_all-append}
 use Rattle.std.proofs.lemmas.List.Sums.{list_all-from_AllPass}
 use Rattle.std.proofs.lemmas.Slice.Eq.{bytes_eq-Decides}
 use Rattle.p3_base.specs.Words.{is_letter, is_lowered, is_name}
-use Rattle.p3_tree.specs.Bindings.{tuples}
-use Rattle.p3_tree.specs.Grammar.Texts.{IsBalanced, Reads}
-use Rattle.p3_tree.specs.Lifting.{counts_as, lift, lifted_step, steps, steps_of}
-use Rattle.p3_tree.specs.Names.{Name}
-use Rattle.p3_tree.specs.PlanTexts.{is_plan_word, mark_of}
-use Rattle.p3_tree.specs.Plans.{Plan}
-use Rattle.p3_tree.specs.Tokens.{Token, Open, Close, Word, tokens_of}
-use Rattle.p3_tree.specs.Types.{declared_objects, is_object_of, objects, once_each}
-use Rattle.p3_tree.specs.declared.expression.Expression.{Expression}
-use Rattle.p3_tree.specs.declared.task.Action.{Action}
-use Rattle.p3_tree.specs.declared.task.Step.{Step}
-use Rattle.p3_tree.specs.declared.task.Task.{Task}
-use Rattle.p3_tree.specs.declared.term.Ref.{Ref}
-use Rattle.p3_tree.specs.declared.term.Typed.{Typed}
+use Rattle.p3_task.specs.Bindings.{tuples}
+use Rattle.p3_task.specs.Grammar.Texts.{IsBalanced, Reads}
+use Rattle.p3_task.specs.Lifting.{counts_as, lift, lifted_step, steps, steps_of}
+use Rattle.p3_task.specs.Names.{Name}
+use Rattle.p3_task.specs.PlanTexts.{is_plan_word, mark_of}
+use Rattle.p3_task.specs.Plans.{Plan}
+use Rattle.p3_task.specs.Tokens.{Token, Open, Close, Word, tokens_of}
+use Rattle.p3_task.specs.Types.{declared_objects, is_object_of, objects, once_each}
+use Rattle.p3_task.specs.declared.expression.Expression.{Expression}
+use Rattle.p3_task.specs.declared.task.Action.{Action}
+use Rattle.p3_task.specs.declared.task.Step.{Step}
+use Rattle.p3_task.specs.declared.task.Task.{Task}
+use Rattle.p3_task.specs.declared.term.Ref.{Ref}
+use Rattle.p3_task.specs.declared.term.Typed.{Typed}
 use Rattle.p3_lexer.proofs.WordLemmas.{is_word}
 use Rattle.p3_lexer.proofs.MarkLemmas.{is_lexed, text_lexed}
 use Rattle.p3_formula.specs.Forms.{State}

@@ -1,14 +1,14 @@
 -- What `embed` makes of the texts of a task and of a plan for it.
 use Rattle.std.specs.Prelude.{ℕ, ◌≡◌, List, length}
-use Rattle.p3_tree.specs.Faithful.{Faithful}
-use Rattle.p3_tree.specs.Grammar.Texts.{Reads}
-use Rattle.p3_tree.specs.Lifting.{lift}
-use Rattle.p3_tree.specs.Metrics.{value}
-use Rattle.p3_tree.specs.Plans.{Plan}
-use Rattle.p3_tree.specs.PlanTexts.{IsPlanText}
+use Rattle.p3_task.specs.Faithful.{Faithful}
+use Rattle.p3_task.specs.Grammar.Texts.{Reads}
+use Rattle.p3_task.specs.Lifting.{lift}
+use Rattle.p3_task.specs.Metrics.{value}
+use Rattle.p3_task.specs.Plans.{Plan}
+use Rattle.p3_task.specs.PlanTexts.{IsPlanText}
 use Rattle.p3_tree.specs.Reports.Plans.{embedded_lines}
-use Rattle.p3_tree.specs.Validity.{Valid}
-use Rattle.p3_tree.specs.declared.task.Task.{Task}
+use Rattle.p3_task.specs.Validity.{Valid}
+use Rattle.p3_task.specs.declared.task.Task.{Task}
 use Rattle.p3_cli.specs.Evaluation.{AreOfPlan}
 
 -- the one valid plan of the written task that lifts to the plan

@@ -1,12 +1,12 @@
 -- What `evaluate` makes of the texts of a task and of a plan for it.
 use Rattle.std.specs.Prelude.{ℕ, ◌≡◌, ◌≤◌, ◌⊎◌, List, [], ◌∷◌, length, Some}
 use Rattle.p3_base.specs.declared.refusal.Side.TheVariants.{Source}
-use Rattle.p3_tree.specs.Plans.{Plan}
-use Rattle.p3_tree.specs.PlanTexts.{IsPlanText, step_limit}
-use Rattle.p3_tree.specs.Refusals.First.{AreAccepted, Given}
+use Rattle.p3_task.specs.Plans.{Plan}
+use Rattle.p3_task.specs.PlanTexts.{IsPlanText, step_limit}
+use Rattle.p3_task.specs.Refusals.First.{AreAccepted, Given}
 use Rattle.p3_tree.specs.Reports.Plans.{evaluated_lines}
-use Rattle.p3_tree.specs.Validity.{Fault, Valid, first_fault}
-use Rattle.p3_tree.specs.declared.task.Task.{Task}
+use Rattle.p3_task.specs.Validity.{Fault, Valid, first_fault}
+use Rattle.p3_task.specs.declared.task.Task.{Task}
 use Rattle.p3_reports.specs.Faults.{fault_named}
 use Rattle.p3_cli.specs.Ending.{Ending, Invalid}
 use Rattle.p3_cli.specs.Refusing.{IsRefusal, IsRejectedBy}

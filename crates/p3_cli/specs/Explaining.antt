@@ -1,9 +1,9 @@
 -- What `explain` makes of the texts of a task and of a plan for it.
 use Rattle.std.specs.Prelude.{ℕ, ◌≡◌, ◌⊎◌, List, Some, None}
-use Rattle.p3_tree.specs.Plans.{Plan}
+use Rattle.p3_task.specs.Plans.{Plan}
 use Rattle.p3_tree.specs.Reports.Explanations.{explained_lines}
-use Rattle.p3_tree.specs.Validity.{Fault, step_fault}
-use Rattle.p3_tree.specs.declared.task.Task.{Task}
+use Rattle.p3_task.specs.Validity.{Fault, step_fault}
+use Rattle.p3_task.specs.declared.task.Task.{Task}
 use Rattle.p3_reports.specs.Faults.{fault_named}
 use Rattle.p3_eval.specs.Judged.{fault_in}
 use Rattle.p3_explain.specs.declared.error.ExplainFail.{ExplainFail}

@@ -4,16 +4,16 @@ use Rattle.p3_base.specs.Copies.{IsNamedFor}
 use Rattle.p3_base.specs.Words.{Name}
 use Rattle.p3_base.specs.declared.refusal.Refusal.{Refusal}
 use Rattle.p3_base.specs.declared.refusal.Side.TheVariants.{Source}
-use Rattle.p3_tree.specs.Faithful.{Faithful}
-use Rattle.p3_tree.specs.Grammar.Texts.{Reads}
-use Rattle.p3_tree.specs.Refusals.First.{AreAccepted}
-use Rattle.p3_tree.specs.Refusals.Flat.{IsFlatRefusal, IsWideStepAt, most_conditions}
+use Rattle.p3_task.specs.Faithful.{Faithful}
+use Rattle.p3_task.specs.Grammar.Texts.{Reads}
+use Rattle.p3_task.specs.Refusals.First.{AreAccepted}
+use Rattle.p3_task.specs.Refusals.Flat.{IsFlatRefusal, IsWideStepAt, most_conditions}
 use Rattle.p3_tree.specs.Reports.Tasks.{compiled_lines}
-use Rattle.p3_tree.specs.StepNumbers.{HasNumber}
-use Rattle.p3_tree.specs.Touching.{conds}
-use Rattle.p3_tree.specs.Unconditional.{IsUnconditional}
-use Rattle.p3_tree.specs.declared.task.Step.{Step}
-use Rattle.p3_tree.specs.declared.task.Task.{Task}
+use Rattle.p3_task.specs.StepNumbers.{HasNumber}
+use Rattle.p3_task.specs.Touching.{conds}
+use Rattle.p3_task.specs.Unconditional.{IsUnconditional}
+use Rattle.p3_task.specs.declared.task.Step.{Step}
+use Rattle.p3_task.specs.declared.task.Task.{Task}
 use Rattle.p3_flat.specs.Flattened.{first_too_wide}
 use Rattle.p3_formula.specs.declared.target.Target.{Target}
 use Rattle.p3_formula.specs.declared.target.TargetAction.{TargetAction}

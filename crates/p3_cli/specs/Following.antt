@@ -2,9 +2,9 @@
 use Rattle.std.specs.Prelude.{ℕ, ◌≡◌, List}
 use Rattle.p3_base.specs.Outside.{SinkSeen}
 use Rattle.p3_base.specs.declared.refusal.Side.TheVariants.{Source}
-use Rattle.p3_tree.specs.Refusals.First.{AreAccepted}
+use Rattle.p3_task.specs.Refusals.First.{AreAccepted}
 use Rattle.p3_tree.specs.Reports.Watching.{watch_lines}
-use Rattle.p3_tree.specs.declared.task.Task.{Task}
+use Rattle.p3_task.specs.declared.task.Task.{Task}
 use Rattle.p3_cli.specs.Ending.{Done, Tells}
 
 -- nothing is refused of d and p, and the report follows what q says, line by line

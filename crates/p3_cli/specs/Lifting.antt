@@ -1,14 +1,14 @@
 -- What `lift` makes of the texts of a task, of one that is written for it, and of a plan for that.
 use Rattle.std.specs.Prelude.{ℕ, ◌≡◌, ◌≤◌, ◌⊎◌, List, [], ◌∷◌, length}
 use Rattle.p3_base.specs.declared.refusal.Side.TheVariants.{Source, Written}
-use Rattle.p3_tree.specs.Plans.{Plan}
-use Rattle.p3_tree.specs.PlanTexts.{IsPlanText, step_limit}
-use Rattle.p3_tree.specs.Refusals.First.{AreAccepted, Given}
+use Rattle.p3_task.specs.Plans.{Plan}
+use Rattle.p3_task.specs.PlanTexts.{IsPlanText, step_limit}
+use Rattle.p3_task.specs.Refusals.First.{AreAccepted, Given}
 use Rattle.p3_tree.specs.Reports.Plans.{lifted_lines}
 use Rattle.p3_reports.specs.Faults.{fault_named}
 use Rattle.p3_reports.specs.declared.refusal.Rejection.{Rejection}
 use Rattle.p3_reports.specs.declared.refusal.Rejection.TheVariants.{LiftedFault, NotPlain, NumbersDiffer}
-use Rattle.p3_tree.specs.declared.task.Task.{Task}
+use Rattle.p3_task.specs.declared.task.Task.{Task}
 use Rattle.p3_eval.specs.Judged.{fault_in}
 use Rattle.p3_lift.specs.Lifting.{IsLiftFail, IsLifted}
 use Rattle.p3_lift.specs.declared.answers.Differ.{Differ}

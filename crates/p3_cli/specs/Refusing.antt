@@ -3,11 +3,11 @@ use Rattle.std.specs.Prelude.{◌≡◌, List, ℕ, Some}
 use Rattle.p3_base.specs.declared.refusal.Refusal.{Refusal}
 use Rattle.p3_base.specs.declared.refusal.Side.{Side}
 use Rattle.p3_base.specs.declared.refusal.Side.TheVariants.{Source}
-use Rattle.p3_tree.specs.Grammar.Texts.{Reads}
-use Rattle.p3_tree.specs.PlanTexts.{plan_offence}
-use Rattle.p3_tree.specs.Refusals.First.{AreAccepted, AreReadable, Given, IsFirstOfTexts, IsFirstRefusal, TaskTexts, given_task, halves}
-use Rattle.p3_tree.specs.Refusals.First as first
-use Rattle.p3_tree.specs.declared.task.Task.{Task}
+use Rattle.p3_task.specs.Grammar.Texts.{Reads}
+use Rattle.p3_task.specs.PlanTexts.{plan_offence}
+use Rattle.p3_task.specs.Refusals.First.{AreAccepted, AreReadable, Given, IsFirstOfTexts, IsFirstRefusal, TaskTexts, given_task, halves}
+use Rattle.p3_task.specs.Refusals.First as first
+use Rattle.p3_task.specs.declared.task.Task.{Task}
 use Rattle.p3_reports.specs.Rejections.{placed_in}
 use Rattle.p3_reports.specs.declared.refusal.Rejection.TheVariants.{At}
 use Rattle.p3_outline.specs.declared.error.ReadFail.{ReadFail}

@@ -1,12 +1,12 @@
 -- What `generate` makes.
 use Rattle.std.specs.Prelude.{ℕ, ◌≡◌, List, length}
-use Rattle.p3_tree.specs.Faithful.{Faithful}
-use Rattle.p3_tree.specs.Metrics.{value}
-use Rattle.p3_tree.specs.Plans.{Plan}
+use Rattle.p3_task.specs.Faithful.{Faithful}
+use Rattle.p3_task.specs.Metrics.{value}
+use Rattle.p3_task.specs.Plans.{Plan}
 use Rattle.p3_tree.specs.Reports.Plans.{generated_lines}
 use Rattle.p3_tree.specs.Samples.{sample_domain, sample_problem, sample_plan}
-use Rattle.p3_tree.specs.Validity.{Valid}
-use Rattle.p3_tree.specs.declared.task.Task.{Task}
+use Rattle.p3_task.specs.Validity.{Valid}
+use Rattle.p3_task.specs.declared.task.Task.{Task}
 use Rattle.p3_cli.specs.Embedding.{IsSource}
 use Rattle.p3_cli.specs.Evaluation.{AreOfPlan}
 

@@ -4,7 +4,7 @@ use Rattle.p3_base.specs.declared.refusal.Role.{Role}
 use Rattle.p3_base.specs.declared.refusal.Role.TheVariants as role
 use Rattle.p3_base.specs.declared.refusal.Side.{Side}
 use Rattle.p3_base.specs.declared.refusal.Side.TheVariants.{Source, Written}
-use Rattle.p3_tree.specs.Refusals.First.{TaskTexts}
+use Rattle.p3_task.specs.Refusals.First.{TaskTexts}
 use Rattle.p3_tree.specs.Samples.{sample_domain, sample_plan, sample_problem}
 use Rattle.p3_cli.specs.declared.texts.Made as code
 use Rattle.p3_cli.specs.declared.texts.Texts.{Texts}

@@ -1,10 +1,10 @@
 -- What `compile` makes of a task, and of the texts of its two halves.
 use Rattle.std.specs.Prelude.{ℕ, ◌≡◌, List}
 use Rattle.p3_base.specs.declared.refusal.Side.TheVariants.{Source}
-use Rattle.p3_tree.specs.Offences.{WellFormed}
-use Rattle.p3_tree.specs.Refusals.First.{AreAccepted}
+use Rattle.p3_task.specs.Offences.{WellFormed}
+use Rattle.p3_task.specs.Refusals.First.{AreAccepted}
 use Rattle.p3_tree.specs.Reports.Tasks.{compiled_lines}
-use Rattle.p3_tree.specs.declared.task.Task.{Task}
+use Rattle.p3_task.specs.declared.task.Task.{Task}
 use Rattle.p3_formula.specs.Conditions.{IsReady}
 use Rattle.p3_formula.specs.declared.target.Target.{Target}
 use Rattle.p3_formula.specs.declared.target.Weights.{Weights}

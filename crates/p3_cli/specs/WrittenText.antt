@@ -1,11 +1,11 @@
 -- What it is that two texts are those of a task, but for where its parts stand in them, and that a text is the layout of a plan.
 use Rattle.std.specs.Prelude.{◌≡◌, ℕ, List}
-use Rattle.p3_tree.specs.Erased.{erased}
-use Rattle.p3_tree.specs.Grammar.Texts.{Reads}
-use Rattle.p3_tree.specs.Faithful.{Faithful}
-use Rattle.p3_tree.specs.Plans.{Plan}
-use Rattle.p3_tree.specs.PlanTexts.{IsPlanText}
-use Rattle.p3_tree.specs.declared.task.Task.{Task}
+use Rattle.p3_task.specs.Erased.{erased}
+use Rattle.p3_task.specs.Grammar.Texts.{Reads}
+use Rattle.p3_task.specs.Faithful.{Faithful}
+use Rattle.p3_task.specs.Plans.{Plan}
+use Rattle.p3_task.specs.PlanTexts.{IsPlanText}
+use Rattle.p3_task.specs.declared.task.Task.{Task}
 use Rattle.p3_plans.specs.Layout.{plan_layout}
 
 -- the grammar reads the texts as a task that differs from this one in offsets and in the lengths of numerals alone

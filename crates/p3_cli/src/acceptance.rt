@@ -2,9 +2,9 @@
 //! refused.
 
 ghost use Rattle.std.specs.Prelude.{◌≡◌, ◌≤◌, IfOk, IfErr, OnOk, None, length};
-ghost use Rattle.p3_tree.specs.Offences.{WellFormed};
-ghost use Rattle.p3_tree.specs.PlanTexts.{IsPlanText, plan_offence, step_limit};
-ghost use Rattle.p3_tree.specs.Sides.{plan_byte_limit};
+ghost use Rattle.p3_task.specs.Offences.{WellFormed};
+ghost use Rattle.p3_task.specs.PlanTexts.{IsPlanText, plan_offence, step_limit};
+ghost use Rattle.p3_task.specs.Sides.{plan_byte_limit};
 ghost use Rattle.p3_cli.specs.Refusing.{
   AreAcceptedFor,
   EndsAs,
@@ -24,7 +24,7 @@ use p3_eval::{Accepted, Whole, WholeFail};
 use p3_outline::ReadFail;
 use p3_plans::{PlanFail, first_plan_offence, read_plan};
 use p3_syntax::{read_domain, read_problem};
-use p3_tree::{Plan, Task};
+use p3_task::{Plan, Task};
 use p3_types::{CheckFail, Checked, check};
 use std::alloc::Global;
 

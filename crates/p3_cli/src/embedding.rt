@@ -2,9 +2,9 @@
 
 ghost use Rattle.std.specs.Prelude.{◌≡◌, IfErr, IfOk, IsTrue, OnOk, length, pos};
 ghost use Rattle.std.specs.List.{list_all};
-ghost use Rattle.p3_tree.specs.PlanTexts.{IsPlanText};
+ghost use Rattle.p3_task.specs.PlanTexts.{IsPlanText};
 ghost use Rattle.p3_tree.specs.Reports.Plans.{embedded_lines};
-ghost use Rattle.p3_tree.specs.Validity.{Valid};
+ghost use Rattle.p3_task.specs.Validity.{Valid};
 ghost use Rattle.p3_formula.specs.Targets.{Compiled, target_cost};
 ghost use Rattle.p3_ground.specs.PlansByNumber.{names_of};
 ghost use Rattle.p3_eval.specs.Steps.{AreOfPlan, OfSteps};

@@ -3,7 +3,7 @@
 ghost use Rattle.std.specs.Prelude.{◌≡◌, IfErr, IfOk, None, OnOk};
 ghost use Rattle.std.specs.List.{All};
 ghost use Rattle.p3_base.specs.declared.refusal.Side.TheVariants.{Source};
-ghost use Rattle.p3_tree.specs.PlanTexts.{plan_offence};
+ghost use Rattle.p3_task.specs.PlanTexts.{plan_offence};
 ghost use Rattle.p3_reports.specs.Faults.{fault_named};
 ghost use Rattle.p3_reports.specs.Reports.{report_text};
 ghost use Rattle.p3_ground.specs.StandsFor.{LeftOutAt};
@@ -28,7 +28,7 @@ use crate::texts::Texts;
 use p3_base::Side;
 use p3_eval::{Accepted, Grounded, PlanFault, Steps, Whole};
 use p3_reports::Report;
-use p3_tree::Task;
+use p3_task::Task;
 use p3_watch::named_fault;
 use std::alloc::Global;
 use std::mem::forget;

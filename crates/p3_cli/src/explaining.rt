@@ -2,10 +2,10 @@
 
 ghost use Rattle.std.specs.Prelude.{◌≡◌, IfErr, IfOk, IsTrue, map, option_map};
 ghost use Rattle.std.specs.List.{All};
-ghost use Rattle.p3_tree.specs.Explanations.{reasons as reasons_of};
+ghost use Rattle.p3_task.specs.Explanations.{reasons as reasons_of};
 ghost use Rattle.p3_tree.specs.Reports.Explanations.{explained_lines};
-ghost use Rattle.p3_tree.specs.Plans.{steps_fit};
-ghost use Rattle.p3_tree.specs.Validity.{first_fault};
+ghost use Rattle.p3_task.specs.Plans.{steps_fit};
+ghost use Rattle.p3_task.specs.Validity.{first_fault};
 ghost use Rattle.p3_reports.specs.Explained.{explain_text, named_in};
 ghost use Rattle.p3_reports.specs.Faults.{fault_named};
 ghost use Rattle.p3_reports.specs.Reports.{report_text};

@@ -4,8 +4,8 @@ ghost use Rattle.std.specs.Prelude.{◌≡◌, ◌<◌, ◌^◌, length, IfErr, 
 ghost use Rattle.std.specs.Option.{option_copied};
 ghost use Rattle.p3_base.specs.declared.refusal.Code.TheVariants.{FlatTooWide};
 ghost use Rattle.p3_base.specs.declared.refusal.Role.TheVariants as role;
-ghost use Rattle.p3_tree.specs.Plans.{action_named as action_by_name};
-ghost use Rattle.p3_tree.specs.Refusals.Places as places;
+ghost use Rattle.p3_task.specs.Plans.{action_named as action_by_name};
+ghost use Rattle.p3_task.specs.Refusals.Places as places;
 ghost use Rattle.p3_tree.specs.Reports.Tasks.{compiled_lines};
 ghost use Rattle.p3_compile.specs.Compiling.{IsCompiledTo};
 ghost use Rattle.p3_flat.specs.Flattened.{first_too_wide};
@@ -33,7 +33,7 @@ use p3_compile::compile;
 use p3_eval::Whole;
 use p3_flat::{FlatFail, flatten};
 use p3_formula::Target;
-use p3_tree::{Action, Ref, Task};
+use p3_task::{Action, Ref, Task};
 use p3_types::refusal_at;
 use std::alloc::Global;
 use std::mem::forget;
@@ -124,7 +124,7 @@ fn wide_step(alloc: Global, whole: &Whole, name: &Name) -> Result<Refusal, NoMem
 }
 
 /// Finds the action of a name.
-#[tactic(auto, unfolding(p3_tree::specs::Plans::action_named))]
+#[tactic(auto, unfolding(p3_task::specs::Plans::action_named))]
 fn action_named<'t>(task: &'t Task, name: &Name) -> Option<&'t Action>
     ensures { option_copied result ≡ action_by_name task.now name.now }
 {

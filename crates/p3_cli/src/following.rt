@@ -2,8 +2,8 @@
 
 ghost use Rattle.std.specs.Prelude.{◌≡◌, ◌≤◌, [], IfErr, IfOk, OnErr, length};
 ghost use Rattle.p3_tree.specs.Reports.Watching.{watch_lines};
-ghost use Rattle.p3_tree.specs.Sides.{plan_byte_limit};
-ghost use Rattle.p3_tree.specs.Watching.{lines_of};
+ghost use Rattle.p3_task.specs.Sides.{plan_byte_limit};
+ghost use Rattle.p3_task.specs.Watching.{lines_of};
 ghost use Rattle.p3_watch.specs.Watching.{AreLinesAsked};
 ghost use Rattle.p3_cli.specs.Ending.{Done, Tells};
 ghost use Rattle.p3_cli.specs.Following.{IsFollowed};

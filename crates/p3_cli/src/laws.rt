@@ -2,9 +2,9 @@
 //! function without a body.
 
 ghost use Rattle.std.specs.Prelude.{Contains, IsTrue, List, ℕ};
-ghost use Rattle.p3_tree.specs.Faithful.{Faithful};
-ghost use Rattle.p3_tree.specs.Offences.{WellFormed};
-ghost use Rattle.p3_tree.specs.declared.task.Task.{Task};
+ghost use Rattle.p3_task.specs.Faithful.{Faithful};
+ghost use Rattle.p3_task.specs.Offences.{WellFormed};
+ghost use Rattle.p3_task.specs.declared.task.Task.{Task};
 ghost use Rattle.p3_formula.specs.Targets.{Compiled, IsSized, IsWellNamed, Translates};
 ghost use Rattle.p3_formula.specs.declared.target.Target.{Target};
 ghost use Rattle.p3_formula.specs.declared.target.TargetAction.{TargetAction};

@@ -4,8 +4,8 @@ ghost use Rattle.std.specs.Prelude.{◌≡◌, ◌≤◌, IfErr, IfOk, IsTrue, N
 ghost use Rattle.std.specs.List.{list_all};
 ghost use Rattle.p3_base.specs.declared.refusal.Side.TheVariants.{Source};
 ghost use Rattle.p3_base.specs.declared.refusal.Side.TheVariants as side;
-ghost use Rattle.p3_tree.specs.Metrics.{value};
-ghost use Rattle.p3_tree.specs.PlanTexts.{IsPlanText, plan_offence};
+ghost use Rattle.p3_task.specs.Metrics.{value};
+ghost use Rattle.p3_task.specs.PlanTexts.{IsPlanText, plan_offence};
 ghost use Rattle.p3_tree.specs.Reports.Plans.{lifted_lines};
 ghost use Rattle.p3_plans.specs.Layout.{has_written_words};
 ghost use Rattle.p3_reports.specs.Reports.{report_text};
@@ -25,7 +25,7 @@ use p3_eval::Accepted;
 use p3_lift::{LiftFail, Lifted, lift_by_steps};
 use p3_plans::write_plan;
 use p3_reports::{Rejection, Report};
-use p3_tree::Task;
+use p3_task::Task;
 use std::alloc::Global;
 use std::mem::forget;
 

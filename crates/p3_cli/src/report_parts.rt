@@ -1,9 +1,9 @@
 //! What is found of tasks and plans, as the reports and the lines that say it want it.
 
 ghost use Rattle.std.specs.Prelude.{◌≡◌, IfOk, None, length, map};
-ghost use Rattle.p3_tree.specs.Metrics.{value};
-ghost use Rattle.p3_tree.specs.PreferenceNames.{ordered_names};
-ghost use Rattle.p3_tree.specs.Refusals.First.{task_refusal};
+ghost use Rattle.p3_task.specs.Metrics.{value};
+ghost use Rattle.p3_task.specs.PreferenceNames.{ordered_names};
+ghost use Rattle.p3_task.specs.Refusals.First.{task_refusal};
 ghost use Rattle.p3_tree.specs.Reports.Plans.{
   embedded_lines,
   evaluated_lines,
@@ -19,7 +19,7 @@ ghost use Rattle.p3_reports.specs.Reports.{
   generate_text,
   lift_text,
 };
-ghost use Rattle.p3_tree.specs.Plans.{Plan};
+ghost use Rattle.p3_task.specs.Plans.{Plan};
 ghost use Rattle.p3_ground.specs.PlansByNumber.{AreNumbers};
 ghost use Rattle.p3_eval.specs.Runs.{BelongTogether, OfRun};
 ghost use Rattle.p3_cli.specs.Lifting.{differ_rejection};

@@ -2,8 +2,8 @@
 
 ghost use Rattle.std.specs.Prelude.{◌≡◌, ◌≤◌, IfErr, IfOk};
 ghost use Rattle.p3_tree.specs.Commands.{sample_limit};
-ghost use Rattle.p3_tree.specs.Metrics.{value};
-ghost use Rattle.p3_tree.specs.Validity.{Valid};
+ghost use Rattle.p3_task.specs.Metrics.{value};
+ghost use Rattle.p3_task.specs.Validity.{Valid};
 ghost use Rattle.p3_eval.specs.Steps.{AreOfPlan, OfSteps};
 ghost use Rattle.p3_cli.specs.Evaluation.{IsRejectedPlan};
 ghost use Rattle.p3_cli.specs.Texts.{all_texts, sample_texts};

@@ -3,7 +3,7 @@
 
 ghost use Rattle.std.specs.Prelude.{◌≡◌, ◌≤◌, length};
 ghost use Rattle.p3_base.specs.declared.refusal.Side.TheVariants.{Source, Written};
-ghost use Rattle.p3_tree.specs.Sides.{byte_limit, plan_byte_limit};
+ghost use Rattle.p3_task.specs.Sides.{byte_limit, plan_byte_limit};
 
 use crate::Ending;
 use p3_base::{Refusal, Role, Side};

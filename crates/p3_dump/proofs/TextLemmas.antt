@@ -6,14 +6,14 @@ use Rattle.p3_numbers.specs.declared.task.NumberedTask.{NumberedTask}
 use Rattle.p3_ground.proofs.WholeLaws.{few-by-name}
 use Rattle.p3_ground.specs.Whole.{HasFewSteps}
 use Rattle.p3_syntax.specs.Texts.{IsHalfText}
-use Rattle.p3_tree.specs.Grammar.Halves.{domain_place, problem_place}
-use Rattle.p3_tree.specs.Limits.{step_count}
-use Rattle.p3_tree.specs.Offences.{WellFormed}
-use Rattle.p3_tree.specs.Refusals.First.{AreReadable, HalfText, IsReadable, halves}
-use Rattle.p3_tree.specs.Sides.{InDomain, InProblem, byte_limit, step_count_limit}
-use Rattle.p3_tree.specs.declared.task.Domain.{Domain}
-use Rattle.p3_tree.specs.declared.task.Problem.{Problem}
-use Rattle.p3_tree.specs.declared.task.Task.{Task}
+use Rattle.p3_task.specs.Grammar.Halves.{domain_place, problem_place}
+use Rattle.p3_task.specs.Limits.{step_count}
+use Rattle.p3_task.specs.Offences.{WellFormed}
+use Rattle.p3_task.specs.Refusals.First.{AreReadable, HalfText, IsReadable, halves}
+use Rattle.p3_task.specs.Sides.{InDomain, InProblem, byte_limit, step_count_limit}
+use Rattle.p3_task.specs.declared.task.Domain.{Domain}
+use Rattle.p3_task.specs.declared.task.Problem.{Problem}
+use Rattle.p3_task.specs.declared.task.Task.{Task}
 use Rattle.p3_types.specs.Texts.{HasTexts}
 
 module _ (side : Side) (domain_text problem_text : List ℕ) where

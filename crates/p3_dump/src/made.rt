@@ -2,8 +2,8 @@
 
 ghost use Rattle.std.specs.Prelude.{◌≤◌, length};
 ghost use Rattle.p3_base.specs.declared.refusal.Side.TheVariants.{Source};
-ghost use Rattle.p3_tree.specs.Limits.{step_count};
-ghost use Rattle.p3_tree.specs.Sides.{byte_limit, step_count_limit};
+ghost use Rattle.p3_task.specs.Limits.{step_count};
+ghost use Rattle.p3_task.specs.Sides.{byte_limit, step_count_limit};
 
 use p3_base::Side;
 use p3_eval::Whole;

@@ -2,12 +2,12 @@
 use Rattle.std.proofs.Common.{◌≡◌, ◌∙◌, sym, None}
 use Rattle.std.proofs.Math.Bool.{Bool-set}
 use Rattle.std.proofs.Math.Logic.{∥∥₁_elim}
-use Rattle.p3_tree.specs.Plans.{Plan}
-use Rattle.p3_tree.specs.StepNumbers.{HasStepNumbers}
-use Rattle.p3_tree.specs.Validity.{Valid, first_fault}
-use Rattle.p3_tree.specs.declared.task.Task.{Task}
-use Rattle.p3_tree.proofs.StepNumberLaws.{steps_have_numbers}
-use Rattle.p3_tree.proofs.ValidityLemmas.{valid_where_no_fault}
+use Rattle.p3_task.specs.Plans.{Plan}
+use Rattle.p3_task.specs.StepNumbers.{HasStepNumbers}
+use Rattle.p3_task.specs.Validity.{Valid, first_fault}
+use Rattle.p3_task.specs.declared.task.Task.{Task}
+use Rattle.p3_task.proofs.StepNumberLaws.{steps_have_numbers}
+use Rattle.p3_task.proofs.ValidityLemmas.{valid_where_no_fault}
 use Rattle.p3_formula.specs.GroundPlans.{GroundPlan, GroundValid}
 use Rattle.p3_formula.specs.declared.target.Weights.{Weights}
 use Rattle.p3_formula.specs.declared.task.GroundTask.{GroundTask}

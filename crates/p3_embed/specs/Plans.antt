@@ -1,8 +1,8 @@
 -- What it is to embed a plan of a task in a target.
 use Rattle.std.specs.Prelude.{◌≡◌, true, Some}
-use Rattle.p3_tree.specs.Plans.{Plan}
-use Rattle.p3_tree.specs.Validity.{first_fault}
-use Rattle.p3_tree.specs.declared.task.Task.{Task}
+use Rattle.p3_task.specs.Plans.{Plan}
+use Rattle.p3_task.specs.Validity.{first_fault}
+use Rattle.p3_task.specs.declared.task.Task.{Task}
 use Rattle.p3_formula.specs.GroundPlans.{GroundPlan}
 use Rattle.p3_formula.specs.declared.target.Target.{Target}
 use Rattle.p3_formula.specs.declared.task.GroundTask.{GroundTask}

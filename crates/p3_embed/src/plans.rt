@@ -1,7 +1,7 @@
 //! Plans of tasks, embedded in targets.
 
 ghost use Rattle.std.specs.Prelude.{◌≡◌, ◌≤◌, None, length, option_map, pos, true, IfOk, IfErr, IfSome, OnOk};
-ghost use Rattle.p3_tree.specs.Validity.{first_fault};
+ghost use Rattle.p3_task.specs.Validity.{first_fault};
 ghost use Rattle.p3_formula.specs.Targets.{Compiled, target_cost};
 ghost use Rattle.p3_ground.specs.PlansByNumber.{AreNumbers, are_bare, names_of};
 ghost use Rattle.p3_run.specs.Runs.{most_steps};
@@ -14,7 +14,7 @@ use crate::embedding::embed_numbers;
 use p3_base::{List, Name, NoMemory};
 use p3_eval::{PlanFault, Steps, Whole};
 use p3_formula::Target;
-use p3_tree::{Plan, Step};
+use p3_task::{Plan, Step};
 use std::alloc::Global;
 
 /// A plan of a target, and what it costs.

@@ -14,17 +14,17 @@ use Rattle.p3_base.specs.declared.refusal.Direction.{Direction}
 use Rattle.p3_base.specs.declared.refusal.Direction.TheVariants.{Minimize, Maximize}
 use Rattle.p3_base.specs.declared.refusal.Side.{Side}
 use Rattle.p3_base.specs.declared.refusal.Side.TheVariants.{Source, Written}
-use Rattle.p3_tree.specs.Costs.{cost_places, initial_cost}
-use Rattle.p3_tree.specs.Folds.{fold_num, fold_nums, fold_one_num}
-use Rattle.p3_tree.specs.Limits.{constant, cost_coefficient}
-use Rattle.p3_tree.specs.Metrics.{Quantity, base_loss, direction, loss_at, metric_quantity, no_counts, product_of, quantity, quantity_by, quantity_layer, signed, sum_of}
-use Rattle.p3_tree.specs.Refusals.Metric.{Cost, Count, Evaluated, Mention, folds, is_large, is_within, large_at, mention_coefficient, mentions, operations, operator, order_layer, trees}
-use Rattle.p3_tree.specs.Refusals.Places.{refusal_at_word}
-use Rattle.p3_tree.specs.Sides.{InProblem, digit_limit, role_of, weight_bound}
-use Rattle.p3_tree.specs.declared.metric.Metric.{Metric}
-use Rattle.p3_tree.specs.declared.metric.Num.{Num, Row_of-Num, end_of-Num, more_of-Num}
-use Rattle.p3_tree.specs.declared.metric.Num.TheVariants as num
-use Rattle.p3_tree.specs.declared.task.Task.{Task}
+use Rattle.p3_task.specs.Costs.{cost_places, initial_cost}
+use Rattle.p3_task.specs.Folds.{fold_num, fold_nums, fold_one_num}
+use Rattle.p3_task.specs.Limits.{constant, cost_coefficient}
+use Rattle.p3_task.specs.Metrics.{Quantity, base_loss, direction, loss_at, metric_quantity, no_counts, product_of, quantity, quantity_by, quantity_layer, signed, sum_of}
+use Rattle.p3_task.specs.Refusals.Metric.{Cost, Count, Evaluated, Mention, folds, is_large, is_within, large_at, mention_coefficient, mentions, operations, operator, order_layer, trees}
+use Rattle.p3_task.specs.Refusals.Places.{refusal_at_word}
+use Rattle.p3_task.specs.Sides.{InProblem, digit_limit, role_of, weight_bound}
+use Rattle.p3_task.specs.declared.metric.Metric.{Metric}
+use Rattle.p3_task.specs.declared.metric.Num.{Num, Row_of-Num, end_of-Num, more_of-Num}
+use Rattle.p3_task.specs.declared.metric.Num.TheVariants as num
+use Rattle.p3_task.specs.declared.task.Task.{Task}
 use Rattle.p3_formula.specs.declared.target.Weights.{Weights}
 use Rattle.p3_types.specs.Texts.{is_short, metric_numerals, num_numerals}
 use Rattle.p3_metric.specs.Refused.{large_of}

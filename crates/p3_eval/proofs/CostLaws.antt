@@ -6,24 +6,24 @@ use mathlib.Core.List.{map-map}
 use Rattle.std.proofs.lemmas.Bool.{ltb-true}
 use Rattle.std.proofs.lemmas.List.Sums.{sum_by-cons}
 use Rattle.std.proofs.lemmas.Nat.{mul-le}
-use Rattle.p3_tree.specs.Names.{Name, same_name, same_names}
-use Rattle.p3_tree.specs.States.{Environment, meanings}
-use Rattle.p3_tree.specs.Goals.{StatePref, prefs, pref_names}
-use Rattle.p3_tree.specs.Costs.{amount_value, cost_units, effect_cost, entry_value, given_value, increases, total}
-use Rattle.p3_tree.specs.Plans.{action_named, arguments, cost_by, step_cost}
-use Rattle.p3_tree.specs.Metrics.{prefs_by, step_prefs}
-use Rattle.p3_tree.specs.Limits.{action_prefs, cost_bound, greatest_amount, value_of_entry, weight_of}
-use Rattle.p3_tree.specs.StepNumbers.{HasNumber, HasStepNumbers}
-use Rattle.p3_tree.specs.declared.effect.Amount.{Amount}
-use Rattle.p3_tree.specs.declared.effect.Amount.TheVariants as amount
-use Rattle.p3_tree.specs.declared.state.Fact.{Fact}
-use Rattle.p3_tree.specs.declared.task.Action.{Action}
-use Rattle.p3_tree.specs.declared.task.Init.{Init}
-use Rattle.p3_tree.specs.declared.task.Init.TheVariants.{True, False, Value}
-use Rattle.p3_tree.specs.declared.task.Step.{Step}
-use Rattle.p3_tree.specs.declared.task.Task.{Task}
-use Rattle.p3_tree.proofs.OnceLemmas.{Some-injective}
-use Rattle.p3_tree.proofs.PreferenceNameLaws.{prefs-names}
+use Rattle.p3_task.specs.Names.{Name, same_name, same_names}
+use Rattle.p3_task.specs.States.{Environment, meanings}
+use Rattle.p3_task.specs.Goals.{StatePref, prefs, pref_names}
+use Rattle.p3_task.specs.Costs.{amount_value, cost_units, effect_cost, entry_value, given_value, increases, total}
+use Rattle.p3_task.specs.Plans.{action_named, arguments, cost_by, step_cost}
+use Rattle.p3_task.specs.Metrics.{prefs_by, step_prefs}
+use Rattle.p3_task.specs.Limits.{action_prefs, cost_bound, greatest_amount, value_of_entry, weight_of}
+use Rattle.p3_task.specs.StepNumbers.{HasNumber, HasStepNumbers}
+use Rattle.p3_task.specs.declared.effect.Amount.{Amount}
+use Rattle.p3_task.specs.declared.effect.Amount.TheVariants as amount
+use Rattle.p3_task.specs.declared.state.Fact.{Fact}
+use Rattle.p3_task.specs.declared.task.Action.{Action}
+use Rattle.p3_task.specs.declared.task.Init.{Init}
+use Rattle.p3_task.specs.declared.task.Init.TheVariants.{True, False, Value}
+use Rattle.p3_task.specs.declared.task.Step.{Step}
+use Rattle.p3_task.specs.declared.task.Task.{Task}
+use Rattle.p3_task.proofs.OnceLemmas.{Some-injective}
+use Rattle.p3_task.proofs.PreferenceNameLaws.{prefs-names}
 use Rattle.p3_formula.specs.Weighted as weighted
 use Rattle.p3_formula.specs.declared.modal.GroundPref.{GroundPref}
 use Rattle.p3_formula.specs.declared.target.Weights.{Weights}

@@ -4,13 +4,13 @@ use Rattle.std.specs.Prelude.{IsTrue, is_some, option_map, if◌then◌else◌}
 use Rattle.std.specs.List.{All, AllZip}
 use Rattle.std.proofs.lemmas.List.{append-nil, length-take, take_all, take_more}
 use Rattle.std.proofs.lemmas.Slice.Zip.{AllZip-long}
-use Rattle.p3_tree.specs.Goals.{hard_holds}
-use Rattle.p3_tree.specs.Plans.{Plan, arguments, cost_by, last_state, steps_fit, visited}
-use Rattle.p3_tree.specs.States.{State}
-use Rattle.p3_tree.specs.StepNumbers.{HasNumber}
-use Rattle.p3_tree.specs.Validity.{Arguments, AtStep, Misfit, NoCost, Precondition, UnknownAction, first_fault, misfit, misfit_by}
-use Rattle.p3_tree.specs.declared.task.Step.{Step}
-use Rattle.p3_tree.specs.declared.task.Task.{Task}
+use Rattle.p3_task.specs.Goals.{hard_holds}
+use Rattle.p3_task.specs.Plans.{Plan, arguments, cost_by, last_state, steps_fit, visited}
+use Rattle.p3_task.specs.States.{State}
+use Rattle.p3_task.specs.StepNumbers.{HasNumber}
+use Rattle.p3_task.specs.Validity.{Arguments, AtStep, Misfit, NoCost, Precondition, UnknownAction, first_fault, misfit, misfit_by}
+use Rattle.p3_task.specs.declared.task.Step.{Step}
+use Rattle.p3_task.specs.declared.task.Task.{Task}
 use Rattle.p3_types.specs.Finds.{HasOtherArguments, IsFound}
 use Rattle.p3_types.specs.declared.finding.Found.{Found}
 use Rattle.p3_types.specs.declared.finding.Found.TheVariants as found

@@ -4,13 +4,13 @@ use Rattle.std.specs.Prelude.{option_map}
 use Rattle.std.proofs.lemmas.List.{append-nil, length-append}
 use Rattle.std.proofs.lemmas.Slice.Zip.{AllZip-long}
 use Rattle.p3_base.specs.declared.refusal.Refusal.{Refusal}
-use Rattle.p3_tree.specs.PlanTexts.{IsPlanText, plan_offence, step_limit}
-use Rattle.p3_tree.specs.Plans.{Plan, last_state, visited}
-use Rattle.p3_tree.specs.States.{State}
-use Rattle.p3_tree.specs.StepNumbers.{HasNumber}
-use Rattle.p3_tree.specs.Validity.{Misfit, UnknownAction, Arguments, first_fault, misfit}
-use Rattle.p3_tree.specs.declared.task.Step.{Step}
-use Rattle.p3_tree.specs.declared.task.Task.{Task}
+use Rattle.p3_task.specs.PlanTexts.{IsPlanText, plan_offence, step_limit}
+use Rattle.p3_task.specs.Plans.{Plan, last_state, visited}
+use Rattle.p3_task.specs.States.{State}
+use Rattle.p3_task.specs.StepNumbers.{HasNumber}
+use Rattle.p3_task.specs.Validity.{Misfit, UnknownAction, Arguments, first_fault, misfit}
+use Rattle.p3_task.specs.declared.task.Step.{Step}
+use Rattle.p3_task.specs.declared.task.Task.{Task}
 use Rattle.p3_plans.specs.Laws.{AreTextsOf, HasPlan, all_of}
 use Rattle.p3_plans.specs.Steps.{Left, StepText}
 use Rattle.p3_plans.proofs.PlanLaws.{a_plan_where_no_offence, one_plan_at_most}

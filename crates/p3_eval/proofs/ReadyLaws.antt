@@ -3,13 +3,13 @@ use Rattle.std.proofs.Common.{◌≡◌, ◌∙◌, ℕ, ◌+◌, ◌<◌, refl,
 use Rattle.std.specs.Prelude.{IsSome, sum_by}
 use Rattle.std.proofs.lemmas.Slice.Zip.{AllZip-long}
 use Rattle.p3_base.specs.declared.refusal.Side.{Side}
-use Rattle.p3_tree.specs.Constraints.{instances}
-use Rattle.p3_tree.specs.Offences.{WellFormed}
-use Rattle.p3_tree.specs.Refusals.First.{task_refusal}
-use Rattle.p3_tree.specs.StepNumbers.{HasStepNumbers, IsOwn}
-use Rattle.p3_tree.specs.declared.state.Fact.{Fact}
-use Rattle.p3_tree.specs.declared.task.Task.{Task}
-use Rattle.p3_tree.proofs.StepNumberLaws.{steps_have_numbers}
+use Rattle.p3_task.specs.Constraints.{instances}
+use Rattle.p3_task.specs.Offences.{WellFormed}
+use Rattle.p3_task.specs.Refusals.First.{task_refusal}
+use Rattle.p3_task.specs.StepNumbers.{HasStepNumbers, IsOwn}
+use Rattle.p3_task.specs.declared.state.Fact.{Fact}
+use Rattle.p3_task.specs.declared.task.Task.{Task}
+use Rattle.p3_task.proofs.StepNumberLaws.{steps_have_numbers}
 use Rattle.p3_formula.specs.Conditions.{HasNamesBelow, IsReady, IsWithinLimits, weight_bound}
 use Rattle.p3_formula.specs.Weighted.{weight_of, weighted_cost}
 use Rattle.p3_formula.specs.declared.target.Weights.{Weights}

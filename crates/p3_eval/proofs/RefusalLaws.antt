@@ -7,22 +7,22 @@ use Rattle.std.proofs.lemmas.List.{length-append, length-map}
 use Rattle.p3_base.specs.declared.refusal.Code.{Code}
 use Rattle.p3_base.specs.declared.refusal.Code.TheVariants.{CostTooLarge, SplitTooWide}
 use Rattle.p3_base.specs.declared.refusal.Side.{Side}
-use Rattle.p3_tree.specs.Constraints.{domain_instances, instances, problem_instances}
-use Rattle.p3_tree.specs.FirstOffence.{Offence, first_offence, least_word}
-use Rattle.p3_tree.specs.Limits.{constraint_size, cost_bound, effect_size, goal_size, width}
-use Rattle.p3_tree.specs.Names.{Name, same_name}
-use Rattle.p3_tree.specs.Offences.{WellFormed}
-use Rattle.p3_tree.specs.Plans.{action_named}
-use Rattle.p3_tree.specs.Refusals.Counts.{action_refusals, first_action, large_action_parts, large_domain_parts, large_part, preference_word, preference_words, size_refusals, too_dear, too_large, too_many_preferences, too_wide}
-use Rattle.p3_tree.specs.Refusals.First.{refusal_of, task_refusal}
-use Rattle.p3_tree.specs.Refusals.Metric.{metric_refusals}
-use Rattle.p3_tree.specs.Refusals.Places.{first_some, word_at}
-use Rattle.p3_tree.specs.Sides.{InDomain, InProblem, instance_limit, size_limit, weight_bound, width_limit}
-use Rattle.p3_tree.specs.declared.term.Ref.{Ref}
-use Rattle.p3_tree.specs.declared.task.Action.{Action}
-use Rattle.p3_tree.specs.declared.task.Task.{Task}
-use Rattle.p3_tree.proofs.OffenceLemmas.{well_formed_where_no_offence}
-use Rattle.p3_tree.proofs.OnceLemmas.{Some-injective, find_found, nil_left, nil_right}
+use Rattle.p3_task.specs.Constraints.{domain_instances, instances, problem_instances}
+use Rattle.p3_task.specs.FirstOffence.{Offence, first_offence, least_word}
+use Rattle.p3_task.specs.Limits.{constraint_size, cost_bound, effect_size, goal_size, width}
+use Rattle.p3_task.specs.Names.{Name, same_name}
+use Rattle.p3_task.specs.Offences.{WellFormed}
+use Rattle.p3_task.specs.Plans.{action_named}
+use Rattle.p3_task.specs.Refusals.Counts.{action_refusals, first_action, large_action_parts, large_domain_parts, large_part, preference_word, preference_words, size_refusals, too_dear, too_large, too_many_preferences, too_wide}
+use Rattle.p3_task.specs.Refusals.First.{refusal_of, task_refusal}
+use Rattle.p3_task.specs.Refusals.Metric.{metric_refusals}
+use Rattle.p3_task.specs.Refusals.Places.{first_some, word_at}
+use Rattle.p3_task.specs.Sides.{InDomain, InProblem, instance_limit, size_limit, weight_bound, width_limit}
+use Rattle.p3_task.specs.declared.term.Ref.{Ref}
+use Rattle.p3_task.specs.declared.task.Action.{Action}
+use Rattle.p3_task.specs.declared.task.Task.{Task}
+use Rattle.p3_task.proofs.OffenceLemmas.{well_formed_where_no_offence}
+use Rattle.p3_task.proofs.OnceLemmas.{Some-injective, find_found, nil_left, nil_right}
 use Rattle.p3_types.specs.Tables.{is_well_formed}
 use Rattle.p3_ground.specs.Whole as whole
 use Rattle.p3_ground.specs.declared.error.GroundFail.{GroundFail}

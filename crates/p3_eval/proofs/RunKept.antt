@@ -7,14 +7,14 @@ use Rattle.std.proofs.Math.Logic.{∥∥₁_elim}
 use Rattle.std.proofs.Math.Bool.{Bool-set, and-true}
 use Rattle.std.proofs.Math.IntN.{ℤ_set}
 use Rattle.std.proofs.Math.Nat.{ℕ_set}
-use Rattle.p3_tree.specs.Metrics.{cost, value, violated}
-use Rattle.p3_tree.specs.Names.{Name}
-use Rattle.p3_tree.specs.Plans.{Plan, steps_fit}
-use Rattle.p3_tree.specs.PreferenceNames.{ordered_names}
-use Rattle.p3_tree.specs.StepNumbers.{HasStepNumbers}
-use Rattle.p3_tree.specs.Validity.{Fault, Misfit, first_fault}
-use Rattle.p3_tree.specs.declared.task.Task.{Task}
-use Rattle.p3_tree.proofs.StepNumberLaws.{steps_have_numbers}
+use Rattle.p3_task.specs.Metrics.{cost, value, violated}
+use Rattle.p3_task.specs.Names.{Name}
+use Rattle.p3_task.specs.Plans.{Plan, steps_fit}
+use Rattle.p3_task.specs.PreferenceNames.{ordered_names}
+use Rattle.p3_task.specs.StepNumbers.{HasStepNumbers}
+use Rattle.p3_task.specs.Validity.{Fault, Misfit, first_fault}
+use Rattle.p3_task.specs.declared.task.Task.{Task}
+use Rattle.p3_task.proofs.StepNumberLaws.{steps_have_numbers}
 use Rattle.p3_formula.specs.Forms.{State, truth}
 use Rattle.p3_formula.specs.GroundPlans as ground_plans
 use Rattle.p3_formula.specs.GroundPlans.{GroundPlan, ground_fits, ground_violated, last_of, state_by, step_of, visited_from}

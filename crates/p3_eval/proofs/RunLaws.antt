@@ -8,18 +8,18 @@ use Rattle.std.proofs.lemmas.Int.{ints}
 use Rattle.std.proofs.lemmas.List.{append-nil}
 use Rattle.p3_base.specs.declared.refusal.Direction.{Direction}
 use Rattle.p3_base.specs.declared.refusal.Direction.TheVariants.{Minimize, Maximize}
-use Rattle.p3_tree.specs.States as named
-use Rattle.p3_tree.specs.States.{start}
-use Rattle.p3_tree.specs.Goals.{hard_holds}
-use Rattle.p3_tree.specs.Metrics.{cost, direction, loss, loss_at, metric_quantity, signed, value, violated}
-use Rattle.p3_tree.specs.Plans.{Plan, arguments, action_named, cost_by, fits, fits_by, last_state, moves_from, state_after, step_cost, steps_fit, visited}
-use Rattle.p3_tree.specs.Constraints.{hard_list}
-use Rattle.p3_tree.specs.StepNumbers.{HasNumber, HasStepNumbers}
-use Rattle.p3_tree.specs.Validity.{Misfit, Fault, AtStep, AtGoal, AtConstraint, Arguments, Precondition, NoCost, constraint_fault, fault_at, first_fault, goal_fault, goal_holds, is_met, misfit, misfit_by, step_fault}
-use Rattle.p3_tree.specs.declared.state.Fact.{Fact}
-use Rattle.p3_tree.specs.declared.task.Action.{Action}
-use Rattle.p3_tree.specs.declared.task.Step.{Step}
-use Rattle.p3_tree.specs.declared.task.Task.{Task}
+use Rattle.p3_task.specs.States as named
+use Rattle.p3_task.specs.States.{start}
+use Rattle.p3_task.specs.Goals.{hard_holds}
+use Rattle.p3_task.specs.Metrics.{cost, direction, loss, loss_at, metric_quantity, signed, value, violated}
+use Rattle.p3_task.specs.Plans.{Plan, arguments, action_named, cost_by, fits, fits_by, last_state, moves_from, state_after, step_cost, steps_fit, visited}
+use Rattle.p3_task.specs.Constraints.{hard_list}
+use Rattle.p3_task.specs.StepNumbers.{HasNumber, HasStepNumbers}
+use Rattle.p3_task.specs.Validity.{Misfit, Fault, AtStep, AtGoal, AtConstraint, Arguments, Precondition, NoCost, constraint_fault, fault_at, first_fault, goal_fault, goal_holds, is_met, misfit, misfit_by, step_fault}
+use Rattle.p3_task.specs.declared.state.Fact.{Fact}
+use Rattle.p3_task.specs.declared.task.Action.{Action}
+use Rattle.p3_task.specs.declared.task.Step.{Step}
+use Rattle.p3_task.specs.declared.task.Task.{Task}
 use Rattle.p3_formula.specs.Forms.{State, truth}
 use Rattle.p3_formula.specs.GroundSat.{ground_sat}
 use Rattle.p3_formula.specs.GroundPlans.{GroundPlan, ground_cost, ground_loss, ground_fits, ground_visited, state_by, step_of, visited_from}
@@ -31,7 +31,7 @@ use Rattle.p3_ground.specs.StandsFor.{HardStands, IsAsked, StandsBy, can_begin, 
 use Rattle.p3_ground.proofs.Counts.{counts_agree, losses_alike}
 use Rattle.p3_ground.proofs.Validity.{AreMet, are_met, same_modal, some_visited}
 use Rattle.p3_ground.proofs.Walk.{Met, all_fit, begun, fit_same, made_of, reached}
-use Rattle.p3_tree.proofs.PlanLemmas.{fit_from, state_from, steps_fit-walk, last_state-walk}
+use Rattle.p3_task.proofs.PlanLemmas.{fit_from, state_from, steps_fit-walk, last_state-walk}
 use Rattle.p3_run.specs.Runs as run
 use Rattle.p3_run.specs.Runs.{ground_fit, ground_metric, ground_misfit, ground_state, ground_total, ground_verdict, first_unmet, unmet_by, signed_by, stepped_by}
 use Rattle.p3_run.specs.declared.answers.Verdict.TheVariants.{Goal}

@@ -10,26 +10,26 @@ use Rattle.std.proofs.lemmas.Nat.{mul-le}
 use mathlib.Core.Former.{Count}
 use Rattle.p3_base.specs.declared.refusal.Side.{Side}
 use Rattle.p3_base.specs.declared.refusal.Side.TheVariants.{Source, Written}
-use Rattle.p3_tree.specs.Bindings.{bind}
-use Rattle.p3_tree.specs.Costs.{amount_numeral, amount_numerals, cost_places, cost_units, increases, increases_layer, value_numeral, value_numerals}
-use Rattle.p3_tree.specs.Folds.{fold_effects, fold_goals}
-use Rattle.p3_tree.specs.Goals.{StatePref, prefs, prefs_layer}
-use Rattle.p3_tree.specs.Limits.{effect_layer, effect_size, goal_layer, goal_size, greatest_amount, value_of_entry}
-use Rattle.p3_tree.specs.Names.{Name, same_name}
-use Rattle.p3_tree.specs.Sides.{digit_limit, place_limit, size_limit}
-use Rattle.p3_tree.proofs.OnceLemmas.{Some-injective}
-use Rattle.p3_tree.specs.States.{Environment}
-use Rattle.p3_tree.specs.declared.effect.Amount.{Amount}
-use Rattle.p3_tree.specs.declared.effect.Amount.TheVariants as amount
-use Rattle.p3_tree.specs.declared.effect.Effect.{Effect, Row_of-Effect, end_of-Effect, more_of-Effect}
-use Rattle.p3_tree.specs.declared.effect.Effect.TheVariants as effect
-use Rattle.p3_tree.specs.declared.effect.Numeral.{Numeral}
-use Rattle.p3_tree.specs.declared.goal.PreGoal.{PreGoal, Row_of-PreGoal, end_of-PreGoal, more_of-PreGoal}
-use Rattle.p3_tree.specs.declared.goal.PreGoal.TheVariants as goal
-use Rattle.p3_tree.specs.declared.task.Action.{Action}
-use Rattle.p3_tree.specs.declared.task.Init.{Init}
-use Rattle.p3_tree.specs.declared.task.Init.TheVariants as init
-use Rattle.p3_tree.specs.declared.task.Task.{Task}
+use Rattle.p3_task.specs.Bindings.{bind}
+use Rattle.p3_task.specs.Costs.{amount_numeral, amount_numerals, cost_places, cost_units, increases, increases_layer, value_numeral, value_numerals}
+use Rattle.p3_task.specs.Folds.{fold_effects, fold_goals}
+use Rattle.p3_task.specs.Goals.{StatePref, prefs, prefs_layer}
+use Rattle.p3_task.specs.Limits.{effect_layer, effect_size, goal_layer, goal_size, greatest_amount, value_of_entry}
+use Rattle.p3_task.specs.Names.{Name, same_name}
+use Rattle.p3_task.specs.Sides.{digit_limit, place_limit, size_limit}
+use Rattle.p3_task.proofs.OnceLemmas.{Some-injective}
+use Rattle.p3_task.specs.States.{Environment}
+use Rattle.p3_task.specs.declared.effect.Amount.{Amount}
+use Rattle.p3_task.specs.declared.effect.Amount.TheVariants as amount
+use Rattle.p3_task.specs.declared.effect.Effect.{Effect, Row_of-Effect, end_of-Effect, more_of-Effect}
+use Rattle.p3_task.specs.declared.effect.Effect.TheVariants as effect
+use Rattle.p3_task.specs.declared.effect.Numeral.{Numeral}
+use Rattle.p3_task.specs.declared.goal.PreGoal.{PreGoal, Row_of-PreGoal, end_of-PreGoal, more_of-PreGoal}
+use Rattle.p3_task.specs.declared.goal.PreGoal.TheVariants as goal
+use Rattle.p3_task.specs.declared.task.Action.{Action}
+use Rattle.p3_task.specs.declared.task.Init.{Init}
+use Rattle.p3_task.specs.declared.task.Init.TheVariants as init
+use Rattle.p3_task.specs.declared.task.Task.{Task}
 use Rattle.p3_types.proofs.CutLaws.{sum-cons}
 use Rattle.p3_types.proofs.PreferenceLaws.{length-bind}
 use Rattle.p3_types.specs.Texts.{has_short_numbers, is_short, metric_numerals}

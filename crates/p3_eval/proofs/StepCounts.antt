@@ -4,15 +4,15 @@ use Rattle.std.specs.Prelude.{flat_map, nat_lt}
 use Rattle.std.proofs.lemmas.Bool.{ltb-false}
 use Rattle.std.proofs.lemmas.List.{length-map}
 use Rattle.p3_base.specs.declared.refusal.Side.{Side}
-use Rattle.p3_tree.specs.Bindings.{bind, extended, tuples}
-use Rattle.p3_tree.specs.Lifting.{steps, steps_of}
-use Rattle.p3_tree.specs.Limits.{binding_count, step_count}
-use Rattle.p3_tree.specs.Offences.{WellFormed}
-use Rattle.p3_tree.specs.Refusals.Counts.{passes_at, size_refusals, too_many_steps}
-use Rattle.p3_tree.specs.Refusals.First.{task_refusal}
-use Rattle.p3_tree.specs.declared.task.Action.{Action}
-use Rattle.p3_tree.specs.declared.task.Task.{Task}
-use Rattle.p3_tree.specs.Sides.{step_count_limit}
+use Rattle.p3_task.specs.Bindings.{bind, extended, tuples}
+use Rattle.p3_task.specs.Lifting.{steps, steps_of}
+use Rattle.p3_task.specs.Limits.{binding_count, step_count}
+use Rattle.p3_task.specs.Offences.{WellFormed}
+use Rattle.p3_task.specs.Refusals.Counts.{passes_at, size_refusals, too_many_steps}
+use Rattle.p3_task.specs.Refusals.First.{task_refusal}
+use Rattle.p3_task.specs.declared.task.Action.{Action}
+use Rattle.p3_task.specs.declared.task.Task.{Task}
+use Rattle.p3_task.specs.Sides.{step_count_limit}
 use Rattle.p3_types.proofs.PreferenceLaws.{length-bind}
 use Rattle.p3_eval.proofs.RefusalLaws.{each_none, no_size, unmapped}
 

@@ -1,8 +1,8 @@
 -- What accepting a task answers.
 use Rattle.std.specs.Prelude.{◌≡◌, Bool, is_none, Some}
 use Rattle.p3_base.specs.declared.refusal.Side.{Side}
-use Rattle.p3_tree.specs.Refusals.First.{task_refusal}
-use Rattle.p3_tree.specs.declared.task.Task.{Task}
+use Rattle.p3_task.specs.Refusals.First.{task_refusal}
+use Rattle.p3_task.specs.declared.task.Task.{Task}
 use Rattle.p3_eval.specs.declared.error.WholeFail.{WholeFail}
 use Rattle.p3_eval.specs.declared.error.WholeFail.TheVariants.{Refused, NoMemory}
 

@@ -1,10 +1,10 @@
 -- Faults as values of the code, and what judging one step more tells of a plan.
 use Rattle.std.specs.Prelude.{◌≡◌, ℕ, ◌+◌, ◌≤◌, List, ◌∷◌, ◌++◌, length, Option, Some, None, option_map}
-use Rattle.p3_tree.specs.Plans.{Plan, last_state, visited}
-use Rattle.p3_tree.specs.Validity as why
-use Rattle.p3_tree.specs.Validity.{AtConstraint, AtGoal, AtStep, Fault, first_fault, misfit}
-use Rattle.p3_tree.specs.declared.task.Step.{Step}
-use Rattle.p3_tree.specs.declared.task.Task.{Task}
+use Rattle.p3_task.specs.Plans.{Plan, last_state, visited}
+use Rattle.p3_task.specs.Validity as why
+use Rattle.p3_task.specs.Validity.{AtConstraint, AtGoal, AtStep, Fault, first_fault, misfit}
+use Rattle.p3_task.specs.declared.task.Step.{Step}
+use Rattle.p3_task.specs.declared.task.Task.{Task}
 use Rattle.p3_types.specs.Finds.{IsFound}
 use Rattle.p3_types.specs.declared.finding.Found.{Found}
 use Rattle.p3_types.specs.declared.finding.Found.TheVariants.{Number, UnknownAction, Arguments}

@@ -1,13 +1,13 @@
 -- What judging the text of a plan answers: its first fault, or that it is valid.
 use Rattle.std.specs.Prelude.{◌≡◌, ℕ, ◌≤◌, List, [], ◌∷◌, ◌++◌, Option, Some, None, option_map}
-use Rattle.p3_tree.specs.Limits.{step_count}
-use Rattle.p3_tree.specs.Plans.{Plan}
-use Rattle.p3_tree.specs.PlanTexts.{IsPlanText, plan_offence}
-use Rattle.p3_tree.specs.StepNumbers.{HasNumber}
-use Rattle.p3_tree.specs.Validity.{first_fault}
-use Rattle.p3_tree.specs.declared.task.Step.{Step}
-use Rattle.p3_tree.specs.declared.task.Task.{Task}
-use Rattle.p3_tree.specs.Sides.{step_count_limit}
+use Rattle.p3_task.specs.Limits.{step_count}
+use Rattle.p3_task.specs.Plans.{Plan}
+use Rattle.p3_task.specs.PlanTexts.{IsPlanText, plan_offence}
+use Rattle.p3_task.specs.StepNumbers.{HasNumber}
+use Rattle.p3_task.specs.Validity.{first_fault}
+use Rattle.p3_task.specs.declared.task.Step.{Step}
+use Rattle.p3_task.specs.declared.task.Task.{Task}
+use Rattle.p3_task.specs.Sides.{step_count_limit}
 use Rattle.p3_plans.specs.Laws.{AreTextsOf}
 use Rattle.p3_plans.specs.Steps.{Left}
 use Rattle.p3_eval.specs.Judged.{HasItsStep, fault_in}

@@ -2,14 +2,14 @@
 use Prim.{∥◌∥₁}
 use Rattle.std.specs.Prelude.{◌≡◌, ℕ, ◌+◌, true, ◌∷◌, ◌++◌, length, Option, Some, None, IsTrue}
 use Rattle.p3_base.specs.declared.refusal.Side.{Side}
-use Rattle.p3_tree.specs.Offences.{WellFormed}
-use Rattle.p3_tree.specs.Plans.{Plan, last_state, visited}
-use Rattle.p3_tree.specs.Refusals.First.{task_refusal}
-use Rattle.p3_tree.specs.StepNumbers.{HasNumber}
-use Rattle.p3_tree.specs.Validity as fault
-use Rattle.p3_tree.specs.Validity.{AtConstraint, AtGoal, AtStep, Fault, Misfit, first_fault, misfit}
-use Rattle.p3_tree.specs.declared.task.Step.{Step}
-use Rattle.p3_tree.specs.declared.task.Task.{Task}
+use Rattle.p3_task.specs.Offences.{WellFormed}
+use Rattle.p3_task.specs.Plans.{Plan, last_state, visited}
+use Rattle.p3_task.specs.Refusals.First.{task_refusal}
+use Rattle.p3_task.specs.StepNumbers.{HasNumber}
+use Rattle.p3_task.specs.Validity as fault
+use Rattle.p3_task.specs.Validity.{AtConstraint, AtGoal, AtStep, Fault, Misfit, first_fault, misfit}
+use Rattle.p3_task.specs.declared.task.Step.{Step}
+use Rattle.p3_task.specs.declared.task.Task.{Task}
 use Rattle.p3_formula.specs.declared.target.Weights.{Weights}
 use Rattle.p3_formula.specs.declared.task.GroundTask.{GroundTask}
 use Rattle.p3_types.specs.Texts.{has_short_numbers}

@@ -1,9 +1,9 @@
 //! Tasks of which nothing is refused, before they are grounded.
 
 ghost use Rattle.std.specs.Prelude.{◌≡◌, ◌≤◌, None, IfErr, IfOk, IsTrue, OnOk};
-ghost use Rattle.p3_tree.specs.Limits.{step_count};
-ghost use Rattle.p3_tree.specs.Refusals.First.{task_refusal};
-ghost use Rattle.p3_tree.specs.Sides.{step_count_limit};
+ghost use Rattle.p3_task.specs.Limits.{step_count};
+ghost use Rattle.p3_task.specs.Refusals.First.{task_refusal};
+ghost use Rattle.p3_task.specs.Sides.{step_count_limit};
 ghost use Rattle.p3_ground.specs.Sparse.{IsGroundingAmong};
 ghost use Rattle.p3_ground.specs.StandsFor.{StandsIn};
 ghost use Rattle.p3_metric.specs.Weighed.{HasWeights};

@@ -1,9 +1,9 @@
 //! A task with a ground task that has some of its steps.
 
 ghost use Rattle.std.specs.Prelude.{◌≡◌, ◌≤◌, None, IfOk, IsTrue};
-ghost use Rattle.p3_tree.specs.Limits.{step_count};
-ghost use Rattle.p3_tree.specs.Refusals.First.{task_refusal};
-ghost use Rattle.p3_tree.specs.Sides.{step_count_limit};
+ghost use Rattle.p3_task.specs.Limits.{step_count};
+ghost use Rattle.p3_task.specs.Refusals.First.{task_refusal};
+ghost use Rattle.p3_task.specs.Sides.{step_count_limit};
 ghost use Rattle.p3_ground.specs.StandsFor.{StandsIn};
 ghost use Rattle.p3_metric.specs.Weighed.{HasWeights};
 ghost use Rattle.p3_run.specs.Runs.{begun};

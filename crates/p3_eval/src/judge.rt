@@ -1,7 +1,7 @@
 //! Plans judged step by step, as what each step is found.
 
 ghost use Rattle.std.specs.Prelude.{◌≡◌, ◌+◌, ◌<◌, ◌≤◌, [], length, option_map, IfSome};
-ghost use Rattle.p3_tree.specs.Validity.{first_fault};
+ghost use Rattle.p3_task.specs.Validity.{first_fault};
 ghost use Rattle.p3_run.specs.Runs.{most_steps};
 ghost use Rattle.p3_eval.specs.Judged.{
   HasItsStep,

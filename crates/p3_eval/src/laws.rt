@@ -2,14 +2,14 @@
 
 ghost use Rattle.std.specs.Prelude.{◌≡◌, ◌+◌, ◌∷◌, ◌++◌, ℕ, length, IsTrue, None, Some};
 ghost use Rattle.p3_base.specs.declared.refusal.Side.{Side};
-ghost use Rattle.p3_tree.specs.Metrics.{cost, value};
-ghost use Rattle.p3_tree.specs.Offences.{WellFormed};
-ghost use Rattle.p3_tree.specs.Plans.{Plan, last_state, steps_fit, visited};
-ghost use Rattle.p3_tree.specs.Refusals.First.{task_refusal};
-ghost use Rattle.p3_tree.specs.StepNumbers.{HasNumber};
-ghost use Rattle.p3_tree.specs.Validity.{AtStep, Misfit, first_fault, misfit};
-ghost use Rattle.p3_tree.specs.declared.task.Step.{Step};
-ghost use Rattle.p3_tree.specs.declared.task.Task.{Task};
+ghost use Rattle.p3_task.specs.Metrics.{cost, value};
+ghost use Rattle.p3_task.specs.Offences.{WellFormed};
+ghost use Rattle.p3_task.specs.Plans.{Plan, last_state, steps_fit, visited};
+ghost use Rattle.p3_task.specs.Refusals.First.{task_refusal};
+ghost use Rattle.p3_task.specs.StepNumbers.{HasNumber};
+ghost use Rattle.p3_task.specs.Validity.{AtStep, Misfit, first_fault, misfit};
+ghost use Rattle.p3_task.specs.declared.task.Step.{Step};
+ghost use Rattle.p3_task.specs.declared.task.Task.{Task};
 ghost use Rattle.p3_formula.specs.Conditions.{IsReady};
 ghost use Rattle.p3_formula.specs.GroundPlans.{GroundPlan};
 ghost use Rattle.p3_formula.specs.declared.target.Weights.{Weights};

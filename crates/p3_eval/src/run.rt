@@ -1,11 +1,11 @@
 //! Runs of a task, step by step, by the numbers of the steps.
 
 ghost use Rattle.std.specs.Prelude.{◌≡◌, ◌<◌, pos, length, slice_get, Some, IfOk, IsTrue};
-ghost use Rattle.p3_tree.specs.Metrics.{cost, value, violated};
-ghost use Rattle.p3_tree.specs.Names.{Name};
-ghost use Rattle.p3_tree.specs.Plans.{steps_fit};
-ghost use Rattle.p3_tree.specs.PreferenceNames.{ordered_names};
-ghost use Rattle.p3_tree.specs.Validity.{first_fault};
+ghost use Rattle.p3_task.specs.Metrics.{cost, value, violated};
+ghost use Rattle.p3_task.specs.Names.{Name};
+ghost use Rattle.p3_task.specs.Plans.{steps_fit};
+ghost use Rattle.p3_task.specs.PreferenceNames.{ordered_names};
+ghost use Rattle.p3_task.specs.Validity.{first_fault};
 ghost use Rattle.p3_run.specs.Runs.{begun, ground_state, most_steps, ran_after};
 ghost use Rattle.p3_eval.specs.Runs.{
   HasTask,

@@ -6,7 +6,7 @@ ghost use Rattle.p3_eval.specs.Judged.{found_count};
 
 use p3_base::NoMemory;
 use p3_plans::{NextStep, PlanReader};
-use p3_tree::Step;
+use p3_task::Step;
 use p3_types::{Checked, Found};
 use std::alloc::Global;
 
@@ -22,9 +22,9 @@ pub struct Steps {
 
 impl Steps {
     ghost use Rattle.std.specs.Prelude.{◌≡◌, IfOk, None, length};
-    ghost use Rattle.p3_tree.specs.Limits.{step_count};
-    ghost use Rattle.p3_tree.specs.PlanTexts.{plan_offence};
-    ghost use Rattle.p3_tree.specs.Sides.{plan_byte_limit, step_count_limit};
+    ghost use Rattle.p3_task.specs.Limits.{step_count};
+    ghost use Rattle.p3_task.specs.PlanTexts.{plan_offence};
+    ghost use Rattle.p3_task.specs.Sides.{plan_byte_limit, step_count_limit};
     ghost use Rattle.p3_eval.specs.Steps.{AreOfPlan, AreStepsOf, OfPlanText};
 
     /// Finds the steps of the plan of a text that has no offence.

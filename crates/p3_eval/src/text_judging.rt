@@ -1,8 +1,8 @@
 //! Judging the text of a plan.
 
 ghost use Rattle.std.specs.Prelude.{◌≡◌, ◌<◌, ◌≤◌, [], length, None, IfSome};
-ghost use Rattle.p3_tree.specs.PlanTexts.{plan_offence};
-ghost use Rattle.p3_tree.specs.Sides.{plan_byte_limit};
+ghost use Rattle.p3_task.specs.PlanTexts.{plan_offence};
+ghost use Rattle.p3_task.specs.Sides.{plan_byte_limit};
 ghost use Rattle.p3_eval.specs.Judged.{HasItsStep};
 ghost use Rattle.p3_run.specs.Runs.{most_steps};
 ghost use Rattle.p3_eval.specs.Judging.{

@@ -1,9 +1,9 @@
 //! A task with all that belongs to it.
 
 ghost use Rattle.std.specs.Prelude.{◌≡◌, ◌≤◌, None, IfOk, IfErr, OnOk, IsTrue};
-ghost use Rattle.p3_tree.specs.Limits.{step_count};
-ghost use Rattle.p3_tree.specs.Refusals.First.{task_refusal};
-ghost use Rattle.p3_tree.specs.Sides.{step_count_limit};
+ghost use Rattle.p3_task.specs.Limits.{step_count};
+ghost use Rattle.p3_task.specs.Refusals.First.{task_refusal};
+ghost use Rattle.p3_task.specs.Sides.{step_count_limit};
 ghost use Rattle.p3_formula.specs.Conditions.{IsReady};
 ghost use Rattle.p3_ground.specs.Sparse.{IsGroundingOf};
 ghost use Rattle.p3_ground.specs.StandsFor.{LeavesOutOnlyUnfit};

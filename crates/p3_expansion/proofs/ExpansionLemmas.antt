@@ -7,7 +7,7 @@ use Rattle.std.proofs.lemmas.Bool.{and_parts}
 use Rattle.std.proofs.lemmas.List.Folds.{list_all-append}
 use Rattle.std.proofs.lemmas.List.{take-append-drop, take_all, append-nil}
 use Rattle.std.proofs.lemmas.List.Concat.{flat_map-append}
-use Rattle.p3_tree.specs.States.{State, has_fact}
+use Rattle.p3_task.specs.States.{State, has_fact}
 use Rattle.p3_formula.specs.Forms.{truth, has_atoms}
 use Rattle.p3_formula.specs.Simplified.{constant, negated}
 use Rattle.p3_formula.specs.Tidy.{is_tidy, is_tidy_part}

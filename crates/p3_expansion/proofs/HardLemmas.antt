@@ -4,7 +4,7 @@ use Rattle.std.specs.Prelude.{flat_map}
 use Rattle.std.proofs.lemmas.List.Folds.{flat_map-map}
 use mathlib.Core.Former.{Count}
 use denote.Hole.Carrier.{hidden}
-use Rattle.p3_tree.specs.States.{State}
+use Rattle.p3_task.specs.States.{State}
 use Rattle.p3_numbers.specs.Folds.{fold_goal, fold_goals}
 use Rattle.p3_numbers.specs.Goals.{hard_met}
 use Rattle.p3_numbers.specs.Slots.{Slots, bound}

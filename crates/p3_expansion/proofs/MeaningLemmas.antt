@@ -10,7 +10,7 @@ use Rattle.std.proofs.lemmas.List.Folds.{list_all-append, list_all-map, flat_map
 use mathlib.Core.Former.{Count}
 use denote.Hole.Carrier.{hidden}
 use Rattle.p3_base.specs.Connectives.{◌implies◌}
-use Rattle.p3_tree.specs.States.{State}
+use Rattle.p3_task.specs.States.{State}
 use Rattle.p3_numbers.specs.Conditions.{met}
 use Rattle.p3_numbers.specs.Folds.{fold_condition, fold_conditions}
 use Rattle.p3_numbers.specs.Slots.{Slots, value_of, bound}

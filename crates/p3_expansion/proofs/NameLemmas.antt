@@ -8,12 +8,12 @@ use Rattle.std.proofs.lemmas.Bool.Decides.{nat_tests, Decides-eqb}
 use Rattle.std.proofs.lemmas.List.Sums.{passes_at_first}
 use Rattle.std.proofs.lemmas.Option.{slice_get-get_or}
 use Rattle.std.proofs.lemmas.Slice.Eq.{bytes_eq-Decides}
-use Rattle.p3_tree.specs.Names.{Name, same_name}
-use Rattle.p3_tree.specs.States.{same_fact}
-use Rattle.p3_tree.specs.declared.state.Fact.{Fact}
-use Rattle.p3_tree.specs.declared.task.Task.{Task}
-use Rattle.p3_tree.proofs.OnceLemmas.{AreOnce, each_once}
-use Rattle.p3_tree.proofs.StateLemmas.{same_fact-Decides}
+use Rattle.p3_task.specs.Names.{Name, same_name}
+use Rattle.p3_task.specs.States.{same_fact}
+use Rattle.p3_task.specs.declared.state.Fact.{Fact}
+use Rattle.p3_task.specs.declared.task.Task.{Task}
+use Rattle.p3_task.proofs.OnceLemmas.{AreOnce, each_once}
+use Rattle.p3_task.proofs.StateLemmas.{same_fact-Decides}
 use Rattle.p3_numbers.specs.Places.{number_in}
 use Rattle.p3_numbers.specs.Slots.{name_at, object_names}
 use Rattle.p3_numbers.specs.Tasks.{IsNumberedTask, header_names}

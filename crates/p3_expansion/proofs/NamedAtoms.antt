@@ -3,12 +3,12 @@ use Rattle.std.proofs.Common.{◌≡◌, nat_lt, true, ◌&&◌, List, [], ◌�
 use Rattle.std.specs.Prelude.{filter_map}
 use Rattle.std.specs.List.{list_all}
 use Rattle.std.proofs.lemmas.Bool.{and_parts, and_from, lt-ltb}
-use Rattle.p3_tree.specs.Names.{has_name}
-use Rattle.p3_tree.specs.declared.task.Init.{Init}
-use Rattle.p3_tree.specs.declared.task.Init.TheVariants.{True, False, Value}
-use Rattle.p3_tree.specs.declared.task.Task.{Task}
-use Rattle.p3_tree.specs.declared.term.Ref.{Ref}
-use Rattle.p3_tree.specs.declared.term.Term.{Term}
+use Rattle.p3_task.specs.Names.{has_name}
+use Rattle.p3_task.specs.declared.task.Init.{Init}
+use Rattle.p3_task.specs.declared.task.Init.TheVariants.{True, False, Value}
+use Rattle.p3_task.specs.declared.task.Task.{Task}
+use Rattle.p3_task.specs.declared.term.Ref.{Ref}
+use Rattle.p3_task.specs.declared.term.Term.{Term}
 use Rattle.p3_numbers.specs.Places.{Variables, Fills, number_in, numbered_term, numbered_terms, is_known_term, are_known_terms}
 use Rattle.p3_numbers.specs.Slots.{Slots, value_of, values_of}
 use Rattle.p3_numbers.specs.Starts.{entry_fact, start_of, is_known_entry}

@@ -10,18 +10,18 @@ use Rattle.std.proofs.lemmas.List.{length-map}
 use Rattle.std.proofs.lemmas.List.Folds.{list_all-map}
 use Rattle.std.proofs.lemmas.List.Sums.{sum_by-cons}
 use Rattle.std.proofs.lemmas.Slice.Eq.{bytes_eq-Decides}
-use Rattle.p3_tree.specs.Effects.{adds, dels}
-use Rattle.p3_tree.specs.Literals as named
-use Rattle.p3_tree.specs.Literals.{Literal, literals}
-use Rattle.p3_tree.specs.Formulas.{holds}
-use Rattle.p3_tree.specs.Names as names
-use Rattle.p3_tree.specs.States.{State, Environment, has_fact, same_fact}
-use Rattle.p3_tree.specs.declared.effect.Effect.{Effect}
-use Rattle.p3_tree.specs.declared.state.Fact.{Fact}
-use Rattle.p3_tree.specs.declared.task.Task.{Task}
-use Rattle.p3_tree.proofs.LiteralLaws.{adds-literals, dels-literals}
-use Rattle.p3_tree.proofs.OnceLemmas.{Some-injective}
-use Rattle.p3_tree.proofs.StateLemmas.{has_fact-next, same_fact-Decides}
+use Rattle.p3_task.specs.Effects.{adds, dels}
+use Rattle.p3_task.specs.Literals as named
+use Rattle.p3_task.specs.Literals.{Literal, literals}
+use Rattle.p3_task.specs.Formulas.{holds}
+use Rattle.p3_task.specs.Names as names
+use Rattle.p3_task.specs.States.{State, Environment, has_fact, same_fact}
+use Rattle.p3_task.specs.declared.effect.Effect.{Effect}
+use Rattle.p3_task.specs.declared.state.Fact.{Fact}
+use Rattle.p3_task.specs.declared.task.Task.{Task}
+use Rattle.p3_task.proofs.LiteralLaws.{adds-literals, dels-literals}
+use Rattle.p3_task.proofs.OnceLemmas.{Some-injective}
+use Rattle.p3_task.proofs.StateLemmas.{has_fact-next, same_fact-Decides}
 use Rattle.p3_formula.specs.Forms.{truth}
 use Rattle.p3_formula.specs.Next.{is_added, is_deleted}
 use Rattle.p3_formula.specs.Simplified.{is_value}

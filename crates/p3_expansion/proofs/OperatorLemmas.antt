@@ -5,7 +5,7 @@ use Rattle.std.specs.List.{list_all}
 use Rattle.std.proofs.lemmas.Bool.{and_parts, and_from}
 use Rattle.std.proofs.lemmas.List.{append-nil}
 use Rattle.std.proofs.lemmas.List.Folds.{list_all-append}
-use Rattle.p3_tree.specs.States.{State}
+use Rattle.p3_task.specs.States.{State}
 use Rattle.p3_formula.specs.Forms.{has_atoms}
 use Rattle.p3_base.proofs.OperatorLaws.{formulas_binary, formulas_unary, over_binary, over_unary, pairs_binary, pairs_unary, pairs_weaker}
 use Rattle.p3_base.specs.Operators.{binary, formulas_of, unary}

@@ -2,7 +2,7 @@
 use Rattle.std.proofs.Common.{◌≡◌, ℕ, ◌≤◌, false, List, [], ◌∷◌, ◌++◌, map, length, take, drop, slice_get, Some, refl, sym, ap, arith, zero, suc}
 use Rattle.std.specs.Prelude.{replicate, slice_set, bytes_eq}
 use Rattle.std.specs.List.{list_any}
-use Rattle.p3_tree.proofs.OnceLemmas.{Some-injective}
+use Rattle.p3_task.proofs.OnceLemmas.{Some-injective}
 use Rattle.p3_expansion.specs.Atoms.{GroundAtom}
 use Rattle.p3_expansion.specs.Statics.{start_bits}
 use Rattle.p3_expansion.specs.declared.statics.Statics.{Statics}

@@ -12,19 +12,19 @@ use Rattle.std.proofs.lemmas.Option.{get_or_from_slice_get}
 use Rattle.std.proofs.lemmas.Slice.Eq.{bytes_eq-Decides}
 use denote.Hole.Carrier.{hidden}
 use mathlib.Core.Former.{Count}
-use Rattle.p3_tree.specs.Folds as named_fold
-use Rattle.p3_tree.specs.Names.{Name, has_name}
-use Rattle.p3_tree.specs.Offences.{WellFormed}
-use Rattle.p3_tree.specs.Plans.{Reached}
-use Rattle.p3_tree.specs.States.{State, has_fact, start}
-use Rattle.p3_tree.specs.Static as named
-use Rattle.p3_tree.specs.Static.{changed, changed_names}
-use Rattle.p3_tree.specs.declared.effect.Effect.{Effect, Row_of-Effect, end_of-Effect, more_of-Effect}
-use Rattle.p3_tree.specs.declared.effect.Effect.TheVariants as tree
-use Rattle.p3_tree.specs.declared.task.Action.{Action}
-use Rattle.p3_tree.specs.declared.task.Task.{Task}
-use Rattle.p3_tree.proofs.OnceLemmas.{map_at}
-use Rattle.p3_tree.proofs.StaticLaws.{settled-reached}
+use Rattle.p3_task.specs.Folds as named_fold
+use Rattle.p3_task.specs.Names.{Name, has_name}
+use Rattle.p3_task.specs.Offences.{WellFormed}
+use Rattle.p3_task.specs.Plans.{Reached}
+use Rattle.p3_task.specs.States.{State, has_fact, start}
+use Rattle.p3_task.specs.Static as named
+use Rattle.p3_task.specs.Static.{changed, changed_names}
+use Rattle.p3_task.specs.declared.effect.Effect.{Effect, Row_of-Effect, end_of-Effect, more_of-Effect}
+use Rattle.p3_task.specs.declared.effect.Effect.TheVariants as tree
+use Rattle.p3_task.specs.declared.task.Action.{Action}
+use Rattle.p3_task.specs.declared.task.Task.{Task}
+use Rattle.p3_task.proofs.OnceLemmas.{map_at}
+use Rattle.p3_task.proofs.StaticLaws.{settled-reached}
 use Rattle.p3_formula.proofs.FormLemmas.{list_any-map}
 use Rattle.p3_numbers.specs.Conditions.{condition_of}
 use Rattle.p3_numbers.specs.Effects.{effect_layer, effect_of}

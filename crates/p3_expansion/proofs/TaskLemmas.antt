@@ -3,11 +3,11 @@ use Rattle.std.proofs.Common.{◌≡◌, ◌∙◌, ◌<◌, List, [], ◌∷◌
 use Rattle.std.specs.List.{AllZip}
 use Rattle.std.proofs.lemmas.List.{map-append}
 use Rattle.std.proofs.lemmas.List.Elements.{All-nil}
-use Rattle.p3_tree.specs.Constraints as named
-use Rattle.p3_tree.specs.Constraints.{hard_list, hard_modals, instances, instances_of, operators}
-use Rattle.p3_tree.specs.Goals.{StatePref, prefs}
-use Rattle.p3_tree.specs.Offences.{WellFormed}
-use Rattle.p3_tree.specs.declared.task.Task.{Task}
+use Rattle.p3_task.specs.Constraints as named
+use Rattle.p3_task.specs.Constraints.{hard_list, hard_modals, instances, instances_of, operators}
+use Rattle.p3_task.specs.Goals.{StatePref, prefs}
+use Rattle.p3_task.specs.Offences.{WellFormed}
+use Rattle.p3_task.specs.declared.task.Task.{Task}
 use Rattle.p3_base.specs.declared.operator.Operator.TheVariants.{AtEnd}
 use Rattle.p3_formula.specs.GroundModal.{GroundModal}
 use Rattle.p3_formula.specs.declared.modal.GroundSoft.{GroundSoft}

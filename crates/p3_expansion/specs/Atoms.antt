@@ -1,7 +1,7 @@
 -- Ground atoms: a predicate and its objects, as numbers.
 use Rattle.std.specs.Prelude.{◌≡◌, ℕ, ◌≤◌, nat_lt, Bool, true, false, ◌&&◌, List, [], ◌∷◌, ◌++◌, length, slice_get, Some, bytes_eq, if◌then◌else◌}
 use Rattle.std.specs.List.{list_any, list_all}
-use Rattle.p3_tree.specs.declared.state.Fact.{Fact}
+use Rattle.p3_task.specs.declared.state.Fact.{Fact}
 use Rattle.p3_numbers.specs.Slots.{Slots, values_of, name_at, object_names}
 use Rattle.p3_numbers.specs.declared.condition.NumberedArgument.{NumberedArgument}
 use Rattle.p3_numbers.specs.declared.numbers.Numbers.{Numbers}

@@ -1,7 +1,7 @@
 -- The literals of an effect at objects, as changes.
 use Rattle.std.specs.Prelude.{◌≡◌, ◌⊎◌, Bool, true, false, ◌&&◌, List, [], ◌∷◌, ◌++◌, map, flat_map, slice_get, Some, IsTrue}
 use Rattle.std.specs.List.{list_all}
-use Rattle.p3_tree.specs.States.{State}
+use Rattle.p3_task.specs.States.{State}
 use Rattle.p3_formula.specs.Tidy.{is_tidy}
 use Rattle.p3_formula.specs.declared.form.Change.{Change}
 use Rattle.p3_formula.specs.declared.form.Form.{Form}

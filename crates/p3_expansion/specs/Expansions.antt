@@ -1,7 +1,7 @@
 -- What it is that a form stands for a meaning, in the states that keep what no step changes.
 use Rattle.std.specs.Prelude.{◌≡◌, ℕ, Bool, true, not, List, slice_get, Some, if◌then◌else◌}
 use Rattle.std.specs.List.{list_all}
-use Rattle.p3_tree.specs.States.{State, has_fact}
+use Rattle.p3_task.specs.States.{State, has_fact}
 use Rattle.p3_formula.specs.Forms.{truth, is_set, has_atoms}
 use Rattle.p3_formula.specs.Simplified as made
 use Rattle.p3_formula.specs.Tidy.{is_tidy_part}

@@ -1,7 +1,7 @@
 -- What a part of a tree says at objects: where it holds, and which atoms it may read.
 use Rattle.std.specs.Prelude.{Bool, true, false, not, ◌&&◌, ◌||◌, List, [], ◌∷◌, ◌++◌, ℕ, flat_map}
 use Rattle.std.specs.List.{list_any, list_all}
-use Rattle.p3_tree.specs.States.{State, has_fact}
+use Rattle.p3_task.specs.States.{State, has_fact}
 use Rattle.p3_numbers.specs.Conditions.{met}
 use Rattle.p3_numbers.specs.Folds.{fold_condition}
 use Rattle.p3_numbers.specs.Slots.{Slots, bound}

@@ -1,9 +1,9 @@
 -- Goals at objects, in the terms of the preconditions and goals that they were made of.
 use Rattle.std.specs.Prelude.{◌≡◌, true, List, map}
 use Rattle.std.specs.List.{AllZip}
-use Rattle.p3_tree.specs.Goals.{hard_holds, prefs}
-use Rattle.p3_tree.specs.declared.goal.PreGoal.{PreGoal}
-use Rattle.p3_tree.specs.declared.task.Task.{Task}
+use Rattle.p3_task.specs.Goals.{hard_holds, prefs}
+use Rattle.p3_task.specs.declared.goal.PreGoal.{PreGoal}
+use Rattle.p3_task.specs.declared.task.Task.{Task}
 use Rattle.p3_formula.specs.declared.form.Form.{Form}
 use Rattle.p3_formula.specs.declared.modal.GroundPref.{GroundPref}
 use Rattle.p3_numbers.specs.Goals.{PreferenceMeaning, preferences, preference_meaning, goal_of, is_known_goal}

@@ -1,8 +1,8 @@
 -- What is read of the trees of a well-formed task: atoms whose parts have names.
 use Rattle.std.specs.Prelude.{◌≡◌, ℕ, true, [], flat_map, slice_get, Some}
-use Rattle.p3_tree.specs.Offences.{WellFormed}
-use Rattle.p3_tree.specs.declared.task.Action.{Action}
-use Rattle.p3_tree.specs.declared.task.Task.{Task}
+use Rattle.p3_task.specs.Offences.{WellFormed}
+use Rattle.p3_task.specs.declared.task.Action.{Action}
+use Rattle.p3_task.specs.declared.task.Task.{Task}
 use Rattle.p3_numbers.specs.Places.{Fills, words_of}
 use Rattle.p3_numbers.specs.Slots.{Slots}
 use Rattle.p3_numbers.specs.Tasks.{IsNumberedTask, numbered_action}

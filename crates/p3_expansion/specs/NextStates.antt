@@ -2,14 +2,14 @@
 use Rattle.std.specs.Prelude.{◌≡◌, ℕ, ◌≤◌, Bool, true, false, not, List, map, length, slice_get, count_by}
 use Rattle.std.specs.List.{list_all}
 use Rattle.std.specs.Option.{option_map_or}
-use Rattle.p3_tree.specs.Effects.{next}
-use Rattle.p3_tree.specs.Literals.{Literal, literals}
-use Rattle.p3_tree.specs.Names.{is_empty}
-use Rattle.p3_tree.specs.Offences.{WellFormed}
-use Rattle.p3_tree.specs.States.{State, Environment, has_fact, start}
-use Rattle.p3_tree.specs.declared.effect.Effect.{Effect}
-use Rattle.p3_tree.specs.declared.state.Fact.{Fact}
-use Rattle.p3_tree.specs.declared.task.Task.{Task}
+use Rattle.p3_task.specs.Effects.{next}
+use Rattle.p3_task.specs.Literals.{Literal, literals}
+use Rattle.p3_task.specs.Names.{is_empty}
+use Rattle.p3_task.specs.Offences.{WellFormed}
+use Rattle.p3_task.specs.States.{State, Environment, has_fact, start}
+use Rattle.p3_task.specs.declared.effect.Effect.{Effect}
+use Rattle.p3_task.specs.declared.state.Fact.{Fact}
+use Rattle.p3_task.specs.declared.task.Task.{Task}
 use Rattle.p3_formula.specs.Next.{after}
 use Rattle.p3_formula.specs.Simplified.{is_value}
 use Rattle.p3_formula.specs.declared.form.Change.{Change}

@@ -1,7 +1,7 @@
 -- The operators of a constraint at objects, as ground operators.
 use Rattle.std.specs.Prelude.{◌≡◌, ℕ, Bool, true, false, List, flat_map, IsTrue}
 use Rattle.std.specs.List.{list_all, AllZip}
-use Rattle.p3_tree.specs.States.{State}
+use Rattle.p3_task.specs.States.{State}
 use Rattle.p3_formula.specs.Forms.{truth}
 use Rattle.p3_formula.specs.Modals.{modal_has}
 use Rattle.p3_base.specs.Operators.{formulas_of, Pairs}

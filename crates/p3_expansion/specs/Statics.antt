@@ -1,10 +1,10 @@
 -- What no step changes: atoms of predicates that no effect names are as at the start.
 use Rattle.std.specs.Prelude.{◌≡◌, ℕ, ◌<◌, nat_lt, Bool, true, false, not, ◌&&◌, List, [], ◌∷◌, map, flat_map, fold, replicate, length, slice_set, slice_index_or, bytes_eq}
 use Rattle.std.specs.List.{list_any, list_all}
-use Rattle.p3_tree.specs.Plans.{Reached}
-use Rattle.p3_tree.specs.States.{State, has_fact}
-use Rattle.p3_tree.specs.Static as named
-use Rattle.p3_tree.specs.declared.task.Task.{Task}
+use Rattle.p3_task.specs.Plans.{Reached}
+use Rattle.p3_task.specs.States.{State, has_fact}
+use Rattle.p3_task.specs.Static as named
+use Rattle.p3_task.specs.declared.task.Task.{Task}
 use Rattle.p3_numbers.specs.Folds.{fold_effect}
 use Rattle.p3_numbers.specs.Slots.{name_at}
 use Rattle.p3_numbers.specs.declared.effect.NumberedEffect.{NumberedEffect, NumberedEffect-F}

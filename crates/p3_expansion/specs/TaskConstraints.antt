@@ -1,9 +1,9 @@
 -- The constraints of a whole task, as ground operators and instances.
 use Rattle.std.specs.Prelude.{◌≡◌, List, [], ◌++◌, flat_map, map}
 use Rattle.std.specs.List.{AllZip}
-use Rattle.p3_tree.specs.Constraints.{hard_list, instances}
-use Rattle.p3_tree.specs.Offences.{WellFormed}
-use Rattle.p3_tree.specs.declared.task.Task.{Task}
+use Rattle.p3_task.specs.Constraints.{hard_list, instances}
+use Rattle.p3_task.specs.Offences.{WellFormed}
+use Rattle.p3_task.specs.declared.task.Task.{Task}
 use Rattle.p3_formula.specs.GroundModal.{GroundModal}
 use Rattle.p3_formula.specs.declared.modal.GroundSoft.{GroundSoft}
 use Rattle.p3_numbers.specs.Constraints.{PlacedModal, PlacedInstance, InstanceMeaning, hard_operators, soft_instances, hard_modal_meaning, instance_meaning}

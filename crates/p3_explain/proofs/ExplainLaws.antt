@@ -4,11 +4,11 @@ use Rattle.std.specs.Prelude.{IsTrue, option_map}
 use Rattle.std.proofs.Props.{props}
 use Rattle.std.proofs.Math.Logic.{∥∥₁_elim}
 use Rattle.p3_base.specs.declared.showing.Reason.{Reason}
-use Rattle.p3_tree.specs.Explanations.{reasons}
-use Rattle.p3_tree.specs.Plans.{Plan, steps_fit}
-use Rattle.p3_tree.specs.Validity.{first_fault}
-use Rattle.p3_tree.specs.declared.task.Task.{Task}
-use Rattle.p3_tree.proofs.StepNumberLaws.{steps_have_numbers}
+use Rattle.p3_task.specs.Explanations.{reasons}
+use Rattle.p3_task.specs.Plans.{Plan, steps_fit}
+use Rattle.p3_task.specs.Validity.{first_fault}
+use Rattle.p3_task.specs.declared.task.Task.{Task}
+use Rattle.p3_task.proofs.StepNumberLaws.{steps_have_numbers}
 use Rattle.p3_formula.specs.GroundPlans.{GroundPlan, ground_visited}
 use Rattle.p3_formula.specs.declared.task.GroundTask.{GroundTask}
 use Rattle.p3_ground.specs.PlansByNumber.{AreAsked}

@@ -2,9 +2,9 @@
 use Rattle.std.proofs.Common.{◌≡◌, ◌∙◌, ℕ, ◌+◌, sym, Bool, true, false, length, Option, Some, None}
 use Rattle.std.specs.Prelude.{option_map, if◌then◌else◌}
 use Rattle.std.specs.Option.{option_or}
-use Rattle.p3_tree.specs.Plans.{Plan, last_state, visited}
-use Rattle.p3_tree.specs.Validity.{AtConstraint, AtGoal, AtStep, Fault, Misfit, constraint_fault, first_fault, goal_fault, misfit, step_fault}
-use Rattle.p3_tree.specs.declared.task.Task.{Task}
+use Rattle.p3_task.specs.Plans.{Plan, last_state, visited}
+use Rattle.p3_task.specs.Validity.{AtConstraint, AtGoal, AtStep, Fault, Misfit, constraint_fault, first_fault, goal_fault, misfit, step_fault}
+use Rattle.p3_task.specs.declared.task.Task.{Task}
 use Rattle.p3_types.specs.declared.finding.Found.{Found}
 use Rattle.p3_run.specs.Runs.{Ran}
 use Rattle.p3_eval.specs.Judged.{NamesMisfitOfFound, TellsOfFound, fault_in}

@@ -5,21 +5,21 @@ use Rattle.std.specs.List.{All, AllZip}
 use Rattle.std.proofs.lemmas.Bool.{and_parts, true≢false}
 use Rattle.std.proofs.lemmas.Slice.Eq.{bytes_eq-Decides}
 use Rattle.std.proofs.lemmas.Slice.Zip.{AllZip-left, AllZip-right}
-use Rattle.p3_tree.specs.Constraints.{Instance, instances}
-use Rattle.p3_tree.specs.Goals.{StatePref}
-use Rattle.p3_tree.specs.Metrics.{step_prefs}
-use Rattle.p3_tree.specs.Names.{Name, same_name}
-use Rattle.p3_tree.specs.Plans.{Plan, fits, state_after, steps_fit}
-use Rattle.p3_tree.specs.PreferenceNames.{ordered_names}
-use Rattle.p3_tree.specs.Reports.Explanations.{instance_name, pref_name}
-use Rattle.p3_tree.specs.StepNumbers.{HasStepNumbers}
-use Rattle.p3_tree.specs.States as named
-use Rattle.p3_tree.specs.States.{start}
-use Rattle.p3_tree.specs.declared.state.Fact.{Fact}
-use Rattle.p3_tree.specs.declared.task.Step.{Step}
-use Rattle.p3_tree.specs.declared.task.Task.{Task}
-use Rattle.p3_tree.proofs.OnceLemmas.{Has, Some-injective}
-use Rattle.p3_tree.proofs.PlanLemmas.{fit_from, steps_fit-walk}
+use Rattle.p3_task.specs.Constraints.{Instance, instances}
+use Rattle.p3_task.specs.Goals.{StatePref}
+use Rattle.p3_task.specs.Metrics.{step_prefs}
+use Rattle.p3_task.specs.Names.{Name, same_name}
+use Rattle.p3_task.specs.Plans.{Plan, fits, state_after, steps_fit}
+use Rattle.p3_task.specs.PreferenceNames.{ordered_names}
+use Rattle.p3_task.specs.Explanations.{instance_name, pref_name}
+use Rattle.p3_task.specs.StepNumbers.{HasStepNumbers}
+use Rattle.p3_task.specs.States as named
+use Rattle.p3_task.specs.States.{start}
+use Rattle.p3_task.specs.declared.state.Fact.{Fact}
+use Rattle.p3_task.specs.declared.task.Step.{Step}
+use Rattle.p3_task.specs.declared.task.Task.{Task}
+use Rattle.p3_task.proofs.OnceLemmas.{Has, Some-injective}
+use Rattle.p3_task.proofs.PlanLemmas.{fit_from, steps_fit-walk}
 use Rattle.p3_formula.specs.Forms.{State}
 use Rattle.p3_formula.specs.GroundPlans.{GroundPlan, state_by, step_of}
 use Rattle.p3_formula.specs.declared.modal.GroundPref.{GroundPref}

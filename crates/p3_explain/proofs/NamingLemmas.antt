@@ -3,7 +3,7 @@ use Rattle.std.proofs.Common.{◌≡◌, Option, true}
 use Rattle.std.proofs.Props.{props}
 use Rattle.std.proofs.Math.Bool.{Bool-set}
 use Rattle.std.proofs.Math.Logic.{∥∥₁_elim}
-use Rattle.p3_tree.specs.Names.{Name}
+use Rattle.p3_task.specs.Names.{Name}
 use Rattle.p3_formula.specs.Conditions.{rises}
 use Rattle.p3_run.specs.Steps.{IsByNumber}
 use Rattle.p3_run.proofs.FindLaws.{by_number}

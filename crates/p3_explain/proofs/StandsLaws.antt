@@ -9,22 +9,22 @@ use Rattle.p3_base.specs.declared.showing.Reason.{Reason}
 use Rattle.p3_base.specs.declared.showing.Showing.TheVariants.{Holds, HoldsAt, HoldsNowhere, FailsAt, Again}
 use Rattle.p3_base.specs.declared.showing.Subject.{Subject}
 use Rattle.p3_base.specs.declared.showing.Subject.TheVariants.{Hard, Soft, Pre}
-use Rattle.p3_tree.specs.States as named
-use Rattle.p3_tree.specs.States.{Environment, start}
-use Rattle.p3_tree.specs.Goals.{StatePref}
-use Rattle.p3_tree.specs.Plans.{Plan, moves_from, state_after, state_at, steps_fit, visited}
-use Rattle.p3_tree.specs.Constraints as tree
-use Rattle.p3_tree.specs.Constraints.{HardModal, Instance, hard_list, instances, operators, satisfies}
-use Rattle.p3_tree.specs.Explanations as told
-use Rattle.p3_tree.specs.Explanations.{instance_reasons, reasons, shown}
-use Rattle.p3_tree.specs.Metrics.{step_prefs}
-use Rattle.p3_tree.specs.StepNumbers.{HasStepNumbers}
-use Rattle.p3_tree.proofs.PlanLemmas.{fit_from, steps_fit-walk}
-use Rattle.p3_tree.specs.declared.state.Fact.{Fact}
-use Rattle.p3_tree.specs.declared.formula.Formula.{Formula}
-use Rattle.p3_tree.specs.Modal.{Modal}
+use Rattle.p3_task.specs.States as named
+use Rattle.p3_task.specs.States.{Environment, start}
+use Rattle.p3_task.specs.Goals.{StatePref}
+use Rattle.p3_task.specs.Plans.{Plan, moves_from, state_after, state_at, steps_fit, visited}
+use Rattle.p3_task.specs.Constraints as tree
+use Rattle.p3_task.specs.Constraints.{HardModal, Instance, hard_list, instances, operators, satisfies}
+use Rattle.p3_task.specs.Explanations as told
+use Rattle.p3_task.specs.Explanations.{instance_reasons, reasons, shown}
+use Rattle.p3_task.specs.Metrics.{step_prefs}
+use Rattle.p3_task.specs.StepNumbers.{HasStepNumbers}
+use Rattle.p3_task.proofs.PlanLemmas.{fit_from, steps_fit-walk}
+use Rattle.p3_task.specs.declared.state.Fact.{Fact}
+use Rattle.p3_task.specs.declared.formula.Formula.{Formula}
+use Rattle.p3_task.specs.Modal.{Modal}
 use Rattle.p3_base.specs.declared.operator.Operator.TheVariants as modal
-use Rattle.p3_tree.specs.declared.task.Task.{Task}
+use Rattle.p3_task.specs.declared.task.Task.{Task}
 use Rattle.p3_formula.specs.Forms.{State, truth}
 use Rattle.p3_formula.specs.GroundSat as sat_of
 use Rattle.p3_formula.specs.GroundSat.{ground_sat}

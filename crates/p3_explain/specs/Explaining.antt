@@ -1,8 +1,8 @@
 -- Why a plan is not explained.
 use Rattle.std.specs.Prelude.{◌≡◌, Some}
-use Rattle.p3_tree.specs.Plans.{Plan}
-use Rattle.p3_tree.specs.Validity.{step_fault}
-use Rattle.p3_tree.specs.declared.task.Task.{Task}
+use Rattle.p3_task.specs.Plans.{Plan}
+use Rattle.p3_task.specs.Validity.{step_fault}
+use Rattle.p3_task.specs.declared.task.Task.{Task}
 use Rattle.p3_eval.specs.Judged.{fault_in}
 use Rattle.p3_explain.specs.declared.error.ExplainFail.{ExplainFail}
 use Rattle.p3_explain.specs.declared.error.ExplainFail.TheVariants as fail

@@ -1,8 +1,8 @@
 -- The numbers of the names of preferences in a ground task.
 use Rattle.std.specs.Prelude.{ℕ, List, Option, option_and_then, slice_get}
-use Rattle.p3_tree.specs.Names.{Name}
-use Rattle.p3_tree.specs.PreferenceNames.{ordered_names}
-use Rattle.p3_tree.specs.declared.task.Task.{Task}
+use Rattle.p3_task.specs.Names.{Name}
+use Rattle.p3_task.specs.PreferenceNames.{ordered_names}
+use Rattle.p3_task.specs.declared.task.Task.{Task}
 use Rattle.p3_formula.specs.GroundPlans.{step_of}
 use Rattle.p3_formula.specs.declared.modal.GroundPref.{GroundPref}
 use Rattle.p3_formula.specs.declared.modal.GroundSoft.{GroundSoft}

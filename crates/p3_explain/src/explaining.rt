@@ -2,10 +2,10 @@
 
 ghost use Rattle.std.specs.Prelude.{◌≡◌, ◌+◌, ◌≤◌, ◌++◌, None, length, option_map, IfErr, IfOk, IfSome, IsTrue, OnOk};
 ghost use Rattle.std.specs.List.{All};
-ghost use Rattle.p3_tree.specs.Explanations.{reasons};
-ghost use Rattle.p3_tree.specs.PlanTexts.{step_limit};
-ghost use Rattle.p3_tree.specs.Plans.{steps_fit};
-ghost use Rattle.p3_tree.specs.Validity.{first_fault, step_fault};
+ghost use Rattle.p3_task.specs.Explanations.{reasons};
+ghost use Rattle.p3_task.specs.PlanTexts.{step_limit};
+ghost use Rattle.p3_task.specs.Plans.{steps_fit};
+ghost use Rattle.p3_task.specs.Validity.{first_fault, step_fault};
 ghost use Rattle.p3_ground.specs.StandsFor.{LeftOutAt};
 ghost use Rattle.p3_run.specs.Runs.{most_steps};
 ghost use Rattle.p3_marks.specs.Marked.{shown_all};
@@ -21,7 +21,7 @@ use p3_base::{List, NoMemory, Reason};
 use p3_eval::{Grounded, PlanFault, Run, Steps, Whole};
 use p3_formula::GroundTask;
 use p3_marks::OperatorMarks;
-use p3_tree::Plan;
+use p3_task::Plan;
 use std::alloc::Global;
 
 /// What is told of a plan whose steps fit.

@@ -9,7 +9,7 @@ use Rattle.std.proofs.lemmas.List.Folds.{list_any_at, list_any-append}
 use Rattle.std.proofs.lemmas.List.Sums.{sum_by-cons}
 use Rattle.std.proofs.lemmas.Option.{slice_get_read}
 use Rattle.std.proofs.lemmas.Slice.Zip.{all_zipped_more}
-use Rattle.p3_tree.specs.Refusals.Flat.{most_conditions}
+use Rattle.p3_task.specs.Refusals.Flat.{most_conditions}
 use Rattle.p3_formula.specs.Same.{same_form}
 use Rattle.p3_formula.specs.Simplified.{is_value}
 use Rattle.p3_formula.specs.Unconditional.{is_conditional}

@@ -1,7 +1,7 @@
 -- The different conditions of an action's changes.
 use Rattle.std.specs.Prelude.{nat_lt, Bool, true, ◌||◌, List, [], ◌∷◌, ◌++◌, fold, length, if◌then◌else◌}
 use Rattle.std.specs.List.{list_any}
-use Rattle.p3_tree.specs.Refusals.Flat.{most_conditions}
+use Rattle.p3_task.specs.Refusals.Flat.{most_conditions}
 use Rattle.p3_formula.specs.Same.{same_form}
 use Rattle.p3_formula.specs.Simplified.{is_value}
 use Rattle.p3_formula.specs.declared.form.Change.{Change}

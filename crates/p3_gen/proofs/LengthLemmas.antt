@@ -5,7 +5,7 @@ use Rattle.std.specs.Fmt.{decimal, digits, digits_onto, digit_glyph}
 use Rattle.std.specs.List.{flat_map, range_with_len}
 use Rattle.std.proofs.lemmas.List.FromFn.{length-range_with_len}
 use Rattle.p3_tree.specs.Reports.Lines.{line}
-use Rattle.p3_tree.specs.Sides.{byte_limit, plan_byte_limit}
+use Rattle.p3_task.specs.Sides.{byte_limit, plan_byte_limit}
 use Rattle.p3_base.specs.declared.refusal.Side.TheVariants.{Source}
 use Rattle.p3_tree.specs.Samples.{place, parcel, listed, up_to, sample_problem, sample_plan}
 use Rattle.p3_gen.specs.declared.piece.Piece.{Piece}

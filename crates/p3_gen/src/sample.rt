@@ -4,7 +4,7 @@ ghost use Rattle.std.specs.Prelude.{◌≡◌, ◌≤◌, IfOk, length};
 ghost use Rattle.p3_base.specs.declared.refusal.Side.TheVariants.{Source};
 ghost use Rattle.p3_tree.specs.Commands.{sample_limit};
 ghost use Rattle.p3_tree.specs.Samples.{sample_domain, sample_problem, sample_plan};
-ghost use Rattle.p3_tree.specs.Sides.{byte_limit, plan_byte_limit};
+ghost use Rattle.p3_task.specs.Sides.{byte_limit, plan_byte_limit};
 
 use crate::sample_domain::domain_text;
 use crate::sample_plan::plan_text;

@@ -6,9 +6,9 @@ use Rattle.std.proofs.lemmas.Bool.{and_parts, true≢false}
 use Rattle.std.proofs.lemmas.List.Elements.{All-head, All-tail}
 use Rattle.std.proofs.lemmas.List.FromFn.{get_or-range_with_len, length-range_with_len}
 use Rattle.std.proofs.lemmas.Option.{slice_get_within}
-use Rattle.p3_tree.specs.Lifting.{steps}
-use Rattle.p3_tree.specs.Plans.{Plan}
-use Rattle.p3_tree.specs.declared.task.Task.{Task}
+use Rattle.p3_task.specs.Lifting.{steps}
+use Rattle.p3_task.specs.Plans.{Plan}
+use Rattle.p3_task.specs.declared.task.Task.{Task}
 use Rattle.p3_formula.specs.Forms.{State}
 use Rattle.p3_formula.specs.GroundPlans.{GroundPlan, step_of, fits_by, ground_fits, state_by, visited_from, ground_moves}
 use Rattle.p3_formula.specs.declared.task.GroundStep.{GroundStep}

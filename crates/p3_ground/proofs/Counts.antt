@@ -4,21 +4,21 @@ use Rattle.std.specs.Prelude.{slice_get, slice_index_or, count_by, unwrap_or}
 use Rattle.std.specs.List.{list_all, range_with_len, AllZip}
 use Rattle.std.proofs.lemmas.Option.{slice_get-get_or}
 use Rattle.std.proofs.lemmas.List.Sums.{sum_by-cons}
-use Rattle.p3_tree.specs.Names.{Name}
-use Rattle.p3_tree.specs.States as named
-use Rattle.p3_tree.specs.States.{start}
-use Rattle.p3_tree.specs.Formulas.{holds}
-use Rattle.p3_tree.specs.Goals.{StatePref}
-use Rattle.p3_tree.specs.Costs.{initial_cost}
-use Rattle.p3_tree.specs.Plans.{Plan, step_cost, visited, steps_fit}
-use Rattle.p3_tree.specs.Constraints.{Instance, sat, instances}
-use Rattle.p3_tree.specs.Metrics.{is_called, false_in, step_prefs, unsatisfied, violated, cost}
-use Rattle.p3_tree.specs.PreferenceNames.{ordered_names}
-use Rattle.p3_tree.specs.StepNumbers.{HasStepNumbers}
-use Rattle.p3_tree.proofs.PlanLemmas.{steps_fit-walk}
-use Rattle.p3_tree.proofs.OperatorLaws.{sat-operators}
-use Rattle.p3_tree.specs.declared.state.Fact.{Fact}
-use Rattle.p3_tree.specs.declared.task.Task.{Task}
+use Rattle.p3_task.specs.Names.{Name}
+use Rattle.p3_task.specs.States as named
+use Rattle.p3_task.specs.States.{start}
+use Rattle.p3_task.specs.Formulas.{holds}
+use Rattle.p3_task.specs.Goals.{StatePref}
+use Rattle.p3_task.specs.Costs.{initial_cost}
+use Rattle.p3_task.specs.Plans.{Plan, step_cost, visited, steps_fit}
+use Rattle.p3_task.specs.Constraints.{Instance, sat, instances}
+use Rattle.p3_task.specs.Metrics.{is_called, false_in, step_prefs, unsatisfied, violated, cost}
+use Rattle.p3_task.specs.PreferenceNames.{ordered_names}
+use Rattle.p3_task.specs.StepNumbers.{HasStepNumbers}
+use Rattle.p3_task.proofs.PlanLemmas.{steps_fit-walk}
+use Rattle.p3_task.proofs.OperatorLaws.{sat-operators}
+use Rattle.p3_task.specs.declared.state.Fact.{Fact}
+use Rattle.p3_task.specs.declared.task.Task.{Task}
 use Rattle.p3_formula.specs.Forms.{State, truth}
 use Rattle.p3_formula.specs.GroundSat.{ground_sat}
 use Rattle.p3_formula.specs.GroundPlans.{GroundPlan, step_of, cost_by, ground_cost, ground_loss, ground_visited, is_numbered, false_prefs, ground_violated}

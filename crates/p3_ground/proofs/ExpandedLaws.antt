@@ -4,21 +4,21 @@ use Rattle.std.specs.Prelude.{count_by}
 use Rattle.std.specs.List.{list_all, AllZip}
 use Rattle.std.proofs.lemmas.Bool.{and_parts}
 use Rattle.std.proofs.lemmas.List.{length-map}
-use Rattle.p3_tree.specs.Constraints.{HardModal, Instance, hard_list, instances, operators}
-use Rattle.p3_tree.specs.Effects.{next}
-use Rattle.p3_tree.specs.Formulas.{holds}
-use Rattle.p3_tree.specs.Goals.{StatePref, hard_holds, prefs}
-use Rattle.p3_tree.specs.Literals.{Literal, literals}
-use Rattle.p3_tree.specs.Metrics.{prefs_by, step_prefs}
-use Rattle.p3_tree.specs.Plans.{arguments, state_by, state_after}
-use Rattle.p3_tree.specs.States.{State, Environment, has_fact}
-use Rattle.p3_tree.specs.Modal.{Modal}
+use Rattle.p3_task.specs.Constraints.{HardModal, Instance, hard_list, instances, operators}
+use Rattle.p3_task.specs.Effects.{next}
+use Rattle.p3_task.specs.Formulas.{holds}
+use Rattle.p3_task.specs.Goals.{StatePref, hard_holds, prefs}
+use Rattle.p3_task.specs.Literals.{Literal, literals}
+use Rattle.p3_task.specs.Metrics.{prefs_by, step_prefs}
+use Rattle.p3_task.specs.Plans.{arguments, state_by, state_after}
+use Rattle.p3_task.specs.States.{State, Environment, has_fact}
+use Rattle.p3_task.specs.Modal.{Modal}
 use Rattle.p3_base.specs.declared.operator.Operator.TheVariants as modal
-use Rattle.p3_tree.specs.declared.state.Fact.{Fact}
-use Rattle.p3_tree.specs.declared.task.Action.{Action}
-use Rattle.p3_tree.specs.declared.task.Step.{Step}
-use Rattle.p3_tree.specs.declared.task.Task.{Task}
-use Rattle.p3_tree.proofs.OnceLemmas.{in_map, map_at}
+use Rattle.p3_task.specs.declared.state.Fact.{Fact}
+use Rattle.p3_task.specs.declared.task.Action.{Action}
+use Rattle.p3_task.specs.declared.task.Step.{Step}
+use Rattle.p3_task.specs.declared.task.Task.{Task}
+use Rattle.p3_task.proofs.OnceLemmas.{in_map, map_at}
 use Rattle.p3_formula.specs.Forms as forms
 use Rattle.p3_formula.specs.declared.form.Change.{Change}
 use Rattle.p3_formula.specs.declared.form.Form.{Form}
@@ -49,7 +49,7 @@ use Rattle.p3_expansion.proofs.NextLemmas.{all-at, changes-make-next, changes-ar
 use Rattle.p3_expansion.proofs.StaticLemmas.{tell-statics}
 use Rattle.p3_expansion.proofs.TaskLemmas.{known, no-variables}
 use Rattle.p3_ground.specs.Expanded.{facts_of, AreExpanded, IsStepAt, IsStepExpanded, OfExpanded, FactsDiffer, HardConstraintsStand, SoftConstraintsStand, GoalStands, StepsStand, StepsAreFew}
-use Rattle.p3_tree.specs.Mentions.{is_under_when, literals_by, step_literals}
+use Rattle.p3_task.specs.Mentions.{is_under_when, literals_by, step_literals}
 use Rattle.p3_ground.specs.Sparse.{is_atom_of, is_conditional, HasFewChanges}
 use Rattle.p3_ground.specs.StandsFor.{Matched, HasTruthOf, ModalStands, HardStands, PrefStands, SoftStands, can_begin, ChangesStand, IsMadeOf}
 use Rattle.p3_ground.proofs.StepParts.{step-env, step-known, step-begins}

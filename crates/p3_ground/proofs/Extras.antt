@@ -6,22 +6,22 @@ use Rattle.std.proofs.lemmas.Bool.{true≢false}
 use Rattle.std.proofs.lemmas.List.Sums.{sum_by-cons}
 use Rattle.std.proofs.lemmas.Slice.Eq.{bytes_eq-Decides}
 use Rattle.p3_base.specs.Copies.{extra_of}
-use Rattle.p3_tree.specs.Names.{Name, same_name}
-use Rattle.p3_tree.specs.States.{Environment, start}
-use Rattle.p3_tree.specs.Goals.{StatePref, prefs, pref_names}
-use Rattle.p3_tree.specs.Plans.{Plan, action_named, arguments, steps_fit}
-use Rattle.p3_tree.specs.Metrics.{step_prefs, prefs_by, weight}
-use Rattle.p3_tree.specs.Limits.{weight_of, width}
-use Rattle.p3_tree.specs.Faithful.{extra, extra_by}
-use Rattle.p3_tree.specs.PreferenceNames.{ordered_names}
-use Rattle.p3_tree.specs.StepNumbers.{HasNumber, HasStepNumbers}
-use Rattle.p3_tree.proofs.OnceLemmas.{Has}
-use Rattle.p3_tree.proofs.PlanLemmas.{steps_fit-walk}
-use Rattle.p3_tree.proofs.PreferenceNameLaws.{prefs-names}
-use Rattle.p3_tree.specs.declared.state.Fact.{Fact}
-use Rattle.p3_tree.specs.declared.task.Action.{Action}
-use Rattle.p3_tree.specs.declared.task.Step.{Step}
-use Rattle.p3_tree.specs.declared.task.Task.{Task}
+use Rattle.p3_task.specs.Names.{Name, same_name}
+use Rattle.p3_task.specs.States.{Environment, start}
+use Rattle.p3_task.specs.Goals.{StatePref, prefs, pref_names}
+use Rattle.p3_task.specs.Plans.{Plan, action_named, arguments, steps_fit}
+use Rattle.p3_task.specs.Metrics.{step_prefs, prefs_by, weight}
+use Rattle.p3_task.specs.Limits.{weight_of, width}
+use Rattle.p3_task.specs.Faithful.{extra, extra_by}
+use Rattle.p3_task.specs.PreferenceNames.{ordered_names}
+use Rattle.p3_task.specs.StepNumbers.{HasNumber, HasStepNumbers}
+use Rattle.p3_task.proofs.OnceLemmas.{Has}
+use Rattle.p3_task.proofs.PlanLemmas.{steps_fit-walk}
+use Rattle.p3_task.proofs.PreferenceNameLaws.{prefs-names}
+use Rattle.p3_task.specs.declared.state.Fact.{Fact}
+use Rattle.p3_task.specs.declared.task.Action.{Action}
+use Rattle.p3_task.specs.declared.task.Step.{Step}
+use Rattle.p3_task.specs.declared.task.Task.{Task}
 use Rattle.p3_formula.specs.GroundPlans.{GroundPlan, step_of}
 use Rattle.p3_formula.specs.Weighted as weighted
 use Rattle.p3_formula.specs.Weighted.{named_weight, ground_extra}

@@ -4,10 +4,10 @@ use Rattle.std.specs.Prelude.{filter_map, slice_get, unwrap_or}
 use Rattle.std.specs.List.{cons_option}
 use Rattle.std.specs.Option.{option_or}
 use Rattle.std.proofs.Math.Seq.{drop-cons}
-use Rattle.p3_tree.specs.Costs.{entry_value, given_value, initial_cost}
-use Rattle.p3_tree.specs.Names.{total_cost}
-use Rattle.p3_tree.specs.declared.task.Init.{Init}
-use Rattle.p3_tree.specs.declared.task.Task.{Task}
+use Rattle.p3_task.specs.Costs.{entry_value, given_value, initial_cost}
+use Rattle.p3_task.specs.Names.{total_cost}
+use Rattle.p3_task.specs.declared.task.Init.{Init}
+use Rattle.p3_task.specs.declared.task.Task.{Task}
 
 abbrev pub given_in : Task → List Init → Option ℕ
 given_in T entries = slice_get (filter_map (entry_value T total_cost []) entries) 0

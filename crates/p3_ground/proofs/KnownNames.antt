@@ -7,20 +7,20 @@ use Rattle.std.proofs.lemmas.Bool.{and_parts, and_from, lt-ltb}
 use Rattle.std.proofs.lemmas.List.Folds.{list_all-append, list_all-map}
 use Rattle.std.proofs.lemmas.Slice.Eq.{bytes_eq-Decides}
 use mathlib.Core.Former.{Count}
-use Rattle.p3_tree.specs.Bindings.{bind}
-use Rattle.p3_tree.specs.Constraints.{Instance, at_end, instances, instances_of, instances_of_all, instances_of_one}
-use Rattle.p3_tree.specs.Folds.{fold_goals, fold_constraints}
-use Rattle.p3_tree.specs.Goals as named_goal
-use Rattle.p3_tree.specs.Goals.{StatePref, prefs, prefs_layer}
-use Rattle.p3_tree.specs.Names.{Name, same_name, has_name}
-use Rattle.p3_tree.specs.Offences.{WellFormed}
-use Rattle.p3_tree.specs.States.{Environment}
-use Rattle.p3_tree.specs.declared.constraint.Constraint.{Constraint, Row_of-Constraint, end_of-Constraint, more_of-Constraint}
-use Rattle.p3_tree.specs.declared.constraint.Constraint.TheVariants as constraint
-use Rattle.p3_tree.specs.declared.goal.PreGoal.{PreGoal, Row_of-PreGoal, end_of-PreGoal, more_of-PreGoal}
-use Rattle.p3_tree.specs.declared.goal.PreGoal.TheVariants as goal
-use Rattle.p3_tree.specs.declared.task.Task.{Task}
-use Rattle.p3_tree.specs.declared.term.Ref.{Ref}
+use Rattle.p3_task.specs.Bindings.{bind}
+use Rattle.p3_task.specs.Constraints.{Instance, at_end, instances, instances_of, instances_of_all, instances_of_one}
+use Rattle.p3_task.specs.Folds.{fold_goals, fold_constraints}
+use Rattle.p3_task.specs.Goals as named_goal
+use Rattle.p3_task.specs.Goals.{StatePref, prefs, prefs_layer}
+use Rattle.p3_task.specs.Names.{Name, same_name, has_name}
+use Rattle.p3_task.specs.Offences.{WellFormed}
+use Rattle.p3_task.specs.States.{Environment}
+use Rattle.p3_task.specs.declared.constraint.Constraint.{Constraint, Row_of-Constraint, end_of-Constraint, more_of-Constraint}
+use Rattle.p3_task.specs.declared.constraint.Constraint.TheVariants as constraint
+use Rattle.p3_task.specs.declared.goal.PreGoal.{PreGoal, Row_of-PreGoal, end_of-PreGoal, more_of-PreGoal}
+use Rattle.p3_task.specs.declared.goal.PreGoal.TheVariants as goal
+use Rattle.p3_task.specs.declared.task.Task.{Task}
+use Rattle.p3_task.specs.declared.term.Ref.{Ref}
 use Rattle.p3_numbers.specs.Constraints.{is_known_constraint, known_constraint_layer}
 use Rattle.p3_numbers.specs.Goals.{is_known_goal, is_known_name, known_goal_layer}
 use Rattle.p3_numbers.specs.Known.{IsKnownTask}

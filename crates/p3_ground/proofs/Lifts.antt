@@ -4,11 +4,11 @@ use Rattle.std.specs.Prelude.{slice_get, find, filter_map, option_map}
 use Rattle.std.specs.List.{range_with_len, enumerate_from, cons_option}
 use Rattle.std.proofs.lemmas.Bool.{and_parts}
 use Rattle.p3_base.specs.Copies.{is_copy_of}
-use Rattle.p3_tree.specs.Names.{is_empty}
-use Rattle.p3_tree.specs.Plans.{Plan}
-use Rattle.p3_tree.specs.Lifting.{steps, lifted_step, lift}
-use Rattle.p3_tree.specs.declared.task.Step.{Step}
-use Rattle.p3_tree.specs.declared.task.Task.{Task}
+use Rattle.p3_task.specs.Names.{is_empty}
+use Rattle.p3_task.specs.Plans.{Plan}
+use Rattle.p3_task.specs.Lifting.{steps, lifted_step, lift}
+use Rattle.p3_task.specs.declared.task.Step.{Step}
+use Rattle.p3_task.specs.declared.task.Task.{Task}
 use Rattle.p3_formula.specs.Targets.{lifted_number, ground_lift}
 use Rattle.p3_formula.specs.declared.task.GroundTask.{GroundTask}
 use Rattle.p3_ground.specs.PlansByNumber.{AreNumbers, names_of, are_bare}

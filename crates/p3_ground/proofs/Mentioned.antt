@@ -4,25 +4,25 @@ use Rattle.std.specs.Prelude.{slice_get, filter, flat_map, map, nat_lt}
 use Rattle.std.proofs.lemmas.Bool.{true≢false}
 use Rattle.std.proofs.lemmas.Slice.Eq.{bytes_eq-Decides}
 use mathlib.Core.Former.{Count, one_more}
-use Rattle.p3_tree.specs.Folds.{fold_constraints, fold_goals, fold_one_constraint, fold_one_goal}
-use Rattle.p3_tree.specs.Names.{Name, same_name}
-use Rattle.p3_tree.specs.Types.{once_each}
-use Rattle.p3_tree.specs.States.{Environment}
-use Rattle.p3_tree.specs.Bindings.{bind}
-use Rattle.p3_tree.specs.Constraints.{Instance, at_end, instances, instances_of, instances_of_all, instances_of_one}
-use Rattle.p3_tree.specs.Goals.{StatePref, prefs, prefs_layer, named}
-use Rattle.p3_tree.specs.Plans.{action_named, arguments}
-use Rattle.p3_tree.specs.Metrics.{step_prefs, prefs_by}
-use Rattle.p3_tree.specs.PreferenceNames.{Named, named_at, named_in_goal, goal_names_layer, constraint_names_layer, named_in_constraint, named_in_domain, named_in_problem, placed, in_text_order, ordered_names}
-use Rattle.p3_tree.specs.declared.constraint.Constraint.{Constraint, Row_of-Constraint, end_of-Constraint, more_of-Constraint}
-use Rattle.p3_tree.specs.declared.constraint.Constraint.TheVariants as constraint
-use Rattle.p3_tree.specs.declared.goal.PreGoal.{PreGoal, Row_of-PreGoal, end_of-PreGoal, more_of-PreGoal}
-use Rattle.p3_tree.specs.declared.goal.PreGoal.TheVariants as goal
-use Rattle.p3_tree.specs.declared.term.Ref.{Ref}
-use Rattle.p3_tree.specs.declared.task.Action.{Action}
-use Rattle.p3_tree.specs.declared.task.Step.{Step}
-use Rattle.p3_tree.specs.declared.task.Task.{Task}
-use Rattle.p3_tree.proofs.OnceLemmas.{Some-injective, find_found, Has, in_append, in_left, in_right, in_flat, in_map, flat_has, map_at}
+use Rattle.p3_task.specs.Folds.{fold_constraints, fold_goals, fold_one_constraint, fold_one_goal}
+use Rattle.p3_task.specs.Names.{Name, same_name}
+use Rattle.p3_task.specs.Types.{once_each}
+use Rattle.p3_task.specs.States.{Environment}
+use Rattle.p3_task.specs.Bindings.{bind}
+use Rattle.p3_task.specs.Constraints.{Instance, at_end, instances, instances_of, instances_of_all, instances_of_one}
+use Rattle.p3_task.specs.Goals.{StatePref, prefs, prefs_layer, named}
+use Rattle.p3_task.specs.Plans.{action_named, arguments}
+use Rattle.p3_task.specs.Metrics.{step_prefs, prefs_by}
+use Rattle.p3_task.specs.PreferenceNames.{Named, named_at, named_in_goal, goal_names_layer, constraint_names_layer, named_in_constraint, named_in_domain, named_in_problem, placed, in_text_order, ordered_names}
+use Rattle.p3_task.specs.declared.constraint.Constraint.{Constraint, Row_of-Constraint, end_of-Constraint, more_of-Constraint}
+use Rattle.p3_task.specs.declared.constraint.Constraint.TheVariants as constraint
+use Rattle.p3_task.specs.declared.goal.PreGoal.{PreGoal, Row_of-PreGoal, end_of-PreGoal, more_of-PreGoal}
+use Rattle.p3_task.specs.declared.goal.PreGoal.TheVariants as goal
+use Rattle.p3_task.specs.declared.term.Ref.{Ref}
+use Rattle.p3_task.specs.declared.task.Action.{Action}
+use Rattle.p3_task.specs.declared.task.Step.{Step}
+use Rattle.p3_task.specs.declared.task.Task.{Task}
+use Rattle.p3_task.proofs.OnceLemmas.{Some-injective, find_found, Has, in_append, in_left, in_right, in_flat, in_map, flat_has, map_at}
 
 -- some entry has the name
 abbrev HasNamed : List Named → Name → Type 0

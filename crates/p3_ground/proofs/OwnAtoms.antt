@@ -7,22 +7,22 @@ use Rattle.std.proofs.lemmas.Bool.{and_parts}
 use Rattle.std.proofs.lemmas.List.{map-append}
 use Rattle.std.proofs.lemmas.List.Folds.{flat_map-map, list_all-map}
 use mathlib.Core.Former.{Count}
-use Rattle.p3_tree.specs.Bindings.{bind}
-use Rattle.p3_tree.specs.Constraints as named
-use Rattle.p3_tree.specs.Constraints.{HardModal, Instance, hard_list, hard_modals, hard_modals_layer, operators, instances, instances_of, instances_of_all, instances_of_one}
-use Rattle.p3_tree.specs.Folds.{fold_formulas, fold_goals, fold_constraints}
-use Rattle.p3_tree.specs.Goals.{StatePref, prefs, prefs_layer}
-use Rattle.p3_tree.specs.States.{has_fact}
-use Rattle.p3_tree.specs.declared.constraint.Constraint.{Constraint, Row_of-Constraint, end_of-Constraint, more_of-Constraint}
-use Rattle.p3_tree.specs.declared.constraint.Constraint.TheVariants.{Both', Each', Single, Soft'}
-use Rattle.p3_tree.specs.Modal.{Modal}
+use Rattle.p3_task.specs.Bindings.{bind}
+use Rattle.p3_task.specs.Constraints as named
+use Rattle.p3_task.specs.Constraints.{HardModal, Instance, hard_list, hard_modals, hard_modals_layer, operators, instances, instances_of, instances_of_all, instances_of_one}
+use Rattle.p3_task.specs.Folds.{fold_formulas, fold_goals, fold_constraints}
+use Rattle.p3_task.specs.Goals.{StatePref, prefs, prefs_layer}
+use Rattle.p3_task.specs.States.{has_fact}
+use Rattle.p3_task.specs.declared.constraint.Constraint.{Constraint, Row_of-Constraint, end_of-Constraint, more_of-Constraint}
+use Rattle.p3_task.specs.declared.constraint.Constraint.TheVariants.{Both', Each', Single, Soft'}
+use Rattle.p3_task.specs.Modal.{Modal}
 use Rattle.p3_base.specs.declared.operator.Operator.TheVariants as modal
-use Rattle.p3_tree.specs.declared.formula.Formula.{Formula, Row_of-Formula, end_of-Formula, more_of-Formula}
-use Rattle.p3_tree.specs.declared.formula.Formula.TheVariants as formula
-use Rattle.p3_tree.specs.declared.goal.PreGoal.{PreGoal, Row_of-PreGoal, end_of-PreGoal, more_of-PreGoal}
-use Rattle.p3_tree.specs.declared.goal.PreGoal.TheVariants as goal
-use Rattle.p3_tree.specs.declared.state.Fact.{Fact}
-use Rattle.p3_tree.specs.declared.task.Task.{Task}
+use Rattle.p3_task.specs.declared.formula.Formula.{Formula, Row_of-Formula, end_of-Formula, more_of-Formula}
+use Rattle.p3_task.specs.declared.formula.Formula.TheVariants as formula
+use Rattle.p3_task.specs.declared.goal.PreGoal.{PreGoal, Row_of-PreGoal, end_of-PreGoal, more_of-PreGoal}
+use Rattle.p3_task.specs.declared.goal.PreGoal.TheVariants as goal
+use Rattle.p3_task.specs.declared.state.Fact.{Fact}
+use Rattle.p3_task.specs.declared.task.Task.{Task}
 use Rattle.p3_formula.specs.GroundModal.{GroundModal}
 use Rattle.p3_formula.specs.declared.modal.GroundSoft.{GroundSoft}
 use Rattle.p3_numbers.specs.Conditions.{condition_of, condition_layer, is_known_formula, known_formula_layer}
@@ -50,9 +50,9 @@ use Rattle.p3_expansion.specs.declared.statics.Statics.{Statics}
 use Rattle.p3_expansion.proofs.MeaningLemmas as lemma
 use Rattle.p3_expansion.proofs.NextLemmas.{own-facts}
 use Rattle.p3_expansion.proofs.TaskLemmas.{no-variables}
-use Rattle.p3_tree.proofs.OnceLemmas.{map_at}
+use Rattle.p3_task.proofs.OnceLemmas.{map_at}
 use Rattle.p3_ground.specs.Expanded.{facts_of, AreExpanded, OfExpanded, HardAtomsAreOwn, SoftAtomsAreOwn}
-use Rattle.p3_tree.specs.Mentions.{formula_atoms, formula_atoms_layer, operator_atoms}
+use Rattle.p3_task.specs.Mentions.{formula_atoms, formula_atoms_layer, operator_atoms}
 use Rattle.p3_ground.specs.Sparse.{is_atom_of, HasOwnAtoms, PartsHaveOwnAtoms}
 
 module _ (T : Task) (N : Numbers) (ties : IsNumbering T N) where

@@ -1,16 +1,16 @@
 -- Fitting plans have numbers, and a plan and the list of its steps' numbers are one to one.
 use Rattle.std.proofs.Common.{◌≡◌, ◌∙◌, sym, true, [], ◌∷◌, Option, Some, None}
 use Rattle.std.proofs.lemmas.Bool.{and_parts}
-use Rattle.p3_tree.specs.States.{State, start}
-use Rattle.p3_tree.specs.Plans as plans
-use Rattle.p3_tree.specs.Plans.{Plan, action_named, fits, state_after, steps_fit}
-use Rattle.p3_tree.specs.Validity.{Valid, is_valid}
-use Rattle.p3_tree.specs.StepNumbers.{IsOwn, HasStepNumbers}
-use Rattle.p3_tree.proofs.OnceLemmas.{Some-injective}
-use Rattle.p3_tree.proofs.PlanLemmas.{fit_from, steps_fit-walk}
-use Rattle.p3_tree.specs.declared.task.Action.{Action}
-use Rattle.p3_tree.specs.declared.task.Step.{Step}
-use Rattle.p3_tree.specs.declared.task.Task.{Task}
+use Rattle.p3_task.specs.States.{State, start}
+use Rattle.p3_task.specs.Plans as plans
+use Rattle.p3_task.specs.Plans.{Plan, action_named, fits, state_after, steps_fit}
+use Rattle.p3_task.specs.Validity.{Valid, is_valid}
+use Rattle.p3_task.specs.StepNumbers.{IsOwn, HasStepNumbers}
+use Rattle.p3_task.proofs.OnceLemmas.{Some-injective}
+use Rattle.p3_task.proofs.PlanLemmas.{fit_from, steps_fit-walk}
+use Rattle.p3_task.specs.declared.task.Action.{Action}
+use Rattle.p3_task.specs.declared.task.Step.{Step}
+use Rattle.p3_task.specs.declared.task.Task.{Task}
 use Rattle.p3_formula.specs.GroundPlans.{GroundPlan}
 use Rattle.p3_ground.specs.PlansByNumber.{AreNumbers}
 

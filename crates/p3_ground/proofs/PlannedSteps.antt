@@ -8,13 +8,13 @@ use Rattle.std.proofs.lemmas.List.{get_or_default, map-append}
 use Rattle.std.proofs.lemmas.List.Elements.{All-nil, All-cons, All-head, All-tail, All-append, All-filter, All-map, All-weaker, filter_passes}
 use Rattle.std.proofs.lemmas.List.Folds.{Any-from_list_any, list_all-append, list_any_at}
 use Rattle.std.proofs.lemmas.List.Sums.{sum_by-cons}
-use Rattle.p3_tree.specs.Costs.{cost_places}
-use Rattle.p3_tree.specs.Lifting.{steps}
-use Rattle.p3_tree.specs.Offences.{WellFormed}
-use Rattle.p3_tree.specs.StepNumbers.{HasNumber}
-use Rattle.p3_tree.specs.declared.task.Action.{Action}
-use Rattle.p3_tree.specs.declared.task.Task.{Task}
-use Rattle.p3_tree.proofs.OnceLemmas.{Has, Some-injective, in_left, in_right, map_at}
+use Rattle.p3_task.specs.Costs.{cost_places}
+use Rattle.p3_task.specs.Lifting.{steps}
+use Rattle.p3_task.specs.Offences.{WellFormed}
+use Rattle.p3_task.specs.StepNumbers.{HasNumber}
+use Rattle.p3_task.specs.declared.task.Action.{Action}
+use Rattle.p3_task.specs.declared.task.Task.{Task}
+use Rattle.p3_task.proofs.OnceLemmas.{Has, Some-injective, in_left, in_right, map_at}
 use Rattle.p3_formula.specs.Conditions.{rises}
 use Rattle.p3_formula.specs.declared.task.GroundStep.{GroundStep}
 use Rattle.p3_formula.specs.declared.task.GroundTask.{GroundTask}

@@ -4,15 +4,15 @@ use Rattle.std.specs.Prelude.{◌==◌, find, is_some}
 use Rattle.std.specs.List.{list_all, filter}
 use Rattle.std.proofs.lemmas.Bool.{and_parts, and_from, true≢false, false_from_ne_true, ltb-true, lt-ltb}
 use Rattle.std.proofs.lemmas.List.Elements.{All-filter}
-use Rattle.p3_tree.specs.States as named
-use Rattle.p3_tree.specs.States.{start}
-use Rattle.p3_tree.specs.Plans.{Plan, Reached, fits, state_after, step_cost}
-use Rattle.p3_tree.specs.StepNumbers.{HasNumber, HasStepNumbers}
-use Rattle.p3_tree.proofs.OnceLemmas.{Some-injective}
-use Rattle.p3_tree.proofs.PlanLemmas.{fit_from, state_from, steps_fit-walk, last_state-walk}
-use Rattle.p3_tree.specs.declared.state.Fact.{Fact}
-use Rattle.p3_tree.specs.declared.task.Step.{Step}
-use Rattle.p3_tree.specs.declared.task.Task.{Task}
+use Rattle.p3_task.specs.States as named
+use Rattle.p3_task.specs.States.{start}
+use Rattle.p3_task.specs.Plans.{Plan, Reached, fits, state_after, step_cost}
+use Rattle.p3_task.specs.StepNumbers.{HasNumber, HasStepNumbers}
+use Rattle.p3_task.proofs.OnceLemmas.{Some-injective}
+use Rattle.p3_task.proofs.PlanLemmas.{fit_from, state_from, steps_fit-walk, last_state-walk}
+use Rattle.p3_task.specs.declared.state.Fact.{Fact}
+use Rattle.p3_task.specs.declared.task.Step.{Step}
+use Rattle.p3_task.specs.declared.task.Task.{Task}
 use Rattle.p3_formula.specs.Forms.{State, truth}
 use Rattle.p3_formula.specs.Next.{after}
 use Rattle.p3_formula.specs.Conditions.{is_step_below, rises}

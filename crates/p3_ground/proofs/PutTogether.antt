@@ -4,9 +4,9 @@ use Rattle.std.specs.List.{All, AllZip, list_all}
 use Rattle.std.proofs.lemmas.Bool.{and_from}
 use Rattle.std.proofs.lemmas.List.{length-map}
 use Rattle.std.proofs.lemmas.List.Elements.{All-head, All-tail, All-weaker}
-use Rattle.p3_tree.specs.States.{start, has_fact}
-use Rattle.p3_tree.specs.declared.task.Task.{Task}
-use Rattle.p3_tree.proofs.OnceLemmas.{in_map}
+use Rattle.p3_task.specs.States.{start, has_fact}
+use Rattle.p3_task.specs.declared.task.Task.{Task}
+use Rattle.p3_task.proofs.OnceLemmas.{in_map}
 use Rattle.p3_formula.specs.Conditions.{HasAtomsBelow, is_step_below}
 use Rattle.p3_formula.specs.Forms.{is_below}
 use Rattle.p3_formula.specs.Modals.{is_modal_below}

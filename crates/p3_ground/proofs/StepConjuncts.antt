@@ -8,20 +8,20 @@ use Rattle.std.proofs.lemmas.Bool.Decides.{nat_tests}
 use Rattle.std.proofs.lemmas.List.{map-append}
 use Rattle.std.proofs.lemmas.List.Folds.{flat_map-map, list_all-append, list_all-map}
 use mathlib.Core.Former.{Count}
-use Rattle.p3_tree.specs.Conjuncts.{NamedAtom, formula_conjuncts, formula_conjuncts_layer, goal_conjuncts, goal_conjuncts_layer}
-use Rattle.p3_tree.specs.Folds.{fold_formulas, fold_goals}
-use Rattle.p3_tree.specs.Names.{Name, same_name, has_name}
-use Rattle.p3_tree.specs.States as states
-use Rattle.p3_tree.specs.States.{Environment}
-use Rattle.p3_tree.specs.Static as named
-use Rattle.p3_tree.specs.declared.formula.Formula.{Formula, Row_of-Formula, end_of-Formula, more_of-Formula}
-use Rattle.p3_tree.specs.declared.formula.Formula.TheVariants as formula
-use Rattle.p3_tree.specs.declared.goal.PreGoal.{PreGoal, Row_of-PreGoal, end_of-PreGoal, more_of-PreGoal}
-use Rattle.p3_tree.specs.declared.goal.PreGoal.TheVariants as goal
-use Rattle.p3_tree.specs.declared.state.Fact.{Fact}
-use Rattle.p3_tree.specs.declared.task.Task.{Task}
-use Rattle.p3_tree.specs.declared.term.Term.{Term}
-use Rattle.p3_tree.specs.declared.term.Term.TheVariants.{Var, Const}
+use Rattle.p3_task.specs.Conjuncts.{NamedAtom, formula_conjuncts, formula_conjuncts_layer, goal_conjuncts, goal_conjuncts_layer}
+use Rattle.p3_task.specs.Folds.{fold_formulas, fold_goals}
+use Rattle.p3_task.specs.Names.{Name, same_name, has_name}
+use Rattle.p3_task.specs.States as states
+use Rattle.p3_task.specs.States.{Environment}
+use Rattle.p3_task.specs.Static as named
+use Rattle.p3_task.specs.declared.formula.Formula.{Formula, Row_of-Formula, end_of-Formula, more_of-Formula}
+use Rattle.p3_task.specs.declared.formula.Formula.TheVariants as formula
+use Rattle.p3_task.specs.declared.goal.PreGoal.{PreGoal, Row_of-PreGoal, end_of-PreGoal, more_of-PreGoal}
+use Rattle.p3_task.specs.declared.goal.PreGoal.TheVariants as goal
+use Rattle.p3_task.specs.declared.state.Fact.{Fact}
+use Rattle.p3_task.specs.declared.task.Task.{Task}
+use Rattle.p3_task.specs.declared.term.Term.{Term}
+use Rattle.p3_task.specs.declared.term.Term.TheVariants.{Var, Const}
 use Rattle.p3_numbers.specs.Conditions.{condition_of, condition_layer, is_known_formula, known_formula_layer}
 use Rattle.p3_numbers.specs.Folds.{fold_condition, fold_goal}
 use Rattle.p3_numbers.specs.Goals.{goal_of, goal_layer, is_known_goal, known_goal_layer}
@@ -45,7 +45,7 @@ use Rattle.p3_expansion.proofs.StaticLemmas.{tell-statics, start-told}
 use Rattle.p3_steps.specs.Possible as possible
 use Rattle.p3_steps.specs.Possible.{is_chosen, are_chosen, joined_atoms, joined_atoms_layer, goal_joined_atoms, goal_joined_layer, may_begin}
 use Rattle.p3_steps.proofs.PossibleLaws.{goal-possible}
-use Rattle.p3_tree.specs.Mentions.{conjuncts_by}
+use Rattle.p3_task.specs.Mentions.{conjuncts_by}
 use Rattle.p3_ground.specs.Sparse.{is_possible}
 use Rattle.p3_ground.specs.StepParts.{IsKnownWhole, OfSteps, WantsWhatIsPossible}
 use Rattle.p3_ground.proofs.StepParts.{step-env, step-known}

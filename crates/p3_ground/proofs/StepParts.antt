@@ -3,15 +3,15 @@ use Rattle.std.proofs.Common.{◌≡◌, ◌∙◌, Bool, true, false, ◌&&◌,
 use Rattle.std.specs.Prelude.{option_and_then}
 use Rattle.std.proofs.lemmas.Bool.{and_parts}
 use Rattle.std.proofs.lemmas.List.{append-nil}
-use Rattle.p3_tree.specs.Bindings.{extended}
-use Rattle.p3_tree.specs.Costs.{cost_places, effect_cost}
-use Rattle.p3_tree.specs.Goals.{hard_holds}
-use Rattle.p3_tree.specs.Offences.{WellFormed}
-use Rattle.p3_tree.specs.Plans.{arguments, cost_by, step_cost}
-use Rattle.p3_tree.specs.States.{State, Environment}
-use Rattle.p3_tree.specs.declared.task.Action.{Action}
-use Rattle.p3_tree.specs.declared.task.Step.{Step}
-use Rattle.p3_tree.specs.declared.task.Task.{Task}
+use Rattle.p3_task.specs.Bindings.{extended}
+use Rattle.p3_task.specs.Costs.{cost_places, effect_cost}
+use Rattle.p3_task.specs.Goals.{hard_holds}
+use Rattle.p3_task.specs.Offences.{WellFormed}
+use Rattle.p3_task.specs.Plans.{arguments, cost_by, step_cost}
+use Rattle.p3_task.specs.States.{State, Environment}
+use Rattle.p3_task.specs.declared.task.Action.{Action}
+use Rattle.p3_task.specs.declared.task.Step.{Step}
+use Rattle.p3_task.specs.declared.task.Task.{Task}
 use Rattle.p3_numbers.specs.Effects.{is_known_effect}
 use Rattle.p3_numbers.specs.Goals.{hard_met, is_known_goal}
 use Rattle.p3_numbers.specs.Known.{is_known_action}

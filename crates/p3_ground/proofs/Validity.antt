@@ -5,20 +5,20 @@ use Rattle.std.specs.List.{list_all, AllZip}
 use Rattle.p3_base.specs.Connectives.{◌implies◌}
 use Rattle.p3_base.specs.Trajectories as operator
 use Rattle.p3_base.proofs.TrajectoryLemmas.{each-same, some-same}
-use Rattle.p3_tree.specs.States as named
-use Rattle.p3_tree.specs.States.{Environment, start}
-use Rattle.p3_tree.specs.Plans as plans
-use Rattle.p3_tree.specs.Plans.{Plan, visited, last_state, state_at, steps_fit}
-use Rattle.p3_tree.specs.Constraints as tree
-use Rattle.p3_tree.specs.Constraints.{HardModal, satisfies, hard_list}
-use Rattle.p3_tree.specs.Validity.{is_valid, goal_holds}
-use Rattle.p3_tree.specs.StepNumbers.{HasStepNumbers}
-use Rattle.p3_tree.proofs.PlanLemmas.{steps_fit-walk}
-use Rattle.p3_tree.specs.declared.state.Fact.{Fact}
-use Rattle.p3_tree.specs.declared.formula.Formula.{Formula}
-use Rattle.p3_tree.specs.Modal.{Modal}
+use Rattle.p3_task.specs.States as named
+use Rattle.p3_task.specs.States.{Environment, start}
+use Rattle.p3_task.specs.Plans as plans
+use Rattle.p3_task.specs.Plans.{Plan, visited, last_state, state_at, steps_fit}
+use Rattle.p3_task.specs.Constraints as tree
+use Rattle.p3_task.specs.Constraints.{HardModal, satisfies, hard_list}
+use Rattle.p3_task.specs.Validity.{is_valid, goal_holds}
+use Rattle.p3_task.specs.StepNumbers.{HasStepNumbers}
+use Rattle.p3_task.proofs.PlanLemmas.{steps_fit-walk}
+use Rattle.p3_task.specs.declared.state.Fact.{Fact}
+use Rattle.p3_task.specs.declared.formula.Formula.{Formula}
+use Rattle.p3_task.specs.Modal.{Modal}
 use Rattle.p3_base.specs.declared.operator.Operator.TheVariants as modal
-use Rattle.p3_tree.specs.declared.task.Task.{Task}
+use Rattle.p3_task.specs.declared.task.Task.{Task}
 use Rattle.p3_formula.specs.Forms.{State, truth}
 use Rattle.p3_formula.specs.GroundSat as sat_of
 use Rattle.p3_formula.specs.GroundSat.{ground_sat}

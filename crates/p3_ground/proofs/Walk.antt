@@ -6,18 +6,18 @@ use Rattle.std.proofs.lemmas.Bool.{and_parts, and_from, eqb-true, true≢false}
 use Rattle.std.proofs.lemmas.List.Elements.{Contains-get_or}
 use Rattle.std.proofs.lemmas.List.Sums.{sum_by-cons}
 use Rattle.std.proofs.lemmas.Option.{slice_get_within, get_or_from_slice_get}
-use Rattle.p3_tree.specs.States as named
-use Rattle.p3_tree.specs.States.{has_fact, start}
-use Rattle.p3_tree.specs.Goals.{hard_holds}
-use Rattle.p3_tree.specs.Plans as plans
-use Rattle.p3_tree.specs.Plans.{Plan, Reached, arguments, fits, state_after, step_cost, cost_by, Move, moves_from}
-use Rattle.p3_tree.specs.Lifting.{steps}
-use Rattle.p3_tree.specs.StepNumbers.{HasNumber, HasStepNumbers}
-use Rattle.p3_tree.specs.declared.state.Fact.{Fact}
-use Rattle.p3_tree.specs.declared.task.Step.{Step}
-use Rattle.p3_tree.specs.declared.task.Task.{Task}
-use Rattle.p3_tree.proofs.OnceLemmas.{Some-injective, find_found}
-use Rattle.p3_tree.proofs.PlanLemmas.{fit_from, state_from, steps_fit-walk, last_state-walk}
+use Rattle.p3_task.specs.States as named
+use Rattle.p3_task.specs.States.{has_fact, start}
+use Rattle.p3_task.specs.Goals.{hard_holds}
+use Rattle.p3_task.specs.Plans as plans
+use Rattle.p3_task.specs.Plans.{Plan, Reached, arguments, fits, state_after, step_cost, cost_by, Move, moves_from}
+use Rattle.p3_task.specs.Lifting.{steps}
+use Rattle.p3_task.specs.StepNumbers.{HasNumber, HasStepNumbers}
+use Rattle.p3_task.specs.declared.state.Fact.{Fact}
+use Rattle.p3_task.specs.declared.task.Step.{Step}
+use Rattle.p3_task.specs.declared.task.Task.{Task}
+use Rattle.p3_task.proofs.OnceLemmas.{Some-injective, find_found}
+use Rattle.p3_task.proofs.PlanLemmas.{fit_from, state_from, steps_fit-walk, last_state-walk}
 use Rattle.p3_formula.specs.Forms.{State}
 use Rattle.p3_formula.specs.Next.{after}
 use Rattle.p3_formula.specs.GroundPlans.{GroundPlan, step_of, fits_by, ground_fits, state_by, visited_from}

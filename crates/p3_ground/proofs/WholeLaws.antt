@@ -8,19 +8,19 @@ use Rattle.std.proofs.lemmas.List.{append-nil, length-map}
 use Rattle.std.proofs.lemmas.List.Elements.{Contains-get_or, filter-append}
 use Rattle.std.proofs.Math.Nat.{mul_assoc}
 use Rattle.p3_base.specs.declared.refusal.Side.{Side}
-use Rattle.p3_tree.specs.Costs.{cost_places, initial_cost}
-use Rattle.p3_tree.specs.Lifting.{steps}
-use Rattle.p3_tree.specs.Limits.{binding_count, step_count}
-use Rattle.p3_tree.specs.Offences.{WellFormed}
-use Rattle.p3_tree.specs.PreferenceNames.{ordered_names}
-use Rattle.p3_tree.specs.Refusals.Counts.{passes_at, size_refusals}
-use Rattle.p3_tree.specs.Refusals.Places.{first_some}
-use Rattle.p3_tree.specs.Types.{objects}
-use Rattle.p3_tree.specs.declared.task.Action.{Action}
-use Rattle.p3_tree.specs.declared.task.Task.{Task}
-use Rattle.p3_tree.specs.declared.term.Ref.{Ref}
-use Rattle.p3_tree.specs.declared.term.Typed.{Typed}
-use Rattle.p3_tree.specs.Sides.{step_count_limit}
+use Rattle.p3_task.specs.Costs.{cost_places, initial_cost}
+use Rattle.p3_task.specs.Lifting.{steps}
+use Rattle.p3_task.specs.Limits.{binding_count, step_count}
+use Rattle.p3_task.specs.Offences.{WellFormed}
+use Rattle.p3_task.specs.PreferenceNames.{ordered_names}
+use Rattle.p3_task.specs.Refusals.Counts.{passes_at, size_refusals}
+use Rattle.p3_task.specs.Refusals.Places.{first_some}
+use Rattle.p3_task.specs.Types.{objects}
+use Rattle.p3_task.specs.declared.task.Action.{Action}
+use Rattle.p3_task.specs.declared.task.Task.{Task}
+use Rattle.p3_task.specs.declared.term.Ref.{Ref}
+use Rattle.p3_task.specs.declared.term.Typed.{Typed}
+use Rattle.p3_task.specs.Sides.{step_count_limit}
 use Rattle.p3_formula.specs.Conditions.{HasAtomsBelow, rises}
 use Rattle.p3_formula.specs.Forms as forms
 use Rattle.p3_formula.specs.declared.task.GroundStep.{GroundStep}

@@ -2,18 +2,18 @@
 use Rattle.std.proofs.Common.{◌≡◌, ◌∙◌, refl, ap, ℕ, zero, suc, false, List, [], ◌∷◌, Some, arith}
 use Rattle.std.specs.Prelude.{codes, slice_get}
 use Rattle.std.specs.List.{All}
-use Rattle.p3_tree.specs.States as named
-use Rattle.p3_tree.specs.States.{start, has_fact}
-use Rattle.p3_tree.specs.Plans.{state_after}
-use Rattle.p3_tree.specs.Worked.Build.{step}
-use Rattle.p3_tree.specs.Worked.FirstExample.{read}
-use Rattle.p3_tree.specs.Constraints.{operators}
-use Rattle.p3_tree.specs.Literals.{literals}
-use Rattle.p3_tree.specs.Static.{changed}
-use Rattle.p3_tree.specs.Conjuncts.{formula_conjuncts, goal_conjuncts}
-use Rattle.p3_tree.specs.declared.state.Fact.{Fact}
-use Rattle.p3_tree.proofs.Computes.{meaning_computes}
-use Rattle.p3_tree.proofs.OnceLemmas.{Some-injective}
+use Rattle.p3_task.specs.States as named
+use Rattle.p3_task.specs.States.{start, has_fact}
+use Rattle.p3_task.specs.Plans.{state_after}
+use Rattle.p3_task.specs.Worked.Build.{step}
+use Rattle.p3_task.specs.Worked.FirstExample.{read}
+use Rattle.p3_task.specs.Constraints.{operators}
+use Rattle.p3_task.specs.Literals.{literals}
+use Rattle.p3_task.specs.Static.{changed}
+use Rattle.p3_task.specs.Conjuncts.{formula_conjuncts, goal_conjuncts}
+use Rattle.p3_task.specs.declared.state.Fact.{Fact}
+use Rattle.p3_task.proofs.Computes.{meaning_computes}
+use Rattle.p3_task.proofs.OnceLemmas.{Some-injective}
 use Rattle.p3_formula.specs.Forms.{State, is_set}
 use Rattle.p3_formula.specs.Next.{after}
 use Rattle.p3_formula.specs.Constructors.{sets}
@@ -22,7 +22,7 @@ use Rattle.p3_formula.proofs.NextLaws.{length-after, is_set-after}
 use Rattle.p3_formula.proofs.Worked.{computes}
 use Rattle.p3_reach.specs.May.{may}
 use Rattle.p3_ground.specs.StandsFor.{Matched, AreDifferent, IsMadeOf, StepStands, StandsBy, LeavesOutOnlyUnfit}
-use Rattle.p3_tree.specs.Mentions.{formula_atoms}
+use Rattle.p3_task.specs.Mentions.{formula_atoms}
 use Rattle.p3_ground.specs.Sparse.{HasFewChanges, IsGroundingOf, MayFit, Sparse, StepsHaveFewChanges, StepsHavePossibleConjuncts}
 use Rattle.p3_ground.specs.Worked.{only_step, smallest}
 

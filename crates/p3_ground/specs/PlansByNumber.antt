@@ -1,14 +1,14 @@
 -- Plans of a task and ground plans of a ground task that stands for it: the numbers of the steps, and what agrees.
 use Rattle.std.specs.Prelude.{◌≡◌, ℕ, ◌+◌, ◌*◌, pos, Bool, List, [], map, length, slice_get, slice_index_or, sum_by, Some}
 use Rattle.std.specs.List.{list_all, range_with_len, AllZip}
-use Rattle.p3_tree.specs.Names.{Name, is_empty}
-use Rattle.p3_tree.specs.Costs.{initial_cost}
-use Rattle.p3_tree.specs.Plans.{Plan}
-use Rattle.p3_tree.specs.Metrics.{violated, cost, weight}
-use Rattle.p3_tree.specs.PreferenceNames.{ordered_names}
-use Rattle.p3_tree.specs.StepNumbers.{HasNumber}
-use Rattle.p3_tree.specs.declared.task.Step.{Step}
-use Rattle.p3_tree.specs.declared.task.Task.{Task}
+use Rattle.p3_task.specs.Names.{Name, is_empty}
+use Rattle.p3_task.specs.Costs.{initial_cost}
+use Rattle.p3_task.specs.Plans.{Plan}
+use Rattle.p3_task.specs.Metrics.{violated, cost, weight}
+use Rattle.p3_task.specs.PreferenceNames.{ordered_names}
+use Rattle.p3_task.specs.StepNumbers.{HasNumber}
+use Rattle.p3_task.specs.declared.task.Step.{Step}
+use Rattle.p3_task.specs.declared.task.Task.{Task}
 use Rattle.p3_formula.specs.GroundPlans.{GroundPlan, GroundValid, ground_violated, ground_cost}
 use Rattle.p3_formula.specs.declared.task.GroundTask.{GroundTask}
 use Rattle.p3_ground.specs.StandsFor.{IsAsked}

@@ -2,14 +2,14 @@
 use Rattle.std.specs.Prelude.{ℕ, ◌≤◌, Bool, true, false, not, ◌||◌, List, length, map, slice_get, count_by, Contains, IsTrue}
 use Rattle.std.specs.List.{All, AllZip, list_all}
 use Rattle.std.specs.Option.{option_map_or}
-use Rattle.p3_tree.specs.States.{has_fact, start}
-use Rattle.p3_tree.specs.Constraints.{HardModal, Instance, hard_list, instances, operators}
-use Rattle.p3_tree.specs.Literals.{Literal}
-use Rattle.p3_tree.specs.Static.{is_static}
-use Rattle.p3_tree.specs.StepNumbers.{HasNumber}
-use Rattle.p3_tree.specs.declared.state.Fact.{Fact}
-use Rattle.p3_tree.specs.declared.task.Step.{Step}
-use Rattle.p3_tree.specs.declared.task.Task.{Task}
+use Rattle.p3_task.specs.States.{has_fact, start}
+use Rattle.p3_task.specs.Constraints.{HardModal, Instance, hard_list, instances, operators}
+use Rattle.p3_task.specs.Literals.{Literal}
+use Rattle.p3_task.specs.Static.{is_static}
+use Rattle.p3_task.specs.StepNumbers.{HasNumber}
+use Rattle.p3_task.specs.declared.state.Fact.{Fact}
+use Rattle.p3_task.specs.declared.task.Step.{Step}
+use Rattle.p3_task.specs.declared.task.Task.{Task}
 use Rattle.p3_formula.specs.Forms.{State}
 use Rattle.p3_formula.specs.Modals.{modal_has}
 use Rattle.p3_formula.specs.Simplified.{is_value}
@@ -21,7 +21,7 @@ use Rattle.p3_formula.specs.declared.task.GroundTask.{GroundTask}
 use Rattle.p3_reach.specs.May.{may_hold}
 use Rattle.p3_reach.specs.Closed.{IsClosed}
 use Rattle.p3_ground.specs.StandsFor.{LeavesOutOnlyUnfit, StandsBy, StandsForSteps}
-use Rattle.p3_tree.specs.Mentions.{operator_atoms, step_literals, is_under_when, step_conjuncts}
+use Rattle.p3_task.specs.Mentions.{operator_atoms, step_literals, is_under_when, step_conjuncts}
 
 -- the atom of that number is one of those
 abbrev pub is_atom_of : List Fact → List Fact → ℕ → Bool

@@ -1,24 +1,24 @@
 -- What it is that a ground task stands for a task: its atoms are ground atoms of the task, and its forms have the truth of the task's formulas in every state that fitting steps reach.
 use Rattle.std.specs.Prelude.{◌≡◌, ℕ, Bool, false, List, [], length, slice_get, position, Option, Some, None, option_and_then, IsTrue}
 use Rattle.std.specs.List.{All, AllZip}
-use Rattle.p3_tree.specs.Names.{same_name, Name}
-use Rattle.p3_tree.specs.States.{State, Environment, has_fact, start}
-use Rattle.p3_tree.specs.Formulas.{holds}
-use Rattle.p3_tree.specs.Goals.{StatePref, hard_holds}
-use Rattle.p3_tree.specs.Costs.{initial_cost}
-use Rattle.p3_tree.specs.Plans.{Reached, action_named, arguments, state_after, step_cost}
-use Rattle.p3_tree.specs.Constraints.{HardModal, Instance, hard_list, instances, operators}
-use Rattle.p3_tree.specs.Metrics.{step_prefs}
-use Rattle.p3_tree.specs.Lifting.{steps}
-use Rattle.p3_tree.specs.PreferenceNames.{ordered_names}
-use Rattle.p3_tree.specs.StepNumbers.{HasNumber}
-use Rattle.p3_tree.specs.declared.state.Fact.{Fact}
-use Rattle.p3_tree.specs.declared.formula.Formula.{Formula}
-use Rattle.p3_tree.specs.Modal.{Modal}
+use Rattle.p3_task.specs.Names.{same_name, Name}
+use Rattle.p3_task.specs.States.{State, Environment, has_fact, start}
+use Rattle.p3_task.specs.Formulas.{holds}
+use Rattle.p3_task.specs.Goals.{StatePref, hard_holds}
+use Rattle.p3_task.specs.Costs.{initial_cost}
+use Rattle.p3_task.specs.Plans.{Reached, action_named, arguments, state_after, step_cost}
+use Rattle.p3_task.specs.Constraints.{HardModal, Instance, hard_list, instances, operators}
+use Rattle.p3_task.specs.Metrics.{step_prefs}
+use Rattle.p3_task.specs.Lifting.{steps}
+use Rattle.p3_task.specs.PreferenceNames.{ordered_names}
+use Rattle.p3_task.specs.StepNumbers.{HasNumber}
+use Rattle.p3_task.specs.declared.state.Fact.{Fact}
+use Rattle.p3_task.specs.declared.formula.Formula.{Formula}
+use Rattle.p3_task.specs.Modal.{Modal}
 use Rattle.p3_base.specs.Operators.{Pairs}
-use Rattle.p3_tree.specs.declared.task.Action.{Action}
-use Rattle.p3_tree.specs.declared.task.Step.{Step}
-use Rattle.p3_tree.specs.declared.task.Task.{Task}
+use Rattle.p3_task.specs.declared.task.Action.{Action}
+use Rattle.p3_task.specs.declared.task.Step.{Step}
+use Rattle.p3_task.specs.declared.task.Task.{Task}
 use Rattle.p3_formula.specs.Forms as forms
 use Rattle.p3_formula.specs.Forms.{is_set, truth}
 use Rattle.p3_formula.specs.Next.{after}

@@ -1,13 +1,13 @@
 -- What steps are, by their numbers and by the choices of objects of their actions: which may begin, what they want, and what they cost.
 use Rattle.std.specs.Prelude.{◌≡◌, ℕ, ◌+◌, ◌<◌, true, false, slice_get, Some}
-use Rattle.p3_tree.specs.Costs.{cost_places}
-use Rattle.p3_tree.specs.Offences.{WellFormed}
-use Rattle.p3_tree.specs.Plans.{Reached, step_cost}
-use Rattle.p3_tree.specs.States.{State}
-use Rattle.p3_tree.specs.StepNumbers.{HasNumber}
-use Rattle.p3_tree.specs.declared.task.Action.{Action}
-use Rattle.p3_tree.specs.declared.task.Step.{Step}
-use Rattle.p3_tree.specs.declared.task.Task.{Task}
+use Rattle.p3_task.specs.Costs.{cost_places}
+use Rattle.p3_task.specs.Offences.{WellFormed}
+use Rattle.p3_task.specs.Plans.{Reached, step_cost}
+use Rattle.p3_task.specs.States.{State}
+use Rattle.p3_task.specs.StepNumbers.{HasNumber}
+use Rattle.p3_task.specs.declared.task.Action.{Action}
+use Rattle.p3_task.specs.declared.task.Step.{Step}
+use Rattle.p3_task.specs.declared.task.Task.{Task}
 use Rattle.p3_numbers.specs.Choices.{choice_count}
 use Rattle.p3_numbers.specs.Places.{ranges_of}
 use Rattle.p3_numbers.specs.Slots.{Slots}

@@ -2,12 +2,12 @@
 
 ghost use Rattle.std.specs.Prelude.{◌≡◌, ◌≤◌, ◌^◌, []};
 ghost use Rattle.std.specs.Result.{MatchResult};
-ghost use Rattle.p3_tree.specs.Costs.{cost_places, entry_value, initial_cost as cost_at_start};
-ghost use Rattle.p3_tree.specs.Names.{total_cost};
+ghost use Rattle.p3_task.specs.Costs.{cost_places, entry_value, initial_cost as cost_at_start};
+ghost use Rattle.p3_task.specs.Names.{total_cost};
 
 use p3_base::TooLarge;
 use p3_steps::units_at;
-use p3_tree::{Init, Task};
+use p3_task::{Init, Task};
 use p3_types::Checked;
 
 /// The value that the entry gives to the total cost, in units of so many decimal places, if it does.

@@ -3,16 +3,16 @@
 
 ghost use Rattle.std.specs.Prelude.{◌≡◌, ◌↔◌, ℕ, ◌+◌, ◌*◌, List, length, IsTrue};
 ghost use Rattle.std.specs.List.{list_all, range_with_len};
-ghost use Rattle.p3_tree.specs.Constraints.{instances};
-ghost use Rattle.p3_tree.specs.Faithful.{extra};
-ghost use Rattle.p3_tree.specs.Lifting.{lift, steps};
-ghost use Rattle.p3_tree.specs.Offences.{WellFormed};
-ghost use Rattle.p3_tree.specs.Plans.{Plan, steps_fit};
-ghost use Rattle.p3_tree.specs.PreferenceNames.{ordered_names};
-ghost use Rattle.p3_tree.specs.Validity.{Valid};
-ghost use Rattle.p3_tree.specs.declared.state.Fact.{Fact};
-ghost use Rattle.p3_tree.specs.declared.task.Task.{Task};
-ghost use Rattle.p3_tree.specs.Worked.FirstExample.{read};
+ghost use Rattle.p3_task.specs.Constraints.{instances};
+ghost use Rattle.p3_task.specs.Faithful.{extra};
+ghost use Rattle.p3_task.specs.Lifting.{lift, steps};
+ghost use Rattle.p3_task.specs.Offences.{WellFormed};
+ghost use Rattle.p3_task.specs.Plans.{Plan, steps_fit};
+ghost use Rattle.p3_task.specs.PreferenceNames.{ordered_names};
+ghost use Rattle.p3_task.specs.Validity.{Valid};
+ghost use Rattle.p3_task.specs.declared.state.Fact.{Fact};
+ghost use Rattle.p3_task.specs.declared.task.Task.{Task};
+ghost use Rattle.p3_task.specs.Worked.FirstExample.{read};
 ghost use Rattle.p3_formula.specs.Conditions.{HasNamesBelow};
 ghost use Rattle.p3_formula.specs.Forms.{State};
 ghost use Rattle.p3_formula.specs.GroundPlans.{

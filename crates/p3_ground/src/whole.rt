@@ -3,8 +3,8 @@
 ghost use Rattle.std.specs.Prelude.{◌≡◌, ◌≤◌, ℕ, List, [], Option, IfOk, IfSome};
 ghost use Rattle.std.specs.List.Sorted.{IsStrictlyIncreasing};
 ghost use Rattle.std.specs.Option.{option_copied};
-ghost use Rattle.p3_tree.specs.Costs.{cost_places as places_of_costs, initial_cost as cost_at_start};
-ghost use Rattle.p3_tree.specs.Offences.{WellFormed};
+ghost use Rattle.p3_task.specs.Costs.{cost_places as places_of_costs, initial_cost as cost_at_start};
+ghost use Rattle.p3_task.specs.Offences.{WellFormed};
 ghost use Rattle.p3_expansion.specs.Statics.{AreStatics, start_bits};
 ghost use Rattle.p3_steps.specs.Steps.{MakesSteps};
 ghost use Rattle.p3_ground.specs.Planned.{wanted_steps};

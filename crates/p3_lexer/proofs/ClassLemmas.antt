@@ -3,7 +3,7 @@ use Rattle.std.proofs.Common.{◌≡◌, ◌∙◌, refl, sym, ap, ℕ, Bool, tr
 use Rattle.std.specs.List.{list_all}
 use Rattle.std.proofs.lemmas.Bool.{and_parts}
 use Rattle.p3_base.specs.Words.{reserved_words, has_name, is_digit}
-use Rattle.p3_tree.specs.Names.{Name, same_name}
+use Rattle.p3_task.specs.Names.{Name, same_name}
 use Rattle.std.specs.Bool.{one_answer}
 use Rattle.std.specs.Char.{to_ascii_lowercase}
 use Rattle.std.specs.Str.{bytes_eq}
@@ -12,7 +12,7 @@ use Rattle.p3_lexer.specs.Words.{begins_with_letters, goes_on_as_decimal}
 use Rattle.std.specs.Prelude.{◌==◌, if◌then◌else◌}
 use Rattle.std.specs.Option.{option_map_or}
 use Rattle.std.proofs.lemmas.Bool.Decides.{nat_tests}
-use Rattle.p3_tree.specs.Decimals.{at_point, are_digits, is_decimal}
+use Rattle.p3_task.specs.Decimals.{at_point, are_digits, is_decimal}
 
 -- words that are alike without letter case are the same once their letters are lowered
 pub same_lowered : (b : Bool) (word text : List ℕ) → IsTrue b ↔ (map to_ascii_lowercase word ≡ map to_ascii_lowercase text) → map to_ascii_lowercase text ≡ text

@@ -6,16 +6,16 @@ use Rattle.std.proofs.lemmas.Slice.Eq.{bytes_eq-Decides}
 use Rattle.std.proofs.lemmas.List.{length-map}
 use Rattle.p3_base.specs.declared.refusal.Code.{Code}
 use Rattle.p3_base.specs.declared.refusal.Role.{Role}
-use Rattle.p3_tree.specs.Refusals.Places.{refusal_at, refusal_at_token}
+use Rattle.p3_task.specs.Refusals.Places.{refusal_at, refusal_at_token}
 use Rattle.p3_lexer.specs.Lexing.{token_of}
 use Rattle.std.specs.List.{list_all}
 use Rattle.std.specs.Char.{to_ascii_lowercase}
 use Rattle.std.proofs.lemmas.Bool.{and_parts, and_from}
 use Rattle.std.proofs.lemmas.Bool.Decides.{nat_tests}
 use Rattle.p3_base.specs.Words.{is_lowered}
-use Rattle.p3_tree.specs.Names.{Name}
-use Rattle.p3_tree.specs.Tokens.{Token, Tokens, Open, Close, Word, before, is_blank, is_of_word, is_comment_after, prefixed, with_byte, tokens_from}
-use Rattle.p3_tree.specs.PlanTexts.{Mark, Opens, Closes, Names, mark_of}
+use Rattle.p3_task.specs.Names.{Name}
+use Rattle.p3_task.specs.Tokens.{Token, Tokens, Open, Close, Word, before, is_blank, is_of_word, is_comment_after, prefixed, with_byte, tokens_from}
+use Rattle.p3_task.specs.PlanTexts.{Mark, Opens, Closes, Names, mark_of}
 use Rattle.p3_lexer.proofs.WordLemmas.{is_word, past, word_read, prefixed_by, read_by}
 
 -- a mark of some text

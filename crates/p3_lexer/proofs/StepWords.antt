@@ -8,10 +8,10 @@ use Rattle.p3_lexer.specs.Lexing.{Progress, left, with_next}
 use Rattle.p3_lexer.specs.StepWords.{IsNextWord, IsWordAt, first_words, step_words, words_left}
 use Rattle.p3_lexer.specs.declared.lexer.Next.{Next}
 use Rattle.p3_lexer.specs.declared.lexer.Next.TheVariants as next
-use Rattle.p3_tree.specs.Names.{Name}
-use Rattle.p3_tree.specs.PlanTexts.{Opens, Closes, Names, mark_of, step_marks, IsPlanText}
-use Rattle.p3_tree.specs.Tokens.{Token, Open, Close, Word, Tokens, tokens_of}
-use Rattle.p3_tree.specs.declared.task.Step.{Step}
+use Rattle.p3_task.specs.Names.{Name}
+use Rattle.p3_task.specs.PlanTexts.{Opens, Closes, Names, mark_of, step_marks, IsPlanText}
+use Rattle.p3_task.specs.Tokens.{Token, Open, Close, Word, Tokens, tokens_of}
+use Rattle.p3_task.specs.declared.task.Step.{Step}
 
 -- ---- one token passed
 

@@ -6,8 +6,8 @@ use Rattle.std.specs.Char.{to_ascii_lowercase}
 use Rattle.std.proofs.lemmas.Bool.{and_parts, not-true}
 use Rattle.std.proofs.lemmas.Bool.Decides.{nat_tests}
 use Rattle.p3_base.specs.Words.{is_lowered}
-use Rattle.p3_tree.specs.Names.{Name}
-use Rattle.p3_tree.specs.Tokens.{Token, Open, Close, Word, Tokens, is_blank, is_of_word, is_comment_after, before, prefixed, with_byte, tokens_from}
+use Rattle.p3_task.specs.Names.{Name}
+use Rattle.p3_task.specs.Tokens.{Token, Open, Close, Word, Tokens, is_blank, is_of_word, is_comment_after, before, prefixed, with_byte, tokens_from}
 
 abbrev pub is_word : Name → Bool
 is_word [] = false

@@ -4,9 +4,9 @@ use Rattle.std.specs.Option.{option_map}
 use Rattle.std.specs.Str.{str_to_ascii_lowercase}
 use denote.Ref.{Bor}
 use Rattle.p3_lexer.specs.Lexing.{Progress, left}
-use Rattle.p3_tree.specs.Names.{Name}
-use Rattle.p3_tree.specs.Tokens.{Token, Open, Close, Word}
-use Rattle.p3_tree.specs.declared.task.Step.{Step}
+use Rattle.p3_task.specs.Names.{Name}
+use Rattle.p3_task.specs.Tokens.{Token, Open, Close, Word}
+use Rattle.p3_task.specs.declared.task.Step.{Step}
 
 -- the words that stand first
 abbrev pub first_words : List Token → List Name

@@ -3,8 +3,8 @@ use Rattle.std.specs.Prelude.{Bool, true, false, ◌&&◌, ◌∷◌}
 use Rattle.std.specs.List.{list_all}
 use Rattle.std.specs.Option.{option_map_or}
 use Rattle.p3_base.specs.Words.{is_digit, is_letter}
-use Rattle.p3_tree.specs.Names.{Name}
-use Rattle.p3_tree.specs.Decimals.{at_point, are_digits}
+use Rattle.p3_task.specs.Names.{Name}
+use Rattle.p3_task.specs.Decimals.{at_point, are_digits}
 
 -- what stands behind the first digit of a number
 abbrev pub goes_on_as_decimal : Name → Bool

@@ -3,8 +3,8 @@
 ghost use Rattle.std.specs.Prelude.{◌≡◌, ◌≤◌, ◌<◌, ◌+◌, drop, false, length, codes, IfSome};
 ghost use Rattle.std.specs.Str.{bytes_eq};
 ghost use Rattle.p3_base.specs.declared.refusal.Side.TheVariants.{Written};
-ghost use Rattle.p3_tree.specs.Tokens.{tokens_from};
-ghost use Rattle.p3_tree.specs.Sides.{byte_limit};
+ghost use Rattle.p3_task.specs.Tokens.{tokens_from};
+ghost use Rattle.p3_task.specs.Sides.{byte_limit};
 ghost use Rattle.p3_lexer.specs.Lexing.{left, with_next, token_len, Rests, Takes};
 ghost use Rattle.p3_lexer.specs.StepWords.{IsNextWord, IsPartOf};
 
@@ -37,7 +37,7 @@ pub struct Lexer<'a> {
 impl<'a> Model for Lexer<'a> {
     ghost use Rattle.std.specs.Prelude.{◌≤◌, length};
     ghost use Rattle.p3_base.specs.declared.refusal.Side.TheVariants.{Written};
-    ghost use Rattle.p3_tree.specs.Sides.{byte_limit};
+    ghost use Rattle.p3_task.specs.Sides.{byte_limit};
     ghost use Rattle.p3_lexer.specs.Lexing.{Progress, progress_code};
 
     ghost Value = { Progress };

@@ -2,7 +2,7 @@
 
 ghost use Rattle.std.specs.Prelude.{◌≡◌, ◌≤◌, ◌<◌, ◌+◌, drop, length, slice_index, true, false};
 ghost use Rattle.std.specs.List.{prefix_len};
-ghost use Rattle.p3_tree.specs.Tokens.{is_blank, is_of_word};
+ghost use Rattle.p3_task.specs.Tokens.{is_blank, is_of_word};
 ghost use Rattle.p3_lexer.specs.Lexing.{is_between, gap_len};
 
 fn is_blank_byte(byte: u8) -> bool

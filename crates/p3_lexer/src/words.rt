@@ -5,9 +5,9 @@ ghost use Rattle.std.specs.Char.{to_ascii_lowercase};
 ghost use Rattle.std.specs.List.{list_all};
 ghost use Rattle.std.specs.Str.{str_to_ascii_lowercase};
 ghost use Rattle.p3_base.specs.Words.{is_digit, is_name, is_variable, is_predicate_name, is_function_name, reserved_words, has_name};
-ghost use Rattle.p3_tree.specs.Decimals.{are_digits, is_decimal};
-ghost use Rattle.p3_tree.specs.Names.{same_name, total_cost};
-ghost use Rattle.p3_tree.specs.Grammar.Halves.{begins_with_colon};
+ghost use Rattle.p3_task.specs.Decimals.{are_digits, is_decimal};
+ghost use Rattle.p3_task.specs.Names.{same_name, total_cost};
+ghost use Rattle.p3_task.specs.Grammar.Halves.{begins_with_colon};
 ghost use Rattle.p3_lexer.specs.Words.{goes_on_as_decimal, begins_with_letters};
 
 /// Whether a word is the text, which has no capital letter.

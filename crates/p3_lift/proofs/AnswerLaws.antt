@@ -1,11 +1,11 @@
 -- Answers that are right of the same tasks and plan tell the same.
 use Rattle.std.proofs.Common.{◌≡◌, ◌≢◌, ◌∙◌, refl, sym, ap, Bool, true, false, Option, None, Some}
-use Rattle.p3_tree.specs.Lifting.{is_plain, lift}
-use Rattle.p3_tree.specs.Metrics.{value}
-use Rattle.p3_tree.specs.Plans.{Plan}
-use Rattle.p3_tree.specs.Validity.{Fault, first_fault}
-use Rattle.p3_tree.specs.declared.task.Task.{Task}
-use Rattle.p3_tree.proofs.ValidityLemmas.{valid_where_no_fault}
+use Rattle.p3_task.specs.Lifting.{is_plain, lift}
+use Rattle.p3_task.specs.Metrics.{value}
+use Rattle.p3_task.specs.Plans.{Plan}
+use Rattle.p3_task.specs.Validity.{Fault, first_fault}
+use Rattle.p3_task.specs.declared.task.Task.{Task}
+use Rattle.p3_task.proofs.ValidityLemmas.{valid_where_no_fault}
 use Rattle.p3_lift.specs.Lifting.{IsLiftFail, IsLifted, loss_above}
 use Rattle.p3_lift.specs.Told as told
 use Rattle.p3_lift.specs.Told.{Told, told_by}

@@ -1,11 +1,11 @@
 -- A plan of a faithful translation has no mismatch.
 use Rattle.std.proofs.Common.{◌≡◌, ◌∙◌, sym, None, Some}
-use Rattle.p3_tree.specs.Faithful.{Faithful, IsSound}
-use Rattle.p3_tree.specs.Lifting.{lift}
-use Rattle.p3_tree.specs.Plans.{Plan}
-use Rattle.p3_tree.specs.Validity.{Valid}
-use Rattle.p3_tree.specs.declared.task.Task.{Task}
-use Rattle.p3_tree.proofs.ValidityLemmas.{valid_where_no_fault}
+use Rattle.p3_task.specs.Faithful.{Faithful, IsSound}
+use Rattle.p3_task.specs.Lifting.{lift}
+use Rattle.p3_task.specs.Plans.{Plan}
+use Rattle.p3_task.specs.Validity.{Valid}
+use Rattle.p3_task.specs.declared.task.Task.{Task}
+use Rattle.p3_task.proofs.ValidityLemmas.{valid_where_no_fault}
 use Rattle.p3_eval.specs.Judged.{fault_in}
 use Rattle.p3_eval.specs.declared.fault.PlanFault.{PlanFault}
 use Rattle.p3_lift.specs.Lifting.{IsDiffer, IsFaultOf, IsLiftFail}

@@ -1,11 +1,11 @@
 -- What judging the two plans comes to, put together.
 use Rattle.std.proofs.Common.{◌≡◌, ◌∙◌, refl, sym, ap, subst, IfErr, IfOk}
 use Rattle.std.specs.Prelude.{ℤ, Result, Ok, Err}
-use Rattle.p3_tree.specs.Lifting.{Plain, lift}
-use Rattle.p3_tree.specs.Metrics.{value}
-use Rattle.p3_tree.specs.Plans.{Plan}
-use Rattle.p3_tree.specs.Validity.{Valid}
-use Rattle.p3_tree.specs.declared.task.Task.{Task}
+use Rattle.p3_task.specs.Lifting.{Plain, lift}
+use Rattle.p3_task.specs.Metrics.{value}
+use Rattle.p3_task.specs.Plans.{Plan}
+use Rattle.p3_task.specs.Validity.{Valid}
+use Rattle.p3_task.specs.declared.task.Task.{Task}
 use Rattle.p3_lift.specs.Judging.{IsComparison, IsLiftedAt, IsNotLiftedAt, IsWorth}
 use Rattle.p3_lift.specs.Lifting.{IsLiftFail, IsLifted, loss_above}
 use Rattle.p3_lift.specs.declared.answers.Differ.TheVariants.{Fault, Numbers}

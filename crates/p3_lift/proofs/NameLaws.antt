@@ -7,10 +7,10 @@ use Rattle.p3_base.specs.Words.{Name}
 use Rattle.p3_base.proofs.CopyLemmas.{copy_of_only}
 use Rattle.p3_base.specs.Copied.{IsNoCopy}
 use Rattle.p3_base.proofs.CopiedLaws.{copy_is}
-use Rattle.p3_tree.specs.Lifting.{lifted_step, steps}
-use Rattle.p3_tree.specs.Names.{is_empty}
-use Rattle.p3_tree.specs.declared.task.Step.{Step}
-use Rattle.p3_tree.specs.declared.task.Task.{Task}
+use Rattle.p3_task.specs.Lifting.{lifted_step, steps}
+use Rattle.p3_task.specs.Names.{is_empty}
+use Rattle.p3_task.specs.declared.task.Step.{Step}
+use Rattle.p3_task.specs.declared.task.Task.{Task}
 
 -- ---- the first numbered step of a list that passes a test
 

@@ -3,20 +3,20 @@ use denote.Hole.Carrier.{hidden}
 use Rattle.std.proofs.Common.{◌≡◌, ◌∙◌, refl, true, false, List}
 use Rattle.std.specs.Prelude.{ℕ, Option}
 use Rattle.std.specs.List.{list_any}
-use Rattle.p3_tree.specs.Lifting.{constrains, constrains_layer, prefers, prefers_layer}
-use Rattle.p3_tree.specs.declared.constraint.Constraint.{Constraint}
-use Rattle.p3_tree.specs.declared.constraint.Constraint.TheBlock.{hidden-the_row-Constraint-1}
-use Rattle.p3_tree.specs.declared.constraint.Constraint.TheVariants as constraint
-use Rattle.p3_tree.specs.Modal.{Modal}
-use Rattle.p3_tree.specs.declared.formula.Formula.{Formula}
-use Rattle.p3_tree.specs.declared.goal.Pref.{Pref}
-use Rattle.p3_tree.specs.declared.goal.PreGoal.{PreGoal}
-use Rattle.p3_tree.specs.declared.goal.PreGoal.TheBlock.{hidden-the_row-PreGoal-1}
-use Rattle.p3_tree.specs.declared.goal.PreGoal.TheVariants as goal
-use Rattle.p3_tree.specs.declared.term.Ref.{Ref}
-use Rattle.p3_tree.specs.declared.term.Typed.{Typed}
-use Rattle.p3_tree.proofs.FoldLemmas.{fold_constraint-Both, fold_goal-Both}
-use Rattle.p3_tree.proofs.MeaningLemmas.{list_any-map}
+use Rattle.p3_task.specs.Lifting.{constrains, constrains_layer, prefers, prefers_layer}
+use Rattle.p3_task.specs.declared.constraint.Constraint.{Constraint}
+use Rattle.p3_task.specs.declared.constraint.Constraint.TheBlock.{hidden-the_row-Constraint-1}
+use Rattle.p3_task.specs.declared.constraint.Constraint.TheVariants as constraint
+use Rattle.p3_task.specs.Modal.{Modal}
+use Rattle.p3_task.specs.declared.formula.Formula.{Formula}
+use Rattle.p3_task.specs.declared.goal.Pref.{Pref}
+use Rattle.p3_task.specs.declared.goal.PreGoal.{PreGoal}
+use Rattle.p3_task.specs.declared.goal.PreGoal.TheBlock.{hidden-the_row-PreGoal-1}
+use Rattle.p3_task.specs.declared.goal.PreGoal.TheVariants as goal
+use Rattle.p3_task.specs.declared.term.Ref.{Ref}
+use Rattle.p3_task.specs.declared.term.Typed.{Typed}
+use Rattle.p3_task.proofs.FoldLemmas.{fold_constraint-Both, fold_goal-Both}
+use Rattle.p3_task.proofs.MeaningLemmas.{list_any-map}
 
 -- ---- constraints
 

@@ -2,8 +2,8 @@
 use Rattle.std.proofs.Common.{◌≡◌, ◌==◌, ◌&&◌, ap}
 use Rattle.std.proofs.Math.Logic.{∥∥₁_elim}
 use Rattle.std.proofs.Math.Nat.{ℕ_set}
-use Rattle.p3_tree.specs.Lifting.{is_cost_metric, is_plain}
-use Rattle.p3_tree.specs.declared.task.Task.{Task}
+use Rattle.p3_task.specs.Lifting.{is_cost_metric, is_plain}
+use Rattle.p3_task.specs.declared.task.Task.{Task}
 use Rattle.p3_formula.specs.declared.target.Weights.{Weights}
 use Rattle.p3_formula.specs.declared.task.GroundTask.{GroundTask}
 use Rattle.p3_eval.specs.Runs.{BelongTogether}

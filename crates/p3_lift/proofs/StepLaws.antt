@@ -4,10 +4,10 @@ use Rattle.std.specs.Prelude.{IfSome, filter_map, option_and_then, slice_get}
 use Rattle.std.specs.List.{cons_option}
 use Rattle.std.proofs.lemmas.List.{append-nil, take_more}
 use Rattle.std.proofs.lemmas.List.Elements.{filter_map-append}
-use Rattle.p3_tree.specs.Lifting.{lift, lifted_step, steps}
-use Rattle.p3_tree.specs.Plans.{Plan}
-use Rattle.p3_tree.specs.declared.task.Step.{Step}
-use Rattle.p3_tree.specs.declared.task.Task.{Task}
+use Rattle.p3_task.specs.Lifting.{lift, lifted_step, steps}
+use Rattle.p3_task.specs.Plans.{Plan}
+use Rattle.p3_task.specs.declared.task.Step.{Step}
+use Rattle.p3_task.specs.declared.task.Task.{Task}
 use Rattle.p3_ground.specs.PlansByNumber.{AreNumbers}
 use Rattle.p3_eval.proofs.JudgeLemmas.{numbers_more}
 

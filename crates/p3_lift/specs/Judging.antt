@@ -2,11 +2,11 @@
 use Rattle.std.specs.Prelude.{◌≡◌, ◌≢◌, ℕ, ◌<◌, ◌^◌, ℤ, pos, ◌+ℤ◌, Result, Ok, Err}
 use Rattle.std.specs.Int.RustNames.{unsigned_abs}
 use Rattle.p3_base.specs.declared.refusal.Direction.{Direction}
-use Rattle.p3_tree.specs.Lifting.{lift}
-use Rattle.p3_tree.specs.Metrics.{signed, value}
-use Rattle.p3_tree.specs.Plans.{Plan}
-use Rattle.p3_tree.specs.Validity.{Valid}
-use Rattle.p3_tree.specs.declared.task.Task.{Task}
+use Rattle.p3_task.specs.Lifting.{lift}
+use Rattle.p3_task.specs.Metrics.{signed, value}
+use Rattle.p3_task.specs.Plans.{Plan}
+use Rattle.p3_task.specs.Validity.{Valid}
+use Rattle.p3_task.specs.declared.task.Task.{Task}
 use Rattle.p3_lift.specs.Lifting.{IsFaultOf, loss_above}
 use Rattle.p3_lift.specs.declared.answers.Differ.TheVariants.{Fault, Numbers}
 use Rattle.p3_lift.specs.declared.answers.LiftFail.{LiftFail}

@@ -1,10 +1,10 @@
 -- What lifting a plan of a written task answers.
 use Rattle.std.specs.Prelude.{◌≡◌, ◌≢◌, false, ℤ, ◌-ℤ◌, Some}
-use Rattle.p3_tree.specs.Lifting.{Plain, is_plain, lift}
-use Rattle.p3_tree.specs.Metrics.{base_loss, loss, value}
-use Rattle.p3_tree.specs.Plans.{Plan}
-use Rattle.p3_tree.specs.Validity.{Valid, first_fault}
-use Rattle.p3_tree.specs.declared.task.Task.{Task}
+use Rattle.p3_task.specs.Lifting.{Plain, is_plain, lift}
+use Rattle.p3_task.specs.Metrics.{base_loss, loss, value}
+use Rattle.p3_task.specs.Plans.{Plan}
+use Rattle.p3_task.specs.Validity.{Valid, first_fault}
+use Rattle.p3_task.specs.declared.task.Task.{Task}
 use Rattle.p3_eval.specs.Judged.{HasItsStep, fault_in}
 use Rattle.p3_eval.specs.declared.fault.PlanFault.{PlanFault}
 use Rattle.p3_lift.specs.declared.answers.Differ.{Differ}

@@ -1,9 +1,9 @@
 -- Whether a task is plain, part by part.
 use Rattle.std.specs.Prelude.{Bool, not, ◌&&◌, List}
 use Rattle.std.specs.List.{list_any}
-use Rattle.p3_tree.specs.Lifting.{constrains, prefers}
-use Rattle.p3_tree.specs.declared.task.Action.{Action}
-use Rattle.p3_tree.specs.declared.task.Task.{Task}
+use Rattle.p3_task.specs.Lifting.{constrains, prefers}
+use Rattle.p3_task.specs.declared.task.Action.{Action}
+use Rattle.p3_task.specs.declared.task.Task.{Task}
 
 -- a preference stands in the precondition of some action
 abbrev pub some_prefers : List Action → Bool

@@ -1,6 +1,6 @@
 -- What a plan that is not lifted tells, in the terms of the definitions.
 use Rattle.std.specs.Prelude.{ℤ}
-use Rattle.p3_tree.specs.Validity.{Fault}
+use Rattle.p3_task.specs.Validity.{Fault}
 use Rattle.p3_eval.specs.Judged.{fault_in}
 use Rattle.p3_lift.specs.declared.answers.Differ.TheVariants as differ
 use Rattle.p3_lift.specs.declared.answers.LiftFail.{LiftFail}

@@ -4,7 +4,7 @@ ghost use Rattle.std.specs.Prelude.{◌≡◌};
 
 use p3_base::NoMemory;
 use p3_eval::PlanFault;
-use p3_tree::Plan;
+use p3_task::Plan;
 use thiserror::Error;
 
 /// A lifted plan, which is valid for the task read.

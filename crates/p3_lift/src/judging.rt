@@ -2,7 +2,7 @@
 
 ghost use Rattle.std.specs.Prelude.{◌≡◌, ◌<◌, ◌^◌, ◌-ℤ◌, IfOk};
 ghost use Rattle.std.specs.List.{All};
-ghost use Rattle.p3_tree.specs.Metrics.{signed};
+ghost use Rattle.p3_task.specs.Metrics.{signed};
 ghost use Rattle.p3_ground.specs.StandsFor.{LeftOutAt};
 ghost use Rattle.p3_eval.specs.Steps.{AreOfPlan, OfSteps};
 ghost use Rattle.p3_lift.specs.Judging.{IsAboveBase, IsOutcome};

@@ -1,9 +1,9 @@
 //! The laws of lifting. Each is the contract of a function without a body.
 
 ghost use Rattle.std.specs.Prelude.{◌≡◌, ◌≢◌};
-ghost use Rattle.p3_tree.specs.Faithful.{Faithful};
-ghost use Rattle.p3_tree.specs.Plans.{Plan};
-ghost use Rattle.p3_tree.specs.declared.task.Task.{Task};
+ghost use Rattle.p3_task.specs.Faithful.{Faithful};
+ghost use Rattle.p3_task.specs.Plans.{Plan};
+ghost use Rattle.p3_task.specs.declared.task.Task.{Task};
 ghost use Rattle.p3_lift.specs.Lifting.{IsLiftFail, IsLifted};
 ghost use Rattle.p3_lift.specs.Told.{told_by};
 ghost use Rattle.p3_lift.specs.declared.answers.Differ.{Differ};

@@ -2,7 +2,7 @@
 
 ghost use Rattle.std.specs.Prelude.{◌≤◌, length, IfOk, IfErr};
 ghost use Rattle.std.specs.List.{All};
-ghost use Rattle.p3_tree.specs.Lifting.{lift as lifted_plan};
+ghost use Rattle.p3_task.specs.Lifting.{lift as lifted_plan};
 ghost use Rattle.p3_ground.specs.StandsFor.{LeftOutAt};
 ghost use Rattle.p3_run.specs.Runs.{most_steps};
 ghost use Rattle.p3_eval.specs.Steps.{AreStepsOf};
@@ -14,7 +14,7 @@ use crate::plain::is_plain;
 use crate::steps::{copied_steps, lifted_steps};
 use crate::{Differ, LiftFail, Lifted};
 use p3_eval::{Accepted, Grounded, Steps, Whole};
-use p3_tree::{Plan, Step};
+use p3_task::{Plan, Step};
 use std::alloc::Global;
 
 /// Lifts a plan of a written plain task to the task read. Where the plan is valid for the written

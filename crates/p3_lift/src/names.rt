@@ -1,12 +1,12 @@
 //! The numbers of the steps as which written steps count, by their names.
 
 ghost use Rattle.std.specs.Prelude.{◌≡◌, ◌<◌, ◌≤◌, IfSome, option_and_then, slice_get};
-ghost use Rattle.p3_tree.specs.Lifting.{lifted_step, steps};
-ghost use Rattle.p3_tree.specs.Limits.{step_count as count_of_steps};
-ghost use Rattle.p3_tree.specs.Sides.{step_count_limit};
+ghost use Rattle.p3_task.specs.Lifting.{lifted_step, steps};
+ghost use Rattle.p3_task.specs.Limits.{step_count as count_of_steps};
+ghost use Rattle.p3_task.specs.Sides.{step_count_limit};
 
 use p3_base::copied_step;
-use p3_tree::Step;
+use p3_task::Step;
 use p3_types::Checked;
 
 /// The number of the step as which a written step counts, if it does. It takes no memory.

@@ -3,12 +3,12 @@
 
 ghost use Rattle.std.specs.Prelude.{◌≡◌, ◌==◌, ◌&&◌};
 ghost use Rattle.std.specs.List.{list_any};
-ghost use Rattle.p3_tree.specs.Lifting.{constrains, is_cost_metric, is_plain, prefers};
+ghost use Rattle.p3_task.specs.Lifting.{constrains, is_cost_metric, is_plain, prefers};
 ghost use Rattle.p3_lift.specs.Plain.{has_plain_trees, some_prefers};
 
 use p3_base::Direction;
 use p3_eval::Grounded;
-use p3_tree::{Action, Constraint, Metric, Num, PreGoal, Task};
+use p3_task::{Action, Constraint, Metric, Num, PreGoal, Task};
 
 /// Whether an operator or a preference stands in the constraints.
 #[cycle(constraint)]

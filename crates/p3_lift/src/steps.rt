@@ -2,16 +2,16 @@
 
 ghost use Rattle.std.specs.Prelude.{◌≡◌, ◌≤◌, [], ◌++◌, length, IfOk, OnOk};
 ghost use Rattle.std.specs.List.{cons_option};
-ghost use Rattle.p3_tree.specs.Lifting.{lift, lifted_step};
-ghost use Rattle.p3_tree.specs.Limits.{step_count as count_of_steps};
-ghost use Rattle.p3_tree.specs.Sides.{step_count_limit};
+ghost use Rattle.p3_task.specs.Lifting.{lift, lifted_step};
+ghost use Rattle.p3_task.specs.Limits.{step_count as count_of_steps};
+ghost use Rattle.p3_task.specs.Sides.{step_count_limit};
 ghost use Rattle.p3_run.specs.Runs.{most_steps};
 ghost use Rattle.p3_eval.specs.Steps.{AreStepsOf};
 
 use crate::names::counted_step;
 use p3_base::{List, NoMemory};
 use p3_eval::Steps;
-use p3_tree::{Plan, Step};
+use p3_task::{Plan, Step};
 use p3_types::Checked;
 use std::alloc::Global;
 

@@ -22,18 +22,18 @@ use Rattle.p3_numbers.specs.Tasks.{IsNumberedTask, numbered_action}
 use Rattle.p3_numbers.specs.declared.numbers.Numbers.{Numbers}
 use Rattle.p3_numbers.specs.declared.task.NumberedAction.{NumberedAction}
 use Rattle.p3_numbers.specs.declared.task.NumberedTask.{NumberedTask}
-use Rattle.p3_tree.specs.Costs.{increases}
-use Rattle.p3_tree.specs.Goals.{named, pref_names}
-use Rattle.p3_tree.specs.Limits.{action_prefs, cost_bound, greatest_amount, width}
-use Rattle.p3_tree.specs.Names.{Name}
-use Rattle.p3_tree.specs.Offences.{WellFormed}
-use Rattle.p3_tree.specs.PreferenceNames.{ordered_names}
-use Rattle.p3_tree.specs.Refusals.Counts.{action_refusals}
-use Rattle.p3_tree.specs.Refusals.Places.{first_some, refusal_at_word}
-use Rattle.p3_tree.specs.Sides.{InDomain, role_of, weight_bound, width_limit}
-use Rattle.p3_tree.specs.declared.task.Action.{Action}
-use Rattle.p3_tree.specs.declared.task.Task.{Task}
-use Rattle.p3_tree.specs.declared.term.Ref.{Ref}
+use Rattle.p3_task.specs.Costs.{increases}
+use Rattle.p3_task.specs.Goals.{named, pref_names}
+use Rattle.p3_task.specs.Limits.{action_prefs, cost_bound, greatest_amount, width}
+use Rattle.p3_task.specs.Names.{Name}
+use Rattle.p3_task.specs.Offences.{WellFormed}
+use Rattle.p3_task.specs.PreferenceNames.{ordered_names}
+use Rattle.p3_task.specs.Refusals.Counts.{action_refusals}
+use Rattle.p3_task.specs.Refusals.Places.{first_some, refusal_at_word}
+use Rattle.p3_task.specs.Sides.{InDomain, role_of, weight_bound, width_limit}
+use Rattle.p3_task.specs.declared.task.Action.{Action}
+use Rattle.p3_task.specs.declared.task.Task.{Task}
+use Rattle.p3_task.specs.declared.term.Ref.{Ref}
 use Rattle.p3_metric.specs.Bounds.{first_passing, first_past, is_past, measured, share_of, shares}
 use Rattle.p3_metric.specs.Weighed.{HasWeights}
 use Rattle.p3_metric.specs.declared.measure.Measure.{Measure}

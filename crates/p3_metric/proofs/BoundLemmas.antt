@@ -10,8 +10,8 @@ use Rattle.p3_metric.specs.Entries.{number_at}
 use borrow.Author.Tests.{ltb-true}
 use mir.Syntax.{w128}
 use mir.Val.{SFits, of_z, to_z}
-use Rattle.p3_tree.specs.Refusals.Metric.{is_within}
-use Rattle.p3_tree.specs.Sides.{weight_bound}
+use Rattle.p3_task.specs.Refusals.Metric.{is_within}
+use Rattle.p3_task.specs.Sides.{weight_bound}
 use Rattle.p3_metric.specs.Forms.{combined, IsBounded, IsScaled}
 use Rattle.p3_metric.specs.declared.linear.Linear.{Linear}
 use Rattle.p3_metric.proofs.EntryLemmas.{within_is, abs_sum, one_times}

@@ -6,15 +6,15 @@ use Rattle.std.specs.Option.{option_or}
 use Rattle.std.proofs.lemmas.Bool.{leb-false}
 use Rattle.p3_base.specs.declared.refusal.Side.{Side}
 use Rattle.p3_base.specs.declared.refusal.Side.TheVariants.{Source, Written}
-use Rattle.p3_tree.specs.Costs.{cost_units, entry_value, given_value, initial_cost, value_numeral, value_numerals}
-use Rattle.p3_tree.specs.Names.{same_name, same_names, total_cost}
-use Rattle.p3_tree.specs.States.{meanings}
-use Rattle.p3_tree.specs.Refusals.Metric.{is_dear, least_numeral}
-use Rattle.p3_tree.specs.Refusals.Places.{first_some}
-use Rattle.p3_tree.specs.declared.effect.Numeral.{Numeral}
-use Rattle.p3_tree.specs.declared.task.Init.{Init}
-use Rattle.p3_tree.specs.declared.task.Init.TheVariants as init
-use Rattle.p3_tree.specs.declared.task.Task.{Task}
+use Rattle.p3_task.specs.Costs.{cost_units, entry_value, given_value, initial_cost, value_numeral, value_numerals}
+use Rattle.p3_task.specs.Names.{same_name, same_names, total_cost}
+use Rattle.p3_task.specs.States.{meanings}
+use Rattle.p3_task.specs.Refusals.Metric.{is_dear, least_numeral}
+use Rattle.p3_task.specs.Refusals.Places.{first_some}
+use Rattle.p3_task.specs.declared.effect.Numeral.{Numeral}
+use Rattle.p3_task.specs.declared.task.Init.{Init}
+use Rattle.p3_task.specs.declared.task.Init.TheVariants as init
+use Rattle.p3_task.specs.declared.task.Task.{Task}
 use Rattle.p3_metric.specs.Refused.{HasShortStart, dear_amount_of, dear_value_of, early_refusals, nonlinear_of, too_many_places_of}
 
 -- ---- the first of them

@@ -9,9 +9,9 @@ use mir.Syntax.{w128}
 use mir.Val.{SFits, of_z, to_z}
 use denote.Ref.{Bor}
 use Rattle.indexmap.specs.IndexMap.{IndexMap, get, Updates}
-use Rattle.p3_tree.specs.Names.{Name, same_name}
-use Rattle.p3_tree.specs.Refusals.Metric.{is_within}
-use Rattle.p3_tree.specs.Sides.{weight_bound}
+use Rattle.p3_task.specs.Names.{Name, same_name}
+use Rattle.p3_task.specs.Refusals.Metric.{is_within}
+use Rattle.p3_task.specs.Sides.{weight_bound}
 use Rattle.std.proofs.lemmas.Slice.Eq.{bytes_eq-Decides}
 use Rattle.std.proofs.Math.IntN.{one, *ℤ-zero, *ℤ-one, *ℤ_comm, +ℤ_comm}
 use Rattle.p3_metric.specs.declared.entries.Judged.{Judged}

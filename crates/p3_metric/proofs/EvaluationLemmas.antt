@@ -8,18 +8,18 @@ use Rattle.std.proofs.lemmas.List.Folds.{find-append}
 use mathlib.Core.Former.{Count, one_more}
 use Rattle.p3_base.specs.declared.refusal.Refusal.{Refusal}
 use Rattle.p3_base.specs.declared.refusal.Role.{Role}
-use Rattle.p3_tree.specs.Folds.{fold_nums, fold_one_num}
-use Rattle.p3_tree.specs.Costs.{cost_places, most_places}
-use Rattle.p3_tree.specs.Names.{Name}
+use Rattle.p3_task.specs.Folds.{fold_nums, fold_one_num}
+use Rattle.p3_task.specs.Costs.{cost_places, most_places}
+use Rattle.p3_task.specs.Names.{Name}
 use Rattle.std.proofs.Math.IntN.{*ℤ_comm}
 use Rattle.std.proofs.Math.Nat.{add_comm}
 use Rattle.std.proofs.lemmas.Bool.{or_parts, true≢false}
-use Rattle.p3_tree.specs.Metrics.{Quantity, quantity, quantity_layer, negated, no_counts, sum_of, product_of}
-use Rattle.p3_tree.specs.Refusals.Metric.{Factors, factors_layer, is_large, operations}
-use Rattle.p3_tree.proofs.FoldLemmas.{fold_num-Product}
-use Rattle.p3_tree.specs.declared.metric.Num.{Num, Row_of-Num, end_of-Num, more_of-Num}
-use Rattle.p3_tree.specs.declared.metric.Num.TheVariants as num
-use Rattle.p3_tree.specs.declared.task.Task.{Task}
+use Rattle.p3_task.specs.Metrics.{Quantity, quantity, quantity_layer, negated, no_counts, sum_of, product_of}
+use Rattle.p3_task.specs.Refusals.Metric.{Factors, factors_layer, is_large, operations}
+use Rattle.p3_task.proofs.FoldLemmas.{fold_num-Product}
+use Rattle.p3_task.specs.declared.metric.Num.{Num, Row_of-Num, end_of-Num, more_of-Num}
+use Rattle.p3_task.specs.declared.metric.Num.TheVariants as num
+use Rattle.p3_task.specs.declared.task.Task.{Task}
 use Rattle.p3_metric.specs.Evaluation.{refused_at, first_large}
 use Rattle.p3_metric.specs.Factors.{has_mention}
 use Rattle.p3_metric.specs.Forms.{plus, times, IsFormOf, IsSum, IsScaled}

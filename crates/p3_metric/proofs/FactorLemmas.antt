@@ -4,15 +4,15 @@ use Rattle.std.specs.Prelude.{count_by, flat_map, slice_get, if◌then◌else◌
 use Rattle.std.specs.List.{list_any}
 use Rattle.std.specs.Option.{option_or}
 use Rattle.std.proofs.lemmas.List.Sums.{sum_by-cons}
-use Rattle.p3_tree.proofs.FoldLemmas.{fold_num-Product}
-use Rattle.p3_tree.specs.Folds.{fold_num}
-use Rattle.p3_tree.specs.Refusals.Metric.{Factors, factors_layer, nonlinear}
+use Rattle.p3_task.proofs.FoldLemmas.{fold_num-Product}
+use Rattle.p3_task.specs.Folds.{fold_num}
+use Rattle.p3_task.specs.Refusals.Metric.{Factors, factors_layer, nonlinear}
 use denote.Hole.Carrier.{hidden}
-use Rattle.p3_tree.specs.declared.effect.Numeral.{Numeral}
-use Rattle.p3_tree.specs.declared.term.Ref.{Ref}
-use Rattle.p3_tree.specs.declared.metric.Num.{Num}
-use Rattle.p3_tree.specs.declared.metric.Num.TheBlock.{hidden-the_row-Num-0}
-use Rattle.p3_tree.specs.declared.metric.Num.TheVariants as num
+use Rattle.p3_task.specs.declared.effect.Numeral.{Numeral}
+use Rattle.p3_task.specs.declared.term.Ref.{Ref}
+use Rattle.p3_task.specs.declared.metric.Num.{Num}
+use Rattle.p3_task.specs.declared.metric.Num.TheBlock.{hidden-the_row-Num-0}
+use Rattle.p3_task.specs.declared.metric.Num.TheVariants as num
 use Rattle.p3_metric.specs.Factors.{has_mention, have_two_mentions, first_product, first_product_in}
 use Rattle.p3_metric.proofs.NumLemmas.{fold_num-Sum}
 

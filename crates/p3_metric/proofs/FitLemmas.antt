@@ -7,13 +7,13 @@ use Rattle.std.proofs.lemmas.Grind.{flat_map-append}
 use Rattle.std.proofs.lemmas.List.{map-append}
 use Rattle.std.proofs.lemmas.List.Sums.{fold-append, sum_by-append}
 use denote.Hole.Carrier.{hidden}
-use Rattle.p3_tree.proofs.OnceLemmas.{nil_left, nil_right}
-use Rattle.p3_tree.specs.Metrics.{Quantity, no_counts, quantity}
-use Rattle.p3_tree.specs.Refusals.Metric.{nonlinear}
-use Rattle.p3_tree.specs.declared.metric.Num.{Num}
-use Rattle.p3_tree.specs.declared.metric.Num.TheBlock.{hidden-the_row-Num-0}
-use Rattle.p3_tree.specs.declared.metric.Num.TheVariants as num
-use Rattle.p3_tree.specs.declared.task.Task.{Task}
+use Rattle.p3_task.proofs.OnceLemmas.{nil_left, nil_right}
+use Rattle.p3_task.specs.Metrics.{Quantity, no_counts, quantity}
+use Rattle.p3_task.specs.Refusals.Metric.{nonlinear}
+use Rattle.p3_task.specs.declared.metric.Num.{Num}
+use Rattle.p3_task.specs.declared.metric.Num.TheBlock.{hidden-the_row-Num-0}
+use Rattle.p3_task.specs.declared.metric.Num.TheVariants as num
+use Rattle.p3_task.specs.declared.task.Task.{Task}
 use Rattle.p3_metric.specs.Evaluation.{IsFit}
 use Rattle.p3_metric.specs.Factors.{has_mention, have_two_mentions}
 use Rattle.p3_metric.proofs.EvaluationLemmas.{quantity-Sum, quantity-Product}

@@ -6,16 +6,16 @@ use Rattle.std.proofs.lemmas.Bool.{true≢false}
 use Rattle.std.proofs.lemmas.Int.{ints}
 use Rattle.std.proofs.lemmas.Slice.Eq.{bytes_eq-Decides}
 use mathlib.Core.Former.{Count}
-use Rattle.p3_tree.specs.Folds.{fold_nums}
-use Rattle.p3_tree.specs.Costs.{cost_places}
-use Rattle.p3_tree.specs.Names.{Name, same_name}
-use Rattle.p3_tree.specs.Metrics.{Quantity, no_counts, one_count, quantity, quantity_layer, negated, sum_of, product_of}
-use Rattle.p3_tree.specs.Limits.{constant, coefficient, cost_coefficient}
-use Rattle.p3_tree.specs.Sides.{weight_bound}
-use Rattle.p3_tree.specs.Refusals.Metric.{Mention, Count as CountOf, Cost as CostOf, is_within, is_large, mentions, mentions_layer, mention_coefficient}
-use Rattle.p3_tree.specs.declared.metric.Num.{Num, Row_of-Num, end_of-Num, more_of-Num}
-use Rattle.p3_tree.specs.declared.metric.Num.TheVariants as num
-use Rattle.p3_tree.specs.declared.task.Task.{Task}
+use Rattle.p3_task.specs.Folds.{fold_nums}
+use Rattle.p3_task.specs.Costs.{cost_places}
+use Rattle.p3_task.specs.Names.{Name, same_name}
+use Rattle.p3_task.specs.Metrics.{Quantity, no_counts, one_count, quantity, quantity_layer, negated, sum_of, product_of}
+use Rattle.p3_task.specs.Limits.{constant, coefficient, cost_coefficient}
+use Rattle.p3_task.specs.Sides.{weight_bound}
+use Rattle.p3_task.specs.Refusals.Metric.{Mention, Count as CountOf, Cost as CostOf, is_within, is_large, mentions, mentions_layer, mention_coefficient}
+use Rattle.p3_task.specs.declared.metric.Num.{Num, Row_of-Num, end_of-Num, more_of-Num}
+use Rattle.p3_task.specs.declared.metric.Num.TheVariants as num
+use Rattle.p3_task.specs.declared.task.Task.{Task}
 use Rattle.p3_metric.specs.Entries.{number_at}
 use Rattle.p3_metric.specs.Forms.{plus, times, Part, HasPlaces, IsForm, IsSum, IsScaled, IsSmall, IsLarge, HasSmallCoefficients, combined}
 use Rattle.p3_metric.specs.declared.linear.Linear.{Linear}

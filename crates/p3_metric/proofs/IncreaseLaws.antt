@@ -20,15 +20,15 @@ use Rattle.p3_numbers.specs.declared.effect.NumberedAmount.{NumberedAmount}
 use Rattle.p3_numbers.specs.declared.effect.NumberedEffect.{NumberedEffect}
 use Rattle.p3_numbers.specs.declared.effect.NumberedEffect.TheVariants as numbered
 use Rattle.p3_numbers.specs.declared.numbers.Numbers.{Numbers}
-use Rattle.p3_tree.specs.Costs.{increases, increases_layer}
-use Rattle.p3_tree.specs.Folds.{fold_effects}
-use Rattle.p3_tree.specs.Limits.{greatest_amount}
-use Rattle.p3_tree.specs.Names.{Name, has_name}
-use Rattle.p3_tree.specs.declared.effect.Amount.{Amount}
-use Rattle.p3_tree.specs.declared.effect.Amount.TheVariants as amount
-use Rattle.p3_tree.specs.declared.effect.Effect.{Effect, Row_of-Effect, end_of-Effect, more_of-Effect}
-use Rattle.p3_tree.specs.declared.effect.Effect.TheVariants as effect
-use Rattle.p3_tree.specs.declared.task.Task.{Task}
+use Rattle.p3_task.specs.Costs.{increases, increases_layer}
+use Rattle.p3_task.specs.Folds.{fold_effects}
+use Rattle.p3_task.specs.Limits.{greatest_amount}
+use Rattle.p3_task.specs.Names.{Name, has_name}
+use Rattle.p3_task.specs.declared.effect.Amount.{Amount}
+use Rattle.p3_task.specs.declared.effect.Amount.TheVariants as amount
+use Rattle.p3_task.specs.declared.effect.Effect.{Effect, Row_of-Effect, end_of-Effect, more_of-Effect}
+use Rattle.p3_task.specs.declared.effect.Effect.TheVariants as effect
+use Rattle.p3_task.specs.declared.task.Task.{Task}
 use Rattle.p3_types.specs.Tables.{greatest_value_of}
 use Rattle.p3_metric.specs.Bounds.{greatest_at, greatest_cost, greatest_cost_layer, greatest_increase}
 

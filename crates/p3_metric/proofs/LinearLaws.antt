@@ -8,17 +8,17 @@ use Rattle.std.proofs.lemmas.List.Sums.{sum_by-cons}
 use Rattle.std.proofs.Math.IntN.{*ℤ_comm}
 use Rattle.p3_metric.proofs.IntegerLemmas.{times_sum}
 use mathlib.Core.Former.{Count}
-use Rattle.p3_tree.specs.Folds.{fold_num, fold_nums}
-use Rattle.p3_tree.specs.Names.{Name}
-use Rattle.p3_tree.specs.Metrics.{no_counts}
-use Rattle.p3_tree.proofs.OnceLemmas.{nil_left, nil_right}
-use Rattle.p3_tree.specs.declared.metric.Num.{Num, Row_of-Num, end_of-Num, more_of-Num}
-use Rattle.p3_tree.specs.declared.metric.Num.TheOpen.{Num-F}
-use Rattle.p3_tree.specs.declared.metric.Num.TheVariants as num
-use Rattle.p3_tree.specs.declared.task.Task.{Task}
-use Rattle.p3_tree.specs.Metrics.{Quantity, quantity, quantity_layer, in_units, places_of_sum, sum_of, product_of, negated}
-use Rattle.p3_tree.specs.Costs.{cost_places}
-use Rattle.p3_tree.specs.Refusals.Metric.{Factors, factors_layer, nonlinear}
+use Rattle.p3_task.specs.Folds.{fold_num, fold_nums}
+use Rattle.p3_task.specs.Names.{Name}
+use Rattle.p3_task.specs.Metrics.{no_counts}
+use Rattle.p3_task.proofs.OnceLemmas.{nil_left, nil_right}
+use Rattle.p3_task.specs.declared.metric.Num.{Num, Row_of-Num, end_of-Num, more_of-Num}
+use Rattle.p3_task.specs.declared.metric.Num.TheOpen.{Num-F}
+use Rattle.p3_task.specs.declared.metric.Num.TheVariants as num
+use Rattle.p3_task.specs.declared.task.Task.{Task}
+use Rattle.p3_task.specs.Metrics.{Quantity, quantity, quantity_layer, in_units, places_of_sum, sum_of, product_of, negated}
+use Rattle.p3_task.specs.Costs.{cost_places}
+use Rattle.p3_task.specs.Refusals.Metric.{Factors, factors_layer, nonlinear}
 
 -- ---- linear functions of counts and costs
 

@@ -7,23 +7,23 @@ use Rattle.std.proofs.lemmas.List.{map-append}
 use Rattle.std.proofs.lemmas.List.Folds.{list_any-append}
 use Rattle.std.proofs.lemmas.Slice.Eq.{bytes_eq-Decides}
 use mathlib.Core.Former.{Count}
-use Rattle.p3_tree.specs.Folds.{fold_nums}
-use Rattle.p3_tree.specs.Names.{Name, same_name, has_name}
-use Rattle.p3_tree.specs.Types.{once_each}
-use Rattle.p3_tree.specs.Metrics.{direction}
-use Rattle.p3_tree.specs.Uses.{Objects, init_uses, goal_uses, constraint_uses, num_layer, num_uses, metric_uses, problem_uses}
-use Rattle.p3_tree.specs.Offences.{WellFormed, unless, unknown_words, domain_unknowns, problem_unknowns}
-use Rattle.p3_tree.specs.declared.term.Ref.{Ref}
-use Rattle.p3_tree.specs.declared.metric.Metric.{Metric}
-use Rattle.p3_tree.specs.declared.metric.Num.{Num, Row_of-Num, end_of-Num, more_of-Num}
-use Rattle.p3_tree.specs.declared.metric.Num.TheOpen.{Num-F}
-use Rattle.p3_tree.specs.declared.metric.Num.TheVariants as num
-use Rattle.p3_tree.specs.declared.task.Task.{Task}
-use Rattle.p3_tree.specs.Metrics.{Quantity, quantity, quantity_by, quantity_layer, signed, negated, sum_of, product_of}
-use Rattle.p3_tree.specs.Costs.{cost_places}
-use Rattle.p3_tree.specs.PreferenceNames.{Named, named_in_domain, named_in_problem, preference_names, placed, in_text_order, ordered_names}
+use Rattle.p3_task.specs.Folds.{fold_nums}
+use Rattle.p3_task.specs.Names.{Name, same_name, has_name}
+use Rattle.p3_task.specs.Types.{once_each}
+use Rattle.p3_task.specs.Metrics.{direction}
+use Rattle.p3_task.specs.Uses.{Objects, init_uses, goal_uses, constraint_uses, num_layer, num_uses, metric_uses, problem_uses}
+use Rattle.p3_task.specs.Offences.{WellFormed, unless, unknown_words, domain_unknowns, problem_unknowns}
+use Rattle.p3_task.specs.declared.term.Ref.{Ref}
+use Rattle.p3_task.specs.declared.metric.Metric.{Metric}
+use Rattle.p3_task.specs.declared.metric.Num.{Num, Row_of-Num, end_of-Num, more_of-Num}
+use Rattle.p3_task.specs.declared.metric.Num.TheOpen.{Num-F}
+use Rattle.p3_task.specs.declared.metric.Num.TheVariants as num
+use Rattle.p3_task.specs.declared.task.Task.{Task}
+use Rattle.p3_task.specs.Metrics.{Quantity, quantity, quantity_by, quantity_layer, signed, negated, sum_of, product_of}
+use Rattle.p3_task.specs.Costs.{cost_places}
+use Rattle.p3_task.specs.PreferenceNames.{Named, named_in_domain, named_in_problem, preference_names, placed, in_text_order, ordered_names}
 use Rattle.p3_metric.specs.Weighed.{CountsNames}
-use Rattle.p3_tree.proofs.OnceLemmas.{Has, Some-injective, in_left, in_right, map_at, nil_left, nil_right}
+use Rattle.p3_task.proofs.OnceLemmas.{Has, Some-injective, in_left, in_right, map_at, nil_left, nil_right}
 use Rattle.p3_metric.proofs.LinearLaws.{Counts}
 
 -- ---- the names in text order are all preference names

@@ -5,13 +5,13 @@ use Rattle.std.specs.Option.{option_and_then}
 use Rattle.std.proofs.lemmas.Bool.{ltb-true, ltb-false}
 use Rattle.p3_base.specs.declared.refusal.Role.{Role}
 use Rattle.p3_base.specs.declared.refusal.Side.{Side}
-use Rattle.p3_tree.specs.Costs.{amount_numerals, value_numerals}
-use Rattle.p3_tree.specs.Names.{Name}
-use Rattle.p3_tree.specs.Metrics.{no_counts, metric_places, metric_quantity, quantity, quantity_by}
-use Rattle.p3_tree.specs.Refusals.Metric.{is_dear, least_numeral, nonlinear, nonlinear_at, too_many_places_at}
-use Rattle.p3_tree.specs.Sides.{InProblem, role_of}
-use Rattle.p3_tree.specs.declared.metric.Metric.{Metric}
-use Rattle.p3_tree.specs.declared.task.Task.{Task}
+use Rattle.p3_task.specs.Costs.{amount_numerals, value_numerals}
+use Rattle.p3_task.specs.Names.{Name}
+use Rattle.p3_task.specs.Metrics.{no_counts, metric_places, metric_quantity, quantity, quantity_by}
+use Rattle.p3_task.specs.Refusals.Metric.{is_dear, least_numeral, nonlinear, nonlinear_at, too_many_places_at}
+use Rattle.p3_task.specs.Sides.{InProblem, role_of}
+use Rattle.p3_task.specs.declared.metric.Metric.{Metric}
+use Rattle.p3_task.specs.declared.task.Task.{Task}
 use Rattle.p3_metric.specs.Cut.{cut, cut_places}
 use Rattle.p3_metric.specs.Dear.{dear_in_actions, dear_in_init}
 use Rattle.p3_metric.specs.Evaluation.{IsFit, refused_at}

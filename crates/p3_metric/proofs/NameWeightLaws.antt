@@ -11,17 +11,17 @@ use Rattle.p3_numbers.proofs.PlaceLemmas.{found_name, found_within}
 use Rattle.p3_numbers.specs.Goals.{numbered_name}
 use Rattle.p3_numbers.specs.Places.{number_in}
 use Rattle.p3_numbers.specs.declared.numbers.Numbers.{Numbers}
-use Rattle.p3_tree.proofs.OnceLemmas.{Some-injective}
-use Rattle.p3_tree.specs.Costs.{increases, initial_cost}
-use Rattle.p3_tree.specs.Goals.{StatePref, named, pref_names}
-use Rattle.p3_tree.specs.Limits.{action_prefs, cost_bound, greatest_amount, weight_of, width}
-use Rattle.p3_tree.specs.Metrics.{base_loss, loss_at, no_counts, one_count, weight}
-use Rattle.p3_tree.specs.Names.{Name, has_name, same_name}
-use Rattle.p3_tree.specs.Offences.{WellFormed}
-use Rattle.p3_tree.specs.PreferenceNames.{ordered_names}
-use Rattle.p3_tree.specs.declared.task.Action.{Action}
-use Rattle.p3_tree.specs.declared.task.Task.{Task}
-use Rattle.p3_tree.specs.declared.term.Ref.{Ref}
+use Rattle.p3_task.proofs.OnceLemmas.{Some-injective}
+use Rattle.p3_task.specs.Costs.{increases, initial_cost}
+use Rattle.p3_task.specs.Goals.{StatePref, named, pref_names}
+use Rattle.p3_task.specs.Limits.{action_prefs, cost_bound, greatest_amount, weight_of, width}
+use Rattle.p3_task.specs.Metrics.{base_loss, loss_at, no_counts, one_count, weight}
+use Rattle.p3_task.specs.Names.{Name, has_name, same_name}
+use Rattle.p3_task.specs.Offences.{WellFormed}
+use Rattle.p3_task.specs.PreferenceNames.{ordered_names}
+use Rattle.p3_task.specs.declared.task.Action.{Action}
+use Rattle.p3_task.specs.declared.task.Task.{Task}
+use Rattle.p3_task.specs.declared.term.Ref.{Ref}
 use Rattle.p3_metric.specs.Bounds.{share, weight_at}
 use Rattle.p3_metric.specs.Weighed.{HasWeights}
 use Rattle.p3_metric.specs.declared.measure.Measure.TheVariants.{Width}

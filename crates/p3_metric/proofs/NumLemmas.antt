@@ -2,15 +2,15 @@
 use Rattle.std.proofs.Common.{◌≡◌, ◌∙◌, refl, sym, ap, ℕ, List, [], ◌∷◌, ◌++◌, map}
 use denote.Hole.Carrier.{hidden, shown}
 use mathlib.Core.Former.{Count}
-use Rattle.p3_tree.specs.Folds.{fold_num, fold_nums}
-use Rattle.p3_tree.specs.Refusals.Metric.{Evaluated, order_layer, trees, folds, operations}
-use Rattle.p3_tree.proofs.FoldLemmas.{fold_num-Product}
-use Rattle.p3_tree.specs.declared.effect.Numeral.{Numeral}
-use Rattle.p3_tree.specs.declared.term.Ref.{Ref}
-use Rattle.p3_tree.specs.declared.metric.Num.{Num, Num-F, Row_of-Num, end_of-Num, more_of-Num, roll-Num, roll-out-Num, items-the_row-Num, items_shown-the_row-Num-1, items_hidden-the_row-Num-1}
-use Rattle.p3_tree.specs.declared.metric.Num.TheBlock.{hidden-the_row-Num-0, hidden-the_row-Num-1, shown-the_row-Num-0}
-use Rattle.p3_tree.specs.declared.metric.Num.TheVariants as num
-use Rattle.p3_tree.specs.declared.metric.Num.TheOpen as num_layer
+use Rattle.p3_task.specs.Folds.{fold_num, fold_nums}
+use Rattle.p3_task.specs.Refusals.Metric.{Evaluated, order_layer, trees, folds, operations}
+use Rattle.p3_task.proofs.FoldLemmas.{fold_num-Product}
+use Rattle.p3_task.specs.declared.effect.Numeral.{Numeral}
+use Rattle.p3_task.specs.declared.term.Ref.{Ref}
+use Rattle.p3_task.specs.declared.metric.Num.{Num, Num-F, Row_of-Num, end_of-Num, more_of-Num, roll-Num, roll-out-Num, items-the_row-Num, items_shown-the_row-Num-1, items_hidden-the_row-Num-1}
+use Rattle.p3_task.specs.declared.metric.Num.TheBlock.{hidden-the_row-Num-0, hidden-the_row-Num-1, shown-the_row-Num-0}
+use Rattle.p3_task.specs.declared.metric.Num.TheVariants as num
+use Rattle.p3_task.specs.declared.metric.Num.TheOpen as num_layer
 use Rattle.p3_metric.specs.Operations.{operations_from}
 
 module _ {A : Type 0} (layer : Num-F A → A) where

@@ -5,11 +5,11 @@ use Rattle.std.specs.Option.{option_and_then}
 use Rattle.std.proofs.lemmas.Bool.{ltb-false}
 use Rattle.p3_base.specs.declared.refusal.Refusal.{Refusal}
 use Rattle.p3_base.specs.declared.refusal.Side.{Side}
-use Rattle.p3_tree.specs.Metrics.{metric_places, no_counts, quantity_by}
-use Rattle.p3_tree.specs.Refusals.Metric.{metric_body, metric_refusals, nonlinear_at, too_many_places_at}
-use Rattle.p3_tree.specs.Refusals.Places.{first_some}
-use Rattle.p3_tree.specs.declared.metric.Metric.{Metric}
-use Rattle.p3_tree.specs.declared.task.Task.{Task}
+use Rattle.p3_task.specs.Metrics.{metric_places, no_counts, quantity_by}
+use Rattle.p3_task.specs.Refusals.Metric.{metric_body, metric_refusals, nonlinear_at, too_many_places_at}
+use Rattle.p3_task.specs.Refusals.Places.{first_some}
+use Rattle.p3_task.specs.declared.metric.Metric.{Metric}
+use Rattle.p3_task.specs.declared.task.Task.{Task}
 use Rattle.p3_metric.specs.Cut.{cut, cut_places}
 
 -- without a metric, and with one

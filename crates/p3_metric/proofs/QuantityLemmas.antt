@@ -5,7 +5,7 @@ use Rattle.std.proofs.lemmas.List.{map-append}
 use Rattle.std.proofs.lemmas.List.Sums.{fold-append}
 use Rattle.std.proofs.lemmas.Nat.{pow-add}
 use Rattle.std.proofs.Math.Nat.{le-max_left, le-max_right}
-use Rattle.p3_tree.specs.Metrics.{Quantity, in_units, places_of_sum, sum_of, product_of}
+use Rattle.p3_task.specs.Metrics.{Quantity, in_units, places_of_sum, sum_of, product_of}
 use Rattle.p3_metric.specs.Forms.{plus, times}
 use Rattle.p3_metric.proofs.IntegerLemmas.{sum_times, times_twice}
 

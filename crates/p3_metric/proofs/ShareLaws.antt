@@ -23,16 +23,16 @@ use Rattle.p3_numbers.specs.declared.goal.NumberedGoal.{NumberedGoal}
 use Rattle.p3_numbers.specs.declared.goal.NumberedGoal.TheBlock.{hidden-the_row-NumberedGoal-1}
 use Rattle.p3_numbers.specs.declared.goal.NumberedGoal.TheVariants as numbered
 use Rattle.p3_numbers.specs.declared.numbers.Numbers.{Numbers}
-use Rattle.p3_tree.proofs.PreferenceNameLaws.{prefs-names}
-use Rattle.p3_tree.specs.Bindings.{bind}
-use Rattle.p3_tree.specs.Folds as tree
-use Rattle.p3_tree.specs.Goals.{StatePref, named, prefs, prefs_layer, pref_names}
-use Rattle.p3_tree.specs.Names.{Name}
-use Rattle.p3_tree.specs.States.{Environment}
-use Rattle.p3_tree.specs.declared.goal.PreGoal.{PreGoal, Row_of-PreGoal, end_of-PreGoal, more_of-PreGoal}
-use Rattle.p3_tree.specs.declared.goal.PreGoal.TheVariants as goal
-use Rattle.p3_tree.specs.declared.task.Task.{Task}
-use Rattle.p3_tree.specs.declared.term.Ref.{Ref}
+use Rattle.p3_task.proofs.PreferenceNameLaws.{prefs-names}
+use Rattle.p3_task.specs.Bindings.{bind}
+use Rattle.p3_task.specs.Folds as tree
+use Rattle.p3_task.specs.Goals.{StatePref, named, prefs, prefs_layer, pref_names}
+use Rattle.p3_task.specs.Names.{Name}
+use Rattle.p3_task.specs.States.{Environment}
+use Rattle.p3_task.specs.declared.goal.PreGoal.{PreGoal, Row_of-PreGoal, end_of-PreGoal, more_of-PreGoal}
+use Rattle.p3_task.specs.declared.goal.PreGoal.TheVariants as goal
+use Rattle.p3_task.specs.declared.task.Task.{Task}
+use Rattle.p3_task.specs.declared.term.Ref.{Ref}
 use Rattle.p3_metric.specs.Bounds.{share_of, shares, shares_layer}
 use Rattle.p3_metric.specs.declared.measure.Measure.{Measure}
 

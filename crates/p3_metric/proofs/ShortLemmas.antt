@@ -5,13 +5,13 @@ use Rattle.std.specs.List.{cons_option, list_all}
 use Rattle.std.proofs.lemmas.Bool.{leb-true, ltb-true}
 use Rattle.p3_base.specs.declared.refusal.Side.{Side}
 use Rattle.p3_base.specs.declared.refusal.Side.TheVariants.{Written}
-use Rattle.p3_tree.specs.Costs.{amount_numerals, cost_places, cost_units, entry_value, given_value, value_numeral, value_numerals}
-use Rattle.p3_tree.specs.Names.{same_name, same_names, total_cost}
-use Rattle.p3_tree.specs.States.{meanings}
-use Rattle.p3_tree.specs.declared.effect.Numeral.{Numeral}
-use Rattle.p3_tree.specs.declared.task.Init.{Init}
-use Rattle.p3_tree.specs.declared.task.Init.TheVariants as init
-use Rattle.p3_tree.specs.declared.task.Task.{Task}
+use Rattle.p3_task.specs.Costs.{amount_numerals, cost_places, cost_units, entry_value, given_value, value_numeral, value_numerals}
+use Rattle.p3_task.specs.Names.{same_name, same_names, total_cost}
+use Rattle.p3_task.specs.States.{meanings}
+use Rattle.p3_task.specs.declared.effect.Numeral.{Numeral}
+use Rattle.p3_task.specs.declared.task.Init.{Init}
+use Rattle.p3_task.specs.declared.task.Init.TheVariants as init
+use Rattle.p3_task.specs.declared.task.Task.{Task}
 use Rattle.p3_types.specs.Texts.{has_short_numbers, is_short, metric_numerals}
 use Rattle.p3_metric.specs.Refused.{HasShortStart}
 use Rattle.p3_metric.proofs.EntryLemmas.{both_true}

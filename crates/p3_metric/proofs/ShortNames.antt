@@ -8,22 +8,22 @@ use Rattle.std.proofs.lemmas.List.Sums.{AllPass-from_list_all}
 use mathlib.Core.Former.{Count}
 use Rattle.p3_base.specs.declared.refusal.Side.{Side}
 use Rattle.p3_base.specs.declared.refusal.Side.TheVariants.{Source, Written}
-use Rattle.p3_tree.specs.Expressions.{kept, spelling, spellings}
-use Rattle.p3_tree.specs.Grammar.Effects.{effect_or_empty_place}
-use Rattle.p3_tree.specs.Grammar.Constraints.{constraint_or_empty_place}
-use Rattle.p3_tree.specs.Grammar.Goals.{goal_or_empty_place}
-use Rattle.p3_tree.specs.Grammar.Halves.{Section, action_in, action_keywords, all_actions, body_at, domain_keywords, domain_place, functions_in, half_at, half_in, keyword_parts, kinds_in, no_constraints, optional, part_at, predicates_in, requirements, section_of, section_place, sections_among, sections_named, titled}
-use Rattle.p3_tree.specs.Grammar.Lists.{objects_in, variables_place}
-use Rattle.p3_tree.specs.Grammar.Words.{expressions, is_name, is_word, name_place, parts_place}
-use Rattle.p3_tree.specs.Names.{Name}
-use Rattle.p3_tree.specs.Sides.{byte_limit}
-use Rattle.p3_tree.specs.Tokens.{Token, Open, Close, Word, Tokens, before, is_blank, is_comment_after, is_of_word, prefixed, tokens_from, tokens_of, with_byte}
-use Rattle.p3_tree.specs.declared.effect.Effect.TheVariants as effect
-use Rattle.p3_tree.specs.declared.expression.Expression.{Expression, Row_of-Expression, end_of-Expression, more_of-Expression}
-use Rattle.p3_tree.specs.declared.expression.Expression.TheVariants as expression
-use Rattle.p3_tree.specs.declared.goal.PreGoal.TheVariants as goal
-use Rattle.p3_tree.specs.declared.task.Action.{Action}
-use Rattle.p3_tree.specs.declared.task.Task.{Task}
+use Rattle.p3_task.specs.Expressions.{kept, spelling, spellings}
+use Rattle.p3_task.specs.Grammar.Effects.{effect_or_empty_place}
+use Rattle.p3_task.specs.Grammar.Constraints.{constraint_or_empty_place}
+use Rattle.p3_task.specs.Grammar.Goals.{goal_or_empty_place}
+use Rattle.p3_task.specs.Grammar.Halves.{Section, action_in, action_keywords, all_actions, body_at, domain_keywords, domain_place, functions_in, half_at, half_in, keyword_parts, kinds_in, no_constraints, optional, part_at, predicates_in, requirements, section_of, section_place, sections_among, sections_named, titled}
+use Rattle.p3_task.specs.Grammar.Lists.{objects_in, variables_place}
+use Rattle.p3_task.specs.Grammar.Words.{expressions, is_name, is_word, name_place, parts_place}
+use Rattle.p3_task.specs.Names.{Name}
+use Rattle.p3_task.specs.Sides.{byte_limit}
+use Rattle.p3_task.specs.Tokens.{Token, Open, Close, Word, Tokens, before, is_blank, is_comment_after, is_of_word, prefixed, tokens_from, tokens_of, with_byte}
+use Rattle.p3_task.specs.declared.effect.Effect.TheVariants as effect
+use Rattle.p3_task.specs.declared.expression.Expression.{Expression, Row_of-Expression, end_of-Expression, more_of-Expression}
+use Rattle.p3_task.specs.declared.expression.Expression.TheVariants as expression
+use Rattle.p3_task.specs.declared.goal.PreGoal.TheVariants as goal
+use Rattle.p3_task.specs.declared.task.Action.{Action}
+use Rattle.p3_task.specs.declared.task.Task.{Task}
 use Rattle.p3_types.proofs.Gives.{Gives, nothing, just, using, passing, whether, each_filtered, each_mapped, headed_gives, trees_give}
 use Rattle.p3_types.specs.Texts.{HasTexts}
 use Rattle.p3_metric.specs.Bounds.{HaveShortNames}

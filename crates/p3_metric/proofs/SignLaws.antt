@@ -7,14 +7,14 @@ use Rattle.std.proofs.lemmas.List.Folds.{find-append}
 use Rattle.std.proofs.lemmas.Int.{ints}
 use denote.Hole.Carrier.{hidden}
 use Rattle.p3_base.specs.declared.refusal.Direction.{Direction}
-use Rattle.p3_tree.proofs.FoldLemmas.{fold_num-Product}
-use Rattle.p3_tree.specs.Metrics.{signed}
-use Rattle.p3_tree.specs.Refusals.Metric.{Mention, Count, Cost, mentions, mentions_layer}
-use Rattle.p3_tree.specs.declared.effect.Numeral.{Numeral}
-use Rattle.p3_tree.specs.declared.metric.Num.{Num}
-use Rattle.p3_tree.specs.declared.metric.Num.TheBlock.{hidden-the_row-Num-0}
-use Rattle.p3_tree.specs.declared.metric.Num.TheVariants as num
-use Rattle.p3_tree.specs.declared.term.Ref.{Ref}
+use Rattle.p3_task.proofs.FoldLemmas.{fold_num-Product}
+use Rattle.p3_task.specs.Metrics.{signed}
+use Rattle.p3_task.specs.Refusals.Metric.{Mention, Count, Cost, mentions, mentions_layer}
+use Rattle.p3_task.specs.declared.effect.Numeral.{Numeral}
+use Rattle.p3_task.specs.declared.metric.Num.{Num}
+use Rattle.p3_task.specs.declared.metric.Num.TheBlock.{hidden-the_row-Num-0}
+use Rattle.p3_task.specs.declared.metric.Num.TheVariants as num
+use Rattle.p3_task.specs.declared.term.Ref.{Ref}
 use Rattle.p3_metric.specs.Entries.{number_at}
 use Rattle.p3_metric.specs.Signs.{first_spot, is_negative, negative_spot, negative_spot_in, spot_of}
 use Rattle.p3_metric.specs.declared.linear.Linear.{Linear}

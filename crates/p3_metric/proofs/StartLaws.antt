@@ -4,15 +4,15 @@ use Rattle.std.specs.Prelude.{nat_eq, filter_map, slice_get, option_map, unwrap_
 use Rattle.std.specs.Option.{option_or}
 use Rattle.std.specs.List.{cons_option}
 use Rattle.std.proofs.lemmas.List.Elements.{filter_map-append}
-use Rattle.p3_tree.specs.Costs.{cost_units, entry_value, given_value, initial_cost}
-use Rattle.p3_tree.specs.Names.{same_name, same_names, total_cost}
-use Rattle.p3_tree.specs.States.{meanings}
-use Rattle.p3_tree.specs.declared.effect.Numeral.{Numeral}
-use Rattle.p3_tree.specs.declared.task.Init.{Init}
-use Rattle.p3_tree.specs.declared.task.Init.TheVariants as init
-use Rattle.p3_tree.specs.declared.task.Task.{Task}
-use Rattle.p3_tree.specs.declared.term.Ref.{Ref}
-use Rattle.p3_tree.specs.declared.term.Term.{Term}
+use Rattle.p3_task.specs.Costs.{cost_units, entry_value, given_value, initial_cost}
+use Rattle.p3_task.specs.Names.{same_name, same_names, total_cost}
+use Rattle.p3_task.specs.States.{meanings}
+use Rattle.p3_task.specs.declared.effect.Numeral.{Numeral}
+use Rattle.p3_task.specs.declared.task.Init.{Init}
+use Rattle.p3_task.specs.declared.task.Init.TheVariants as init
+use Rattle.p3_task.specs.declared.task.Task.{Task}
+use Rattle.p3_task.specs.declared.term.Ref.{Ref}
+use Rattle.p3_task.specs.declared.term.Term.{Term}
 use Rattle.p3_types.proofs.CutLaws.{cut-times}
 use Rattle.p3_types.specs.Cuts.{cut}
 use Rattle.p3_metric.specs.Start.{start_in, start_of_entry}

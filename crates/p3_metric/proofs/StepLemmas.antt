@@ -9,17 +9,17 @@ use Rattle.std.proofs.Math.Seq.{drop-cons}
 use denote.Hole.Carrier.{hidden}
 use Rattle.p3_base.specs.declared.refusal.Refusal.{Refusal}
 use Rattle.p3_base.specs.declared.refusal.Role.{Role}
-use Rattle.p3_tree.specs.Costs.{cost_places}
-use Rattle.p3_tree.specs.Names.{Name, same_name}
-use Rattle.p3_tree.specs.Metrics.{Quantity, quantity, negated, sum_of}
-use Rattle.p3_tree.specs.Refusals.Metric.{is_large, is_within, operations}
-use Rattle.p3_tree.specs.Sides.{weight_bound}
-use Rattle.p3_tree.specs.declared.effect.Numeral.{Numeral}
-use Rattle.p3_tree.specs.declared.term.Ref.{Ref}
-use Rattle.p3_tree.specs.declared.metric.Num.{Num}
-use Rattle.p3_tree.specs.declared.metric.Num.TheBlock.{hidden-the_row-Num-0}
-use Rattle.p3_tree.specs.declared.metric.Num.TheVariants as num
-use Rattle.p3_tree.specs.declared.task.Task.{Task}
+use Rattle.p3_task.specs.Costs.{cost_places}
+use Rattle.p3_task.specs.Names.{Name, same_name}
+use Rattle.p3_task.specs.Metrics.{Quantity, quantity, negated, sum_of}
+use Rattle.p3_task.specs.Refusals.Metric.{is_large, is_within, operations}
+use Rattle.p3_task.specs.Sides.{weight_bound}
+use Rattle.p3_task.specs.declared.effect.Numeral.{Numeral}
+use Rattle.p3_task.specs.declared.term.Ref.{Ref}
+use Rattle.p3_task.specs.declared.metric.Num.{Num}
+use Rattle.p3_task.specs.declared.metric.Num.TheBlock.{hidden-the_row-Num-0}
+use Rattle.p3_task.specs.declared.metric.Num.TheVariants as num
+use Rattle.p3_task.specs.declared.task.Task.{Task}
 use Rattle.p3_metric.specs.declared.error.MetricFail.{MetricFail}
 use Rattle.p3_metric.specs.declared.error.MetricFail.TheVariants.{Refused, NoMemory}
 use Rattle.p3_metric.specs.declared.linear.Linear.{Linear}

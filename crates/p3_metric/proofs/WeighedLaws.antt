@@ -9,18 +9,18 @@ use Rattle.std.proofs.lemmas.List.Sums.{sum_by-cons}
 use Rattle.std.proofs.lemmas.Slice.Eq.{bytes_eq-Decides}
 use Rattle.p3_base.specs.declared.refusal.Direction.{Direction}
 use Rattle.p3_base.specs.declared.refusal.Direction.TheVariants.{Minimize, Maximize}
-use Rattle.p3_tree.specs.Names.{Name, same_name}
-use Rattle.p3_tree.specs.Metrics.{no_counts, one_count, direction}
-use Rattle.p3_tree.specs.declared.metric.Metric.{Metric}
-use Rattle.p3_tree.specs.declared.task.Task.{Task}
+use Rattle.p3_task.specs.Names.{Name, same_name}
+use Rattle.p3_task.specs.Metrics.{no_counts, one_count, direction}
+use Rattle.p3_task.specs.declared.metric.Metric.{Metric}
+use Rattle.p3_task.specs.declared.task.Task.{Task}
 use Rattle.p3_formula.specs.declared.target.Weights.{Weights}
-use Rattle.p3_tree.specs.Metrics.{quantity, quantity_by, signed, loss_at, base_loss, weight, cost_weight}
-use Rattle.p3_tree.specs.Costs.{initial_cost}
-use Rattle.p3_tree.specs.Refusals.Metric.{nonlinear}
-use Rattle.p3_tree.specs.PreferenceNames.{ordered_names}
+use Rattle.p3_task.specs.Metrics.{quantity, quantity_by, signed, loss_at, base_loss, weight, cost_weight}
+use Rattle.p3_task.specs.Costs.{initial_cost}
+use Rattle.p3_task.specs.Refusals.Metric.{nonlinear}
+use Rattle.p3_task.specs.PreferenceNames.{ordered_names}
 use Rattle.p3_metric.specs.Weighed.{IsWeights, HasWeights, IsLinearMetric, CountsNames, weighed}
 use Rattle.std.proofs.lemmas.Option.{get_or_from_slice_get}
-use Rattle.p3_tree.proofs.OnceLemmas.{AreOnce, Some-injective, each_once, once_ahead}
+use Rattle.p3_task.proofs.OnceLemmas.{AreOnce, Some-injective, each_once, once_ahead}
 use Rattle.p3_metric.proofs.LinearLaws.{Counts, both, IsAdditive, linear, additive_neg}
 
 ordered_once : (T : Task) → AreOnce (ordered_names T)

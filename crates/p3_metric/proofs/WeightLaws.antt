@@ -12,16 +12,16 @@ use Rattle.p3_base.specs.declared.refusal.Refusal.{Refusal}
 use Rattle.p3_base.specs.declared.refusal.Role.{Role}
 use Rattle.p3_base.specs.declared.refusal.Side.{Side}
 use Rattle.p3_base.specs.declared.refusal.Code.TheVariants.{NegativeWeight}
-use Rattle.p3_tree.proofs.OnceLemmas.{Some-injective}
-use Rattle.p3_tree.specs.Costs.{initial_cost}
-use Rattle.p3_tree.specs.Limits.{coefficient, cost_coefficient}
-use Rattle.p3_tree.specs.Names.{Name}
-use Rattle.p3_tree.specs.Metrics.{base_loss, cost_weight, direction, direction_by, loss_at, metric_quantity, no_counts, one_count, quantity, quantity_by, signed, weight}
-use Rattle.p3_tree.specs.Refusals.Metric.{Mention, Count, Cost, mentions, mention_coefficient, mention_weight, mention_word, negative_at}
-use Rattle.p3_tree.specs.Refusals.Places.{refusal_at, refusal_at_word}
-use Rattle.p3_tree.specs.Sides.{InProblem, role_of}
-use Rattle.p3_tree.specs.declared.metric.Metric.{Metric}
-use Rattle.p3_tree.specs.declared.task.Task.{Task}
+use Rattle.p3_task.proofs.OnceLemmas.{Some-injective}
+use Rattle.p3_task.specs.Costs.{initial_cost}
+use Rattle.p3_task.specs.Limits.{coefficient, cost_coefficient}
+use Rattle.p3_task.specs.Names.{Name}
+use Rattle.p3_task.specs.Metrics.{base_loss, cost_weight, direction, direction_by, loss_at, metric_quantity, no_counts, one_count, quantity, quantity_by, signed, weight}
+use Rattle.p3_task.specs.Refusals.Metric.{Mention, Count, Cost, mentions, mention_coefficient, mention_weight, mention_word, negative_at}
+use Rattle.p3_task.specs.Refusals.Places.{refusal_at, refusal_at_word}
+use Rattle.p3_task.specs.Sides.{InProblem, role_of}
+use Rattle.p3_task.specs.declared.metric.Metric.{Metric}
+use Rattle.p3_task.specs.declared.task.Task.{Task}
 use Rattle.p3_metric.specs.Entries.{number_at}
 use Rattle.p3_metric.specs.Forms.{IsForm}
 use Rattle.p3_metric.specs.Signs.{is_negative, negative_spot, number_of, spot_of}

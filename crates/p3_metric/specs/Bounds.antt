@@ -17,12 +17,12 @@ use Rattle.p3_numbers.specs.declared.goal.NumberedGoal.{NumberedGoal}
 use Rattle.p3_numbers.specs.declared.goal.NumberedGoal.TheOpen as goal
 use Rattle.p3_numbers.specs.declared.numbers.Numbers.{Numbers}
 use Rattle.p3_numbers.specs.declared.task.NumberedAction.{NumberedAction}
-use Rattle.p3_tree.specs.Costs.{cost_units}
-use Rattle.p3_tree.specs.Names.{Name}
-use Rattle.p3_tree.specs.Refusals.Places.{refusal_at_word}
-use Rattle.p3_tree.specs.Sides.{weight_bound, width_limit}
-use Rattle.p3_tree.specs.declared.task.Action.{Action}
-use Rattle.p3_tree.specs.declared.task.Task.{Task}
+use Rattle.p3_task.specs.Costs.{cost_units}
+use Rattle.p3_task.specs.Names.{Name}
+use Rattle.p3_task.specs.Refusals.Places.{refusal_at_word}
+use Rattle.p3_task.specs.Sides.{weight_bound, width_limit}
+use Rattle.p3_task.specs.declared.task.Action.{Action}
+use Rattle.p3_task.specs.declared.task.Task.{Task}
 use Rattle.p3_types.specs.Tables.{greatest_value_of}
 use Rattle.p3_metric.specs.declared.measure.Measure.{Measure}
 use Rattle.p3_metric.specs.declared.measure.Measure.TheVariants.{Cost, Width}

@@ -1,8 +1,8 @@
 -- The decimal places of expressions, cut at the greatest number of 32 bits.
 use Rattle.std.specs.Prelude.{ℕ, min, List, map}
-use Rattle.p3_tree.specs.Metrics.{no_counts, quantity, product_of, sum_of}
-use Rattle.p3_tree.specs.declared.metric.Num.{Num}
-use Rattle.p3_tree.specs.declared.task.Task.{Task}
+use Rattle.p3_task.specs.Metrics.{no_counts, quantity, product_of, sum_of}
+use Rattle.p3_task.specs.declared.metric.Num.{Num}
+use Rattle.p3_task.specs.declared.task.Task.{Task}
 
 abbrev pub cut : ℕ → ℕ
 cut places = min places 4294967295

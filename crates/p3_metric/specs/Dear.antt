@@ -1,13 +1,13 @@
 -- The number of least offset that is too large, of the numbers so far.
 use Rattle.std.specs.Prelude.{nat_lt, Bool, ◌&&◌, List, fold, flat_map, filter_map, if◌then◌else◌, Option, Some, None}
 use Rattle.p3_base.specs.declared.refusal.Side.{Side}
-use Rattle.p3_tree.specs.Costs.{amount_numeral, increases, value_numeral}
-use Rattle.p3_tree.specs.Refusals.Metric.{is_dear}
-use Rattle.p3_tree.specs.declared.effect.Effect.{Effect}
-use Rattle.p3_tree.specs.declared.effect.Numeral.{Numeral}
-use Rattle.p3_tree.specs.declared.task.Action.{Action}
-use Rattle.p3_tree.specs.declared.task.Init.{Init}
-use Rattle.p3_tree.specs.declared.task.Task.{Task}
+use Rattle.p3_task.specs.Costs.{amount_numeral, increases, value_numeral}
+use Rattle.p3_task.specs.Refusals.Metric.{is_dear}
+use Rattle.p3_task.specs.declared.effect.Effect.{Effect}
+use Rattle.p3_task.specs.declared.effect.Numeral.{Numeral}
+use Rattle.p3_task.specs.declared.task.Action.{Action}
+use Rattle.p3_task.specs.declared.task.Init.{Init}
+use Rattle.p3_task.specs.declared.task.Task.{Task}
 
 -- one number more
 abbrev pub nearest : (Numeral → Bool) → Option Numeral → Numeral → Option Numeral

@@ -4,9 +4,9 @@ use Rattle.std.specs.Int.RustNames.{unsigned_abs}
 use denote.Ref.{Bor}
 use Rattle.indexmap.specs.IndexMap.{IndexMap, get}
 use Rattle.p3_metric.specs.declared.entries.Judged.{Judged}
-use Rattle.p3_tree.specs.Names.{Name, same_name}
-use Rattle.p3_tree.specs.Sides.{weight_bound}
-use Rattle.p3_tree.specs.Refusals.Metric.{is_within}
+use Rattle.p3_task.specs.Names.{Name, same_name}
+use Rattle.p3_task.specs.Sides.{weight_bound}
+use Rattle.p3_task.specs.Refusals.Metric.{is_within}
 
 -- any reference to the name
 abbrev pub key : Name → Bor Name

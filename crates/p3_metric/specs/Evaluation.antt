@@ -3,12 +3,12 @@ use Rattle.std.specs.Prelude.{◌≡◌, ◌≤◌, true, List, [], find, Option
 use Rattle.p3_base.specs.declared.refusal.Code.TheVariants.{CostTooLarge}
 use Rattle.p3_base.specs.declared.refusal.Refusal.{Refusal}
 use Rattle.p3_base.specs.declared.refusal.Role.{Role}
-use Rattle.p3_tree.specs.Metrics.{metric_quantity, no_counts, quantity}
-use Rattle.p3_tree.specs.Refusals.Metric.{is_large, is_within, nonlinear, operations, operator}
-use Rattle.p3_tree.specs.Refusals.Places.{refusal_at_word}
-use Rattle.p3_tree.specs.Sides.{weight_bound}
-use Rattle.p3_tree.specs.declared.metric.Num.{Num}
-use Rattle.p3_tree.specs.declared.task.Task.{Task}
+use Rattle.p3_task.specs.Metrics.{metric_quantity, no_counts, quantity}
+use Rattle.p3_task.specs.Refusals.Metric.{is_large, is_within, nonlinear, operations, operator}
+use Rattle.p3_task.specs.Refusals.Places.{refusal_at_word}
+use Rattle.p3_task.specs.Sides.{weight_bound}
+use Rattle.p3_task.specs.declared.metric.Num.{Num}
+use Rattle.p3_task.specs.declared.task.Task.{Task}
 use Rattle.p3_metric.specs.Forms.{IsBounded, IsForm, IsFormOf}
 use Rattle.p3_metric.specs.Operations.{operations_from}
 use Rattle.p3_metric.specs.declared.error.MetricFail.{MetricFail}

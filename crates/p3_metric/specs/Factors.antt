@@ -1,8 +1,8 @@
 -- Which expressions mention a count or the total cost, and where products of two of them stand.
 use Rattle.std.specs.Prelude.{ℕ, nat_lt, Bool, List, count_by, flat_map, slice_get, Option}
-use Rattle.p3_tree.specs.Folds.{fold_num}
-use Rattle.p3_tree.specs.Refusals.Metric.{factors_layer, nonlinear}
-use Rattle.p3_tree.specs.declared.metric.Num.{Num}
+use Rattle.p3_task.specs.Folds.{fold_num}
+use Rattle.p3_task.specs.Refusals.Metric.{factors_layer, nonlinear}
+use Rattle.p3_task.specs.declared.metric.Num.{Num}
 
 -- whether a count or the total cost stands in the expression
 unfoldable pub has_mention : Num → Bool

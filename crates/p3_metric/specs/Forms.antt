@@ -1,12 +1,12 @@
 -- Linear forms: what an expression comes to for all counts and total costs.
 use Rattle.std.specs.Prelude.{◌≡◌, ℕ, ◌+◌, ◌-◌, ◌^◌, ◌<◌, ◌≤◌, ◌⊎◌, max, Bool, true, false, if◌then◌else◌, ◌||◌, ℤ, pos, negsuc, ◌+ℤ◌, ◌-ℤ◌, ◌*ℤ◌}
 use Rattle.std.specs.Int.RustNames.{unsigned_abs}
-use Rattle.p3_tree.specs.Names.{Name, same_name}
-use Rattle.p3_tree.specs.Metrics.{Quantity, in_units, no_counts, one_count, quantity}
-use Rattle.p3_tree.specs.Sides.{weight_bound}
-use Rattle.p3_tree.specs.Refusals.Metric.{is_within}
-use Rattle.p3_tree.specs.declared.metric.Num.{Num}
-use Rattle.p3_tree.specs.declared.task.Task.{Task}
+use Rattle.p3_task.specs.Names.{Name, same_name}
+use Rattle.p3_task.specs.Metrics.{Quantity, in_units, no_counts, one_count, quantity}
+use Rattle.p3_task.specs.Sides.{weight_bound}
+use Rattle.p3_task.specs.Refusals.Metric.{is_within}
+use Rattle.p3_task.specs.declared.metric.Num.{Num}
+use Rattle.p3_task.specs.declared.task.Task.{Task}
 use Rattle.p3_metric.specs.Entries.{AreWithin, IsSomeLarge, number_at}
 use Rattle.p3_metric.specs.Factors.{has_mention}
 use Rattle.p3_metric.specs.declared.linear.Linear.{Linear}

@@ -4,10 +4,10 @@ use Rattle.std.specs.Option.{option_and_then}
 use Rattle.p3_base.specs.declared.refusal.Refusal.{Refusal}
 use Rattle.p3_base.specs.declared.refusal.Side.{Side}
 use Rattle.p3_base.specs.declared.refusal.Side.TheVariants.{Written}
-use Rattle.p3_tree.specs.Costs.{amount_numerals, initial_cost, value_numerals}
-use Rattle.p3_tree.specs.Sides.{InDomain, InProblem}
-use Rattle.p3_tree.specs.Refusals.Metric.{dear_at, large_at, metric_body, negative_at, nonlinear_at, too_many_places_at}
-use Rattle.p3_tree.specs.declared.task.Task.{Task}
+use Rattle.p3_task.specs.Costs.{amount_numerals, initial_cost, value_numerals}
+use Rattle.p3_task.specs.Sides.{InDomain, InProblem}
+use Rattle.p3_task.specs.Refusals.Metric.{dear_at, large_at, metric_body, negative_at, nonlinear_at, too_many_places_at}
+use Rattle.p3_task.specs.declared.task.Task.{Task}
 use Rattle.p3_metric.specs.declared.error.MetricFail.{MetricFail}
 use Rattle.p3_metric.specs.declared.error.MetricFail.TheVariants.{Refused, NoMemory}
 

@@ -1,9 +1,9 @@
 -- Which mentions of a metric have a weight below 0, by the form of the metric.
 use Rattle.std.specs.Prelude.{Bool, ℤ, pos, int_lt, List, length, find, flat_map, Option, option_map}
 use Rattle.p3_base.specs.declared.refusal.Direction.{Direction}
-use Rattle.p3_tree.specs.Metrics.{signed}
-use Rattle.p3_tree.specs.Refusals.Metric.{Mention, Count, Cost, mentions, mention_word}
-use Rattle.p3_tree.specs.declared.metric.Num.{Num}
+use Rattle.p3_task.specs.Metrics.{signed}
+use Rattle.p3_task.specs.Refusals.Metric.{Mention, Count, Cost, mentions, mention_word}
+use Rattle.p3_task.specs.declared.metric.Num.{Num}
 use Rattle.p3_metric.specs.Entries.{number_at}
 use Rattle.p3_metric.specs.declared.linear.Linear.{Linear}
 use Rattle.p3_metric.specs.declared.spot.Spot.{Spot}

@@ -1,10 +1,10 @@
 -- The total cost at the start, as it is found entry by entry, and cut at the greatest number of 64 bits.
 use Rattle.std.specs.Prelude.{ℕ, List, [], filter_map, slice_get, Option, option_map}
 use Rattle.p3_types.specs.Cuts.{cut}
-use Rattle.p3_tree.specs.Costs.{entry_value}
-use Rattle.p3_tree.specs.Names.{total_cost}
-use Rattle.p3_tree.specs.declared.task.Init.{Init}
-use Rattle.p3_tree.specs.declared.task.Task.{Task}
+use Rattle.p3_task.specs.Costs.{entry_value}
+use Rattle.p3_task.specs.Names.{total_cost}
+use Rattle.p3_task.specs.declared.task.Init.{Init}
+use Rattle.p3_task.specs.declared.task.Task.{Task}
 
 -- what an entry gives to the total cost, and the first value that entries give to it
 unfoldable pub start_of_entry : Task → Init → Option ℕ

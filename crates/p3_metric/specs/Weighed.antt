@@ -2,13 +2,13 @@
 use Rattle.std.specs.Prelude.{◌≡◌, ℕ, ◌+◌, ◌*◌, pos, ◌+ℤ◌, List, [], length, slice_index_or, slice_get, sum_by, Some}
 use Rattle.std.specs.List.{range_with_len}
 use Rattle.p3_formula.specs.declared.target.Weights.{Weights}
-use Rattle.p3_tree.specs.Names.{Name}
-use Rattle.p3_tree.specs.Costs.{initial_cost}
-use Rattle.p3_tree.specs.Metrics.{direction, loss_at, base_loss, weight, cost_weight}
-use Rattle.p3_tree.specs.PreferenceNames.{ordered_names}
-use Rattle.p3_tree.specs.Refusals.Metric.{nonlinear}
-use Rattle.p3_tree.specs.declared.metric.Metric.{Metric}
-use Rattle.p3_tree.specs.declared.task.Task.{Task}
+use Rattle.p3_task.specs.Names.{Name}
+use Rattle.p3_task.specs.Costs.{initial_cost}
+use Rattle.p3_task.specs.Metrics.{direction, loss_at, base_loss, weight, cost_weight}
+use Rattle.p3_task.specs.PreferenceNames.{ordered_names}
+use Rattle.p3_task.specs.Refusals.Metric.{nonlinear}
+use Rattle.p3_task.specs.declared.metric.Metric.{Metric}
+use Rattle.p3_task.specs.declared.task.Task.{Task}
 
 -- the weights by their definitions: what one count of each of the names, or one unit of the total cost, adds to the loss
 pub record HasWeightsOf (names : List Name) (T : Task) (w : Weights) : Type 0 where

@@ -1,9 +1,9 @@
 //! The first action that costs too much or is too wide.
 
 ghost use Rattle.std.specs.Prelude.{◌≡◌, ◌<◌, ◌^◌, length};
-ghost use Rattle.p3_tree.specs.Refusals.Counts.{action_refusals};
-ghost use Rattle.p3_tree.specs.Refusals.Places as places;
-ghost use Rattle.p3_tree.specs.Sides.{InDomain, role_of};
+ghost use Rattle.p3_task.specs.Refusals.Counts.{action_refusals};
+ghost use Rattle.p3_task.specs.Refusals.Places as places;
+ghost use Rattle.p3_task.specs.Sides.{InDomain, role_of};
 ghost use Rattle.p3_metric.specs.Bounds as bounds;
 ghost use Rattle.p3_metric.specs.Bounds.{HaveShortNames};
 ghost use Rattle.p3_metric.specs.Weighed.{HasWeights};
@@ -14,7 +14,7 @@ use crate::measure::Measure;
 use p3_base::{Code, Refusal, Role};
 use p3_formula::Weights;
 use p3_numbers::NumberedAction;
-use p3_tree::{Action, Ref};
+use p3_task::{Action, Ref};
 use p3_types::{Checked, cut_product, cut_sum, domain_role, refusal_at};
 
 /// The refusal at a name.

@@ -1,8 +1,8 @@
 //! Amounts and values of too many units.
 
 ghost use Rattle.std.specs.Prelude.{◌≡◌, ◌^◌, ◌-◌, ◌∷◌, [], filter_map};
-ghost use Rattle.p3_tree.specs.Costs.{amount_numeral, value_numeral};
-ghost use Rattle.p3_tree.specs.Refusals.Metric.{is_dear as is_too_dear};
+ghost use Rattle.p3_task.specs.Costs.{amount_numeral, value_numeral};
+ghost use Rattle.p3_task.specs.Refusals.Metric.{is_dear as is_too_dear};
 ghost use Rattle.p3_metric.specs.Dear.{
   dear_in_actions,
   dear_in_effect,
@@ -14,7 +14,7 @@ ghost use Rattle.p3_metric.specs.Dear.{
 
 use crate::evaluate::Evaluator;
 use p3_base::Side;
-use p3_tree::{Action, Amount, Effect, Init, Numeral};
+use p3_task::{Action, Amount, Effect, Init, Numeral};
 
 /// The least digits that are 10 ^ 18 units where the costs have so many more decimal places.
 fn least_dear(more: u32) -> u64

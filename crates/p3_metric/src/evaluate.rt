@@ -2,11 +2,11 @@
 
 ghost use Rattle.std.specs.Prelude.{◌≡◌, ◌≤◌, true, false, IfOk, IfErr, OnOk, OnErr};
 ghost use Rattle.p3_base.specs.declared.refusal.Code.TheVariants.{CostTooLarge};
-ghost use Rattle.p3_tree.specs.Costs.{cost_places as places_of_costs};
-ghost use Rattle.p3_tree.specs.Refusals.Metric.{operations};
-ghost use Rattle.p3_tree.specs.Refusals.Places.{refusal_at};
-ghost use Rattle.p3_tree.specs.Sides.{InProblem, role_of};
-ghost use Rattle.p3_tree.specs.declared.metric.Num.TheVariants as num;
+ghost use Rattle.p3_task.specs.Costs.{cost_places as places_of_costs};
+ghost use Rattle.p3_task.specs.Refusals.Metric.{operations};
+ghost use Rattle.p3_task.specs.Refusals.Places.{refusal_at};
+ghost use Rattle.p3_task.specs.Sides.{InProblem, role_of};
+ghost use Rattle.p3_task.specs.declared.metric.Num.TheVariants as num;
 ghost use Rattle.p3_metric.specs.Evaluation.{IsEvaluated, IsFailure, IsFit};
 ghost use Rattle.p3_metric.specs.Forms.{IsBounded};
 ghost use Rattle.p3_metric.specs.declared.error.MetricFail.TheVariants as fail;
@@ -16,7 +16,7 @@ use crate::leaves::{constant, count, total_cost};
 use crate::linear::{Linear, Measured, minus, negated, plus, product};
 use p3_base::{Code, Pos, Refusal, Role, Side};
 use p3_names::Key;
-use p3_tree::{Num, Numeral, Ref, Task};
+use p3_task::{Num, Numeral, Ref, Task};
 use std::alloc::Global;
 
 /// Evaluates expressions over the counts and the total cost of a task.

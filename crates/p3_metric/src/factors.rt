@@ -10,7 +10,7 @@ ghost use Rattle.p3_metric.specs.Factors.{
   have_two_mentions,
 };
 
-use p3_tree::Num;
+use p3_task::Num;
 
 /// What is found in an expression, or in several.
 #[derive(Clone, Copy)]

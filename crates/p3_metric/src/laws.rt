@@ -3,10 +3,10 @@
 ghost use Rattle.p3_base.specs.declared.refusal.Side.{Side};
 ghost use Rattle.p3_formula.specs.declared.target.Weights.{Weights};
 ghost use Rattle.p3_metric.specs.Weighed.{HasWeights, IsLinearMetric, IsWeights};
-ghost use Rattle.p3_tree.specs.Offences.{WellFormed};
-ghost use Rattle.p3_tree.specs.Refusals.Metric.{metric_refusals};
-ghost use Rattle.p3_tree.specs.Refusals.Places.{first_some};
-ghost use Rattle.p3_tree.specs.declared.task.Task.{Task};
+ghost use Rattle.p3_task.specs.Offences.{WellFormed};
+ghost use Rattle.p3_task.specs.Refusals.Metric.{metric_refusals};
+ghost use Rattle.p3_task.specs.Refusals.Places.{first_some};
+ghost use Rattle.p3_task.specs.declared.task.Task.{Task};
 ghost use Rattle.std.specs.Prelude.{None, ◌≡◌};
 
 /// A metric of which nothing is refused is linear.

@@ -17,8 +17,8 @@ ghost use Rattle.std.specs.Prelude.{
   IfOk,
 };
 ghost use Rattle.std.specs.Int.RustNames.{unsigned_abs};
-ghost use Rattle.p3_tree.specs.Refusals.Metric.{is_within};
-ghost use Rattle.p3_tree.specs.Sides.{weight_bound};
+ghost use Rattle.p3_task.specs.Refusals.Metric.{is_within};
+ghost use Rattle.p3_task.specs.Sides.{weight_bound};
 ghost use Rattle.p3_metric.specs.Entries.{
   AreBelow,
   AreWithin,

@@ -1,8 +1,8 @@
 //! The metric of a checked task.
 
 ghost use Rattle.std.specs.Prelude.{◌≡◌, None, IfOk, IfErr, OnOk};
-ghost use Rattle.p3_tree.specs.Refusals.Metric.{metric_refusals};
-ghost use Rattle.p3_tree.specs.Refusals.Places.{first_some};
+ghost use Rattle.p3_task.specs.Refusals.Metric.{metric_refusals};
+ghost use Rattle.p3_task.specs.Refusals.Places.{first_some};
 ghost use Rattle.p3_names.specs.Keys.{start_of};
 ghost use Rattle.p3_metric.specs.Refused.{IsRefusal};
 ghost use Rattle.p3_metric.specs.Weighed.{HasWeights, IsWeights};

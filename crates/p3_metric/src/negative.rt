@@ -1,15 +1,15 @@
 //! The first mention with a weight below 0.
 
 ghost use Rattle.std.specs.Prelude.{◌≡◌, pos, int_lt, if◌then◌else◌};
-ghost use Rattle.p3_tree.specs.Metrics.{signed};
-ghost use Rattle.p3_tree.specs.declared.metric.Num.TheVariants as num;
+ghost use Rattle.p3_task.specs.Metrics.{signed};
+ghost use Rattle.p3_task.specs.declared.metric.Num.TheVariants as num;
 ghost use Rattle.p3_metric.specs.Signs.{negative_spot, negative_spot_in};
 
 use crate::entries::number_of;
 use crate::linear::Linear;
 use crate::spot::Spot;
 use p3_base::Direction;
-use p3_tree::{Num, Ref};
+use p3_task::{Num, Ref};
 
 /// Whether a number is below 0 in what is to be small.
 #[tactic(auto, using(crate::proofs::SignLaws::is_above))]

@@ -1,14 +1,14 @@
 //! The decimal places of metrics.
 
 ghost use Rattle.std.specs.Prelude.{◌≡◌, ◌≤◌, max, None};
-ghost use Rattle.p3_tree.specs.Costs.{cost_places as places_of_costs};
-ghost use Rattle.p3_tree.specs.Metrics.{metric_places as places_of_metric};
-ghost use Rattle.p3_tree.specs.Refusals.Metric.{metric_refusals};
-ghost use Rattle.p3_tree.specs.Refusals.Places.{first_some};
+ghost use Rattle.p3_task.specs.Costs.{cost_places as places_of_costs};
+ghost use Rattle.p3_task.specs.Metrics.{metric_places as places_of_metric};
+ghost use Rattle.p3_task.specs.Refusals.Metric.{metric_refusals};
+ghost use Rattle.p3_task.specs.Refusals.Places.{first_some};
 ghost use Rattle.p3_metric.specs.Cut.{cut, cut_most, cut_places, cut_total};
 
 use crate::evaluate::Evaluator;
-use p3_tree::{Num, Numeral, Task};
+use p3_task::{Num, Numeral, Task};
 use p3_types::Checked;
 
 /// Counts the decimal places of expressions over the counts and the total cost of a task.

@@ -14,9 +14,9 @@ ghost use Rattle.std.specs.Prelude.{
   if◌then◌else◌,
 };
 ghost use Rattle.p3_base.specs.declared.refusal.Code.TheVariants.{CostTooLarge, NonLinear};
-ghost use Rattle.p3_tree.specs.Refusals.Metric.{nonlinear_at, too_many_places_at};
-ghost use Rattle.p3_tree.specs.Refusals.Places as places;
-ghost use Rattle.p3_tree.specs.Sides.{InDomain, InProblem, role_of};
+ghost use Rattle.p3_task.specs.Refusals.Metric.{nonlinear_at, too_many_places_at};
+ghost use Rattle.p3_task.specs.Refusals.Places as places;
+ghost use Rattle.p3_task.specs.Sides.{InDomain, InProblem, role_of};
 ghost use Rattle.p3_metric.specs.Cut.{cut_places};
 ghost use Rattle.p3_metric.specs.Evaluation.{IsMetricForm, refused_at};
 ghost use Rattle.p3_metric.specs.Refused.{
@@ -36,7 +36,7 @@ use crate::leaves::constant;
 use crate::linear::Linear;
 use crate::words::refusal_at_operator;
 use p3_base::{Code, NoMemory, Refusal, Role};
-use p3_tree::{Num, Numeral};
+use p3_task::{Num, Numeral};
 use p3_types::{domain_role, refusal_at};
 
 /// The decimal places that a metric may have.

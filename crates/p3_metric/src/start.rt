@@ -1,15 +1,15 @@
 //! The total cost at the start.
 
 ghost use Rattle.std.specs.Prelude.{◌≡◌, ◌&&◌, [], if◌then◌else◌};
-ghost use Rattle.p3_tree.specs.Costs.{cost_units, initial_cost};
-ghost use Rattle.p3_tree.specs.Names.{same_name, same_names, total_cost};
-ghost use Rattle.p3_tree.specs.States.{meanings};
+ghost use Rattle.p3_task.specs.Costs.{cost_units, initial_cost};
+ghost use Rattle.p3_task.specs.Names.{same_name, same_names, total_cost};
+ghost use Rattle.p3_task.specs.States.{meanings};
 ghost use Rattle.p3_types.specs.Cuts.{cut};
 ghost use Rattle.p3_metric.specs.Start.{start_in, start_of_entry};
 
 use crate::evaluate::Evaluator;
 use crate::units::units_at;
-use p3_tree::{Init, Numeral, Term};
+use p3_task::{Init, Numeral, Term};
 
 /// Whether the name is that of the total cost.
 fn is_total_cost(name: &[u8]) -> bool

@@ -3,7 +3,7 @@
 ghost use Rattle.std.specs.Prelude.{◌≡◌, ◌*◌, ◌-◌, ◌^◌};
 ghost use Rattle.p3_types.specs.Cuts.{cut};
 
-use p3_tree::Numeral;
+use p3_task::Numeral;
 use p3_types::cut_product;
 
 /// A cost in units of the last of so many decimal places, or `u64::MAX` where it is more.

@@ -17,10 +17,10 @@ ghost use Rattle.std.specs.Prelude.{
 };
 ghost use Rattle.std.specs.Int.RustNames.{unsigned_abs};
 ghost use Rattle.p3_base.specs.declared.refusal.Code.TheVariants.{NegativeWeight};
-ghost use Rattle.p3_tree.specs.Costs.{initial_cost};
-ghost use Rattle.p3_tree.specs.Metrics.{direction as direction_of, signed};
-ghost use Rattle.p3_tree.specs.Refusals.Metric.{metric_refusals};
-ghost use Rattle.p3_tree.specs.Refusals.Places as places;
+ghost use Rattle.p3_task.specs.Costs.{initial_cost};
+ghost use Rattle.p3_task.specs.Metrics.{direction as direction_of, signed};
+ghost use Rattle.p3_task.specs.Refusals.Metric.{metric_refusals};
+ghost use Rattle.p3_task.specs.Refusals.Places as places;
 ghost use Rattle.p3_metric.specs.Entries.{AreBelow, number_at};
 ghost use Rattle.p3_metric.specs.Evaluation.{IsMetricForm};
 ghost use Rattle.p3_metric.specs.Refused.{HasShortStart, IsRefusal, negative_of};

@@ -6,9 +6,9 @@ use Rattle.std.proofs.lemmas.List.Concat.{flat_map-append}
 use Rattle.std.proofs.lemmas.List.Elements.{filter_map-append}
 use Rattle.std.proofs.lemmas.Slice.Eq.{bytes_eq-Decides}
 use denote.Ref.{Bor}
-use Rattle.p3_tree.specs.Names.{Name, same_name}
-use Rattle.p3_tree.specs.Types.{pair_of}
-use Rattle.p3_tree.specs.declared.task.Kind.{Kind}
+use Rattle.p3_task.specs.Names.{Name, same_name}
+use Rattle.p3_task.specs.Types.{pair_of}
+use Rattle.p3_task.specs.declared.task.Kind.{Kind}
 use Rattle.p3_names.specs.Kinds.{lows_under, Lookup, words_in, Files, FilesKind, AreFiled}
 
 -- a longer list stands where one stood, or none

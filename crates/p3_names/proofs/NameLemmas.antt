@@ -10,8 +10,8 @@ use Rattle.std.proofs.lemmas.List.Folds.{list_any-append}
 use Rattle.std.proofs.lemmas.List.Concat.{flat_map-append}
 use Rattle.std.proofs.lemmas.Slice.Eq.{bytes_eq-Decides}
 use Rattle.p3_names.specs.Names.{Adds}
-use Rattle.p3_tree.specs.Names.{Name, same_name, same_names, has_name}
-use Rattle.p3_tree.proofs.MeaningLemmas.{list_any-map}
+use Rattle.p3_task.specs.Names.{Name, same_name, same_names, has_name}
+use Rattle.p3_task.proofs.MeaningLemmas.{list_any-map}
 use Rattle.indexmap.specs.IndexSet.{insert_key}
 
 -- ---- tables of keys, seen as what is read off each

@@ -7,8 +7,8 @@ use Rattle.std.proofs.Math.ListN.{length-set}
 use Rattle.std.proofs.lemmas.List.Elements.{All-nil, All-push, All-weaker, All-contains}
 use Rattle.std.proofs.lemmas.List.Sums.{passes_at_first}
 use Rattle.std.proofs.lemmas.Slice.Eq.{bytes_eq-Decides}
-use Rattle.p3_tree.specs.Names.{Name, same_name}
-use Rattle.p3_tree.specs.Laws.{Chain, none, step}
+use Rattle.p3_task.specs.Names.{Name, same_name}
+use Rattle.p3_task.specs.Laws.{Chain, none, step}
 use Rattle.p3_names.specs.Kinds.{lows_under}
 use Rattle.p3_names.specs.Walks.{kind_at, place_of, no_place, IsAt, IsNext, IsWalked, IsOwn, IsReached, IsSpan, IsTop, IsLesser, IsGreater}
 use denote.Ref.{Bor}
@@ -18,7 +18,7 @@ use Rattle.p3_names.specs.Reaches.{AreReached, AreTops}
 use Rattle.p3_names.specs.Spans.{AreSpans}
 use Rattle.p3_names.specs.declared.reaches.Reach.{Reach}
 use Rattle.p3_names.specs.declared.span.Span.{Span}
-use Rattle.p3_tree.proofs.OnceLemmas.{Some-injective}
+use Rattle.p3_task.proofs.OnceLemmas.{Some-injective}
 use Rattle.p3_names.proofs.SearchLemmas.{low-filed, filed-lows}
 
 pub chained : {pairs : List (Name × Name)} {low middle high : Name} → Chain pairs low middle → Chain pairs middle high → Chain pairs low high

@@ -5,16 +5,16 @@ use Rattle.std.proofs.lemmas.Slice.Eq.{bytes_eq-Decides}
 use Rattle.std.proofs.lemmas.Map.Text.{is_eq-slice_cmp}
 use Rattle.std.specs.Cmp.Lexicographic.{slice_cmp}
 use Rattle.std.specs.Ordering.{is_eq, nat_cmp}
-use Rattle.p3_tree.specs.Names.{Name, same_name}
+use Rattle.p3_task.specs.Names.{Name, same_name}
 use denote.Ref.{Bor}
 use Rattle.std.proofs.lemmas.List.{map-append, length-map}
-use Rattle.p3_tree.specs.declared.term.Typed.{Typed}
-use Rattle.p3_tree.specs.Types.{type_names}
-use Rattle.p3_tree.specs.Uses.{scope_of}
+use Rattle.p3_task.specs.declared.term.Typed.{Typed}
+use Rattle.p3_task.specs.Types.{type_names}
+use Rattle.p3_task.specs.Uses.{scope_of}
 use Rattle.std.specs.Prelude.{reverse, is_some, drop}
 use Rattle.std.specs.List.{list_any}
 use Rattle.std.proofs.lemmas.List.{reverse-append, reverse-reverse, get_or-reverse, take-take, take_more, length-reverse, take_all, take-append-drop, take_at, length-drop, drop-map}
-use Rattle.p3_tree.specs.Slots.{place_after, slot_of, words_of}
+use Rattle.p3_task.specs.Slots.{place_after, slot_of, words_of}
 use Rattle.p3_names.specs.Scopes.{scope_seen, hidden_after, hidden_by, Indexed}
 
 place_after-push : (names : List Name) (last name : Name) (passed : ℕ) (found : Option ℕ)

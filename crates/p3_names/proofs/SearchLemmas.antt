@@ -8,12 +8,12 @@ use Rattle.std.proofs.lemmas.List.Elements.{All-nil, All-head, All-tail, All-pus
 use Rattle.std.proofs.lemmas.List.Folds.{list_all-map, list_any_at}
 use Rattle.std.proofs.lemmas.Map.Views.{list_any-from_Contains, Contains-from_any}
 use Rattle.std.proofs.lemmas.Slice.Eq.{bytes_eq-Decides}
-use Rattle.p3_tree.specs.Names.{Name, same_name, has_name, object_type}
-use Rattle.p3_tree.specs.declared.term.Ref.{Ref}
-use Rattle.p3_tree.specs.Types.{below, type_names, is_below_some}
-use Rattle.p3_tree.specs.declared.task.Task.{Task}
-use Rattle.p3_tree.proofs.MeaningLemmas.{list_any-map}
-use Rattle.p3_tree.proofs.BelowLemmas.{below_is_the_closure}
+use Rattle.p3_task.specs.Names.{Name, same_name, has_name, object_type}
+use Rattle.p3_task.specs.declared.term.Ref.{Ref}
+use Rattle.p3_task.specs.Types.{below, type_names, is_below_some}
+use Rattle.p3_task.specs.declared.task.Task.{Task}
+use Rattle.p3_task.proofs.MeaningLemmas.{list_any-map}
+use Rattle.p3_task.proofs.BelowLemmas.{below_is_the_closure}
 use Rattle.p3_names.specs.Names.{with_name, with_names}
 use Rattle.p3_names.specs.Kinds.{lows_under}
 use Rattle.p3_names.proofs.NameLemmas.{same-swap, or-false}

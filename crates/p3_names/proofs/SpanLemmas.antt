@@ -7,12 +7,12 @@ use borrow.Author.Tests.{ltb-true, ltb-false, not-true, lt-ltb, le-ltb}
 use Rattle.std.proofs.lemmas.List.{take_more, take_all, take-append-le}
 use Rattle.std.proofs.lemmas.List.Elements.{All-nil, All-push, All-get_or, All-weaker, All-contains, All-contains_itself, Contains-append_left, Contains-push, Contains-push_cases}
 use Rattle.std.proofs.lemmas.List.Folds.{Any-from_list_any}
-use Rattle.p3_tree.specs.Names.{Name, has_name, object_type}
-use Rattle.p3_tree.specs.declared.term.Ref.{Ref}
-use Rattle.p3_tree.specs.Types.{declared_pairs, below, type_names, names_of, is_below_some}
-use Rattle.p3_tree.specs.declared.task.Task.{Task}
-use Rattle.p3_tree.proofs.BelowLemmas.{below_is_the_closure}
-use Rattle.p3_tree.specs.Laws.{Chain, none, step}
+use Rattle.p3_task.specs.Names.{Name, has_name, object_type}
+use Rattle.p3_task.specs.declared.term.Ref.{Ref}
+use Rattle.p3_task.specs.Types.{declared_pairs, below, type_names, names_of, is_below_some}
+use Rattle.p3_task.specs.declared.task.Task.{Task}
+use Rattle.p3_task.proofs.BelowLemmas.{below_is_the_closure}
+use Rattle.p3_task.specs.Laws.{Chain, none, step}
 use Rattle.p3_names.specs.Names.{with_names}
 use Rattle.p3_names.specs.Kinds.{lows_under, IsLed}
 use Rattle.p3_names.specs.Walks.{place_of, IsSpan}

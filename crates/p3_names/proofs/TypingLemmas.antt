@@ -8,10 +8,10 @@ use Rattle.std.proofs.lemmas.List.Elements.{All-nil, All-head, All-tail, All-pus
 use Rattle.std.proofs.lemmas.List.Folds.{Any-from_list_any}
 use Rattle.std.proofs.lemmas.Slice.Eq.{bytes_eq-Decides}
 use denote.Ref.{Bor}
-use Rattle.p3_tree.specs.Names.{Name, same_name, has_name, object_type}
-use Rattle.p3_tree.specs.Types.{is_below_some, names_of, type_names}
-use Rattle.p3_tree.specs.declared.term.Ref.{Ref}
-use Rattle.p3_tree.specs.declared.task.Task.{Task}
+use Rattle.p3_task.specs.Names.{Name, same_name, has_name, object_type}
+use Rattle.p3_task.specs.Types.{is_below_some, names_of, type_names}
+use Rattle.p3_task.specs.declared.term.Ref.{Ref}
+use Rattle.p3_task.specs.declared.task.Task.{Task}
 use Rattle.p3_names.specs.Objects.{fits}
 use Rattle.p3_names.specs.Typings.{AreFitting, AreNumbered, FilesNumber, FilesNumbers, IsFitting, Lookup, numbers_in, number_where_fit, numbers_under, typed, typings_of}
 use Rattle.p3_names.specs.declared.declarations.Declaration.{Declaration}

@@ -4,40 +4,40 @@ use Rattle.std.specs.Prelude.{fold, flat_map}
 use Rattle.std.proofs.lemmas.List.{take_more, append-nil, append_assoc, drop_at, length-map}
 use Rattle.std.proofs.lemmas.List.Concat.{flat_map-append}
 use Rattle.std.proofs.lemmas.List.Folds.{flat_map-map}
-use Rattle.p3_tree.proofs.Computes.{trees_compute}
-use Rattle.p3_tree.proofs.FoldLemmas.{fold_num-Product, fold_goal-Both, fold_constraint-Both}
-use Rattle.p3_tree.proofs.ShapeLemmas.{formula_uses-And, formula_uses-Or, effect_uses-All, goal_uses-Both, constraint_uses-Both}
-use Rattle.p3_tree.specs.Names.{total_cost}
-use Rattle.p3_tree.specs.PreferenceNames.{Named, named_at, named_in_goal, named_in_constraint, named_in_domain, goal_names_layer, constraint_names_layer}
-use Rattle.p3_tree.specs.Types.{type_names}
-use Rattle.p3_tree.specs.Uses as uses
-use Rattle.p3_tree.specs.Uses.{Use, Scope, scope_of, Variables, AtomUse, FunctionUse, SideUse, NameUse, formula_uses, effect_uses, amount_uses, goal_uses, modal_uses, constraint_uses, num_uses, metric_uses, action_uses}
-use Rattle.p3_tree.specs.declared.term.Ref.{Ref}
-use Rattle.p3_tree.specs.declared.term.Term.{Term}
-use Rattle.p3_tree.specs.declared.term.Typed.{Typed}
-use Rattle.p3_tree.specs.declared.formula.Formula.{Formula}
-use Rattle.p3_tree.specs.declared.formula.Formula.TheVariants as formula
-use Rattle.p3_tree.specs.declared.effect.Amount.{Amount}
-use Rattle.p3_tree.specs.declared.effect.Amount.TheVariants as amount
-use Rattle.p3_tree.specs.declared.effect.Numeral.{Numeral}
-use Rattle.p3_tree.specs.declared.effect.Effect.{Effect}
-use Rattle.p3_tree.specs.declared.effect.Effect.TheVariants as effect
-use Rattle.p3_tree.specs.declared.goal.Pref.{Pref}
-use Rattle.p3_tree.specs.declared.goal.PreGoal.{PreGoal}
-use Rattle.p3_tree.specs.declared.goal.PreGoal.TheVariants as goal
-use Rattle.p3_tree.specs.Modal.{Modal}
+use Rattle.p3_task.proofs.Computes.{trees_compute}
+use Rattle.p3_task.proofs.FoldLemmas.{fold_num-Product, fold_goal-Both, fold_constraint-Both}
+use Rattle.p3_task.proofs.ShapeLemmas.{formula_uses-And, formula_uses-Or, effect_uses-All, goal_uses-Both, constraint_uses-Both}
+use Rattle.p3_task.specs.Names.{total_cost}
+use Rattle.p3_task.specs.PreferenceNames.{Named, named_at, named_in_goal, named_in_constraint, named_in_domain, goal_names_layer, constraint_names_layer}
+use Rattle.p3_task.specs.Types.{type_names}
+use Rattle.p3_task.specs.Uses as uses
+use Rattle.p3_task.specs.Uses.{Use, Scope, scope_of, Variables, AtomUse, FunctionUse, SideUse, NameUse, formula_uses, effect_uses, amount_uses, goal_uses, modal_uses, constraint_uses, num_uses, metric_uses, action_uses}
+use Rattle.p3_task.specs.declared.term.Ref.{Ref}
+use Rattle.p3_task.specs.declared.term.Term.{Term}
+use Rattle.p3_task.specs.declared.term.Typed.{Typed}
+use Rattle.p3_task.specs.declared.formula.Formula.{Formula}
+use Rattle.p3_task.specs.declared.formula.Formula.TheVariants as formula
+use Rattle.p3_task.specs.declared.effect.Amount.{Amount}
+use Rattle.p3_task.specs.declared.effect.Amount.TheVariants as amount
+use Rattle.p3_task.specs.declared.effect.Numeral.{Numeral}
+use Rattle.p3_task.specs.declared.effect.Effect.{Effect}
+use Rattle.p3_task.specs.declared.effect.Effect.TheVariants as effect
+use Rattle.p3_task.specs.declared.goal.Pref.{Pref}
+use Rattle.p3_task.specs.declared.goal.PreGoal.{PreGoal}
+use Rattle.p3_task.specs.declared.goal.PreGoal.TheVariants as goal
+use Rattle.p3_task.specs.Modal.{Modal}
 use Rattle.p3_base.proofs.OperatorLaws.{joined_binary, joined_unary}
 use Rattle.p3_base.specs.Operators.{binary, unary}
 use Rattle.p3_base.specs.declared.operator.Binary.{Binary}
 use Rattle.p3_base.specs.declared.operator.Unary.{Unary}
-use Rattle.p3_tree.specs.declared.constraint.Constraint.{Constraint}
-use Rattle.p3_tree.specs.declared.constraint.Constraint.TheVariants as constraint
-use Rattle.p3_tree.specs.declared.metric.Metric.{Metric}
-use Rattle.p3_tree.specs.declared.metric.Num.{Num}
-use Rattle.p3_tree.specs.declared.metric.Num.TheVariants as num
-use Rattle.p3_tree.specs.declared.task.Action.{Action}
-use Rattle.p3_tree.specs.declared.task.Domain.{Domain}
-use Rattle.p3_tree.specs.declared.task.Problem.{Problem}
+use Rattle.p3_task.specs.declared.constraint.Constraint.{Constraint}
+use Rattle.p3_task.specs.declared.constraint.Constraint.TheVariants as constraint
+use Rattle.p3_task.specs.declared.metric.Metric.{Metric}
+use Rattle.p3_task.specs.declared.metric.Num.{Num}
+use Rattle.p3_task.specs.declared.metric.Num.TheVariants as num
+use Rattle.p3_task.specs.declared.task.Action.{Action}
+use Rattle.p3_task.specs.declared.task.Domain.{Domain}
+use Rattle.p3_task.specs.declared.task.Problem.{Problem}
 use Rattle.p3_names.specs.Uses.{Seen, nothing, closed, seen_at, visit_step, with_tree, with_variables, behind, uses_of_each, uses_of_action, uses_of_num, uses_of_metric, scope_behind, uses_at, names_at, domain_seen, problem_seen}
 use Rattle.p3_names.specs.declared.uses.Visit.{Visit}
 

@@ -5,13 +5,13 @@ use Rattle.std.specs.Hash.DefaultHasher as sip
 use Rattle.std.specs.Hash.FoldHasher as folding
 use Rattle.std.specs.declared.hash.FoldHasher.{FoldHasher}
 use Rattle.std.specs.declared.hash.DefaultHasher.{DefaultHasher}
-use Rattle.p3_tree.specs.Names.{Name}
-use Rattle.p3_tree.specs.PreferenceNames.{Named}
-use Rattle.p3_tree.specs.States.{meanings}
-use Rattle.p3_tree.specs.Types.{names_of}
-use Rattle.p3_tree.specs.declared.task.Init.{Init}
-use Rattle.p3_tree.specs.declared.task.Init.TheVariants as init
-use Rattle.p3_tree.specs.declared.term.Typed.{Typed}
+use Rattle.p3_task.specs.Names.{Name}
+use Rattle.p3_task.specs.PreferenceNames.{Named}
+use Rattle.p3_task.specs.States.{meanings}
+use Rattle.p3_task.specs.Types.{names_of}
+use Rattle.p3_task.specs.declared.task.Init.{Init}
+use Rattle.p3_task.specs.declared.task.Init.TheVariants as init
+use Rattle.p3_task.specs.declared.term.Typed.{Typed}
 
 -- a word more, and a blank, which no word has
 abbrev pub told_more : DefaultHasher → Name → DefaultHasher

@@ -1,12 +1,12 @@
 -- The types that are declared directly below others, and those that a search finds.
 use Rattle.std.specs.Prelude.{◌≡◌, ℕ, Bool, List, [], ◌∷◌, ◌++◌, map, flat_map, filter_map, if◌then◌else◌, Option, Some, None, Contains}
 use denote.Ref.{Bor}
-use Rattle.p3_tree.specs.Names.{Name, same_name}
-use Rattle.p3_tree.specs.Types.{pair_of, is_below_some}
-use Rattle.p3_tree.specs.declared.term.Ref.{Ref}
-use Rattle.p3_tree.specs.declared.task.Task.{Task}
-use Rattle.p3_tree.specs.Laws.{Chain}
-use Rattle.p3_tree.specs.declared.task.Kind.{Kind}
+use Rattle.p3_task.specs.Names.{Name, same_name}
+use Rattle.p3_task.specs.Types.{pair_of, is_below_some}
+use Rattle.p3_task.specs.declared.term.Ref.{Ref}
+use Rattle.p3_task.specs.declared.task.Task.{Task}
+use Rattle.p3_task.specs.Laws.{Chain}
+use Rattle.p3_task.specs.declared.task.Kind.{Kind}
 
 -- the lower types of those pairs that have this higher one
 abbrev pub lows_under : List (Name × Name) → Name → List Name

@@ -1,7 +1,7 @@
 -- Tables of names, each name once.
 use Rattle.std.specs.Prelude.{◌≡◌, ◌||◌, List, [], ◌∷◌, ◌++◌, fold, if◌then◌else◌}
 use Rattle.std.specs.List.{list_any}
-use Rattle.p3_tree.specs.Names.{Name, same_names, has_name}
+use Rattle.p3_task.specs.Names.{Name, same_names, has_name}
 
 -- the new table has the names of the old one and those that are added
 abbrev pub Adds : List Name → List Name → List Name → Type 0

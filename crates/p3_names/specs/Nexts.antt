@@ -1,6 +1,6 @@
 -- Types that are to be visited.
 use Rattle.std.specs.Prelude.{List, All}
-use Rattle.p3_tree.specs.Names.{Name}
+use Rattle.p3_task.specs.Names.{Name}
 use Rattle.p3_names.specs.Walks.{IsNext}
 use Rattle.p3_names.specs.declared.walk.Next.{Next}
 

@@ -1,6 +1,6 @@
 -- The names of preferences that a walk came to.
 use Rattle.std.specs.Prelude.{List, map}
-use Rattle.p3_tree.specs.PreferenceNames as tree
+use Rattle.p3_task.specs.PreferenceNames as tree
 use Rattle.p3_names.specs.declared.preferences.Named.{Named}
 
 abbrev pub named_word : Named → tree.Named

@@ -1,6 +1,6 @@
 -- What a walk reached from each type, in lists.
 use Rattle.std.specs.Prelude.{◌≡◌, ℕ, ◌<◌, ◌≤◌, List, length, slice_index_or}
-use Rattle.p3_tree.specs.Names.{Name}
+use Rattle.p3_task.specs.Names.{Name}
 use Rattle.p3_names.specs.Walks.{IsReached, IsTop}
 use Rattle.p3_names.specs.declared.reaches.Reach.{Reach}
 

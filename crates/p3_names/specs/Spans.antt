@@ -1,8 +1,8 @@
 -- Types that stand together in a row.
 use Rattle.std.specs.Prelude.{◌≡◌, ℕ, Bool, true, ◌&&◌, ◌||◌, ◌⊎◌, nat_lt, not, List, [], ◌∷◌, ◌++◌, take, slice_get, Option, Some, All, Contains}
 use Rattle.std.specs.List.{list_any}
-use Rattle.p3_tree.specs.Names.{Name, has_name}
-use Rattle.p3_tree.specs.Laws.{Chain}
+use Rattle.p3_task.specs.Names.{Name, has_name}
+use Rattle.p3_task.specs.Laws.{Chain}
 use Rattle.p3_names.specs.Names.{with_names}
 use Rattle.p3_names.specs.Kinds.{IsLed, lows_under}
 use Rattle.p3_names.specs.Walks.{IsSpan, place_of}

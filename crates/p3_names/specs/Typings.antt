@@ -1,10 +1,10 @@
 -- The numbers of declarations, by the types that these name.
 use Rattle.std.specs.Prelude.{◌≡◌, ℕ, true, List, [], ◌∷◌, ◌++◌, flat_map, if◌then◌else◌, Option, Some, None, All, Contains}
 use denote.Ref.{Bor}
-use Rattle.p3_tree.specs.Names.{Name, same_name}
-use Rattle.p3_tree.specs.Types.{type_names}
-use Rattle.p3_tree.specs.declared.term.Ref.{Ref}
-use Rattle.p3_tree.specs.declared.task.Task.{Task}
+use Rattle.p3_task.specs.Names.{Name, same_name}
+use Rattle.p3_task.specs.Types.{type_names}
+use Rattle.p3_task.specs.declared.term.Ref.{Ref}
+use Rattle.p3_task.specs.declared.task.Task.{Task}
 use Rattle.p3_names.specs.Objects.{fits}
 use Rattle.p3_names.specs.declared.declarations.Declaration.{Declaration}
 

@@ -1,14 +1,14 @@
 -- What a walk over trees comes to: the uses of names, each in its scope, and the names of preferences.
 use Rattle.std.specs.Prelude.{ℕ, List, [], ◌∷◌, ◌++◌, drop, flat_map, fold, Option}
-use Rattle.p3_tree.specs.Names.{total_cost}
-use Rattle.p3_tree.specs.PreferenceNames.{Named, named_in_domain, named_in_goal, named_in_constraint}
-use Rattle.p3_tree.specs.Uses.{Scope, Use, scope_of, goal_uses, effect_uses, constraint_uses, num_uses, metric_uses, action_uses, Variables, AtomUse, FunctionUse, SideUse, NameUse}
-use Rattle.p3_tree.specs.declared.metric.Metric.{Metric}
-use Rattle.p3_tree.specs.declared.metric.Num.{Num}
-use Rattle.p3_tree.specs.declared.task.Action.{Action}
-use Rattle.p3_tree.specs.declared.task.Domain.{Domain}
-use Rattle.p3_tree.specs.declared.task.Problem.{Problem}
-use Rattle.p3_tree.specs.declared.term.Typed.{Typed}
+use Rattle.p3_task.specs.Names.{total_cost}
+use Rattle.p3_task.specs.PreferenceNames.{Named, named_in_domain, named_in_goal, named_in_constraint}
+use Rattle.p3_task.specs.Uses.{Scope, Use, scope_of, goal_uses, effect_uses, constraint_uses, num_uses, metric_uses, action_uses, Variables, AtomUse, FunctionUse, SideUse, NameUse}
+use Rattle.p3_task.specs.declared.metric.Metric.{Metric}
+use Rattle.p3_task.specs.declared.metric.Num.{Num}
+use Rattle.p3_task.specs.declared.task.Action.{Action}
+use Rattle.p3_task.specs.declared.task.Domain.{Domain}
+use Rattle.p3_task.specs.declared.task.Problem.{Problem}
+use Rattle.p3_task.specs.declared.term.Typed.{Typed}
 use Rattle.p3_names.specs.declared.uses.Visit.{Visit}
 use Rattle.p3_names.specs.declared.uses.Visit.TheVariants as visit
 

@@ -1,8 +1,8 @@
 -- Types in the order of a walk down, and which places are below one of them.
 use Rattle.std.specs.Prelude.{◌≡◌, ℕ, ◌<◌, ◌≤◌, ◌⊎◌, List, [], length, slice_index_or, All, Contains}
 use Rattle.std.specs.List.{position_or_len}
-use Rattle.p3_tree.specs.Names.{Name, same_name}
-use Rattle.p3_tree.specs.Laws.{Chain}
+use Rattle.p3_task.specs.Names.{Name, same_name}
+use Rattle.p3_task.specs.Laws.{Chain}
 
 abbrev pub kind_at : List Name → ℕ → Name
 kind_at names place = slice_index_or names place []

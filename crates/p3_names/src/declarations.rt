@@ -2,14 +2,14 @@
 
 ghost use Rattle.std.specs.Prelude.{◌≡◌, ◌++◌, [], false, bytes_eq, flat_map, length, IfOk, OnOk};
 ghost use Rattle.std.specs.HashMap.{get};
-ghost use Rattle.p3_tree.specs.Names.{object_type};
-ghost use Rattle.p3_tree.specs.Types.{names_of, type_names};
+ghost use Rattle.p3_task.specs.Names.{object_type};
+ghost use Rattle.p3_task.specs.Types.{names_of, type_names};
 ghost use Rattle.p3_names.specs.Typings.{AreFitting, AreNumbered, FilesNumber, FilesNumbers, number_where_fit, numbers_under, typed, typings_of};
 
 use crate::digests::declaration_key;
 use crate::{Below, Key};
 use p3_base::{List, NoMemory};
-use p3_tree::{Ref, Typed};
+use p3_task::{Ref, Typed};
 use std::alloc::Global;
 use std::collections::HashMap;
 

@@ -2,14 +2,14 @@
 
 ghost use Rattle.std.specs.Prelude.{◌≡◌, [], ◌++◌, flat_map, map};
 ghost use Rattle.std.specs.Hash.DefaultHasher as sip;
-ghost use Rattle.p3_tree.specs.Offences.{kind_names};
-ghost use Rattle.p3_tree.specs.States.{meaning, meanings};
-ghost use Rattle.p3_tree.specs.Types.{declared_objects, names_of};
+ghost use Rattle.p3_task.specs.Offences.{kind_names};
+ghost use Rattle.p3_task.specs.States.{meaning, meanings};
+ghost use Rattle.p3_task.specs.Types.{declared_objects, names_of};
 ghost use Rattle.p3_names.specs.Keys.{parameter_types, start_of, told_all, told_more, value_words};
 
 use crate::{Declaration, Digest, Key};
 use p3_base::Name;
-use p3_tree::{Header, Init, Kind, Ref, Task, Term, Typed};
+use p3_task::{Header, Init, Kind, Ref, Task, Term, Typed};
 
 /// A type and its parent are told.
 fn tell_kind(digest: &mut Digest, kind: &Kind)

@@ -2,10 +2,10 @@
 
 ghost use Rattle.std.specs.Prelude.{◌≡◌, map};
 ghost use Rattle.std.specs.Hash.DefaultHasher as sip;
-ghost use Rattle.p3_tree.specs.Types.{names_of};
+ghost use Rattle.p3_task.specs.Types.{names_of};
 ghost use Rattle.p3_names.specs.Keys.{start_after, told_all, told_more, told_number, told_numbers};
 
-use p3_tree::{Ref, Typed};
+use p3_task::{Ref, Typed};
 use std::hash::{BuildHasher, DefaultHasher, FoldHasher, Hasher};
 
 /// What hashes the names of a table, by a key that those names make together.

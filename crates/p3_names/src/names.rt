@@ -2,7 +2,7 @@
 
 ghost use Rattle.std.specs.Prelude.{◌≡◌, [], ◌∷◌, length, position, OnOk, OnErr, IfOk};
 ghost use Rattle.std.specs.List.{position_or_len};
-ghost use Rattle.p3_tree.specs.Names.{same_name, has_name};
+ghost use Rattle.p3_task.specs.Names.{same_name, has_name};
 ghost use Rattle.p3_names.specs.Names.{Adds, with_name};
 
 use crate::Key;

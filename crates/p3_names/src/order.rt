@@ -1,8 +1,8 @@
 //! Types in a row in which those below one of them mostly stand together.
 
 ghost use Rattle.std.specs.Prelude.{◌≡◌, ◌≤◌, ◌<◌, ℕ, List, Some, filter_map, length, slice_get, slice_index_or, IfOk, IfSome};
-ghost use Rattle.p3_tree.specs.Names.{Name};
-ghost use Rattle.p3_tree.specs.Types.{pair_of};
+ghost use Rattle.p3_task.specs.Names.{Name};
+ghost use Rattle.p3_task.specs.Types.{pair_of};
 ghost use Rattle.p3_names.specs.Walks.{IsSpan, IsTop, place_of};
 ghost use Rattle.p3_names.specs.Reaches.{AreReached, AreTops};
 ghost use Rattle.p3_names.specs.Spans.{AreSpans};
@@ -12,7 +12,7 @@ use crate::span::Span;
 use crate::walk::{Filed, Walk, walked};
 use crate::words::Words;
 use p3_base::NoMemory;
-use p3_tree::Kind;
+use p3_task::Kind;
 use std::alloc::Global;
 
 /// The earliest place that is known of a type below the one at the place.

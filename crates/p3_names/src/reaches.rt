@@ -1,8 +1,8 @@
 //! What a walk down reached from each type.
 
 ghost use Rattle.std.specs.Prelude.{◌≡◌, ◌<◌, ◌≤◌, ◌+◌, ◌^◌, List, [], true, map, filter_map, length, slice_index_or, All, Contains, IfOk};
-ghost use Rattle.p3_tree.specs.Names.{Name};
-ghost use Rattle.p3_tree.specs.Types.{pair_of};
+ghost use Rattle.p3_task.specs.Names.{Name};
+ghost use Rattle.p3_task.specs.Types.{pair_of};
 ghost use Rattle.p3_names.specs.Kinds.{lows_under};
 ghost use Rattle.p3_names.specs.Walks.{IsGreater, IsLesser, IsOwn, IsReached, IsWalked, kind_at};
 ghost use Rattle.p3_names.specs.Reaches.{AreReached};

@@ -1,12 +1,12 @@
 //! The variables in scope, found in the order of their names.
 
 ghost use Rattle.std.specs.Prelude.{◌≡◌, ◌<◌, ◌-◌, ◌++◌, ◌∷◌, [], length, take, drop, reverse, slice_get, Some, OnOk, OnErr};
-ghost use Rattle.p3_tree.specs.Uses.{scope_of};
-ghost use Rattle.p3_tree.specs.Slots.{slot_of, words_of};
+ghost use Rattle.p3_task.specs.Uses.{scope_of};
+ghost use Rattle.p3_task.specs.Slots.{slot_of, words_of};
 ghost use Rattle.p3_names.specs.Scopes.{scope_seen};
 
 use p3_base::{Name, NoMemory};
-use p3_tree::Typed;
+use p3_task::Typed;
 use std::alloc::Global;
 use std::collections::BTreeMap;
 use std::marker::Model;
@@ -33,7 +33,7 @@ impl<'t> Model for Scope<'t> {
     ghost use Rattle.std.specs.BTreeMap.{get};
     ghost use Rattle.std.specs.Cmp.Lexicographic.{slice_cmp};
     ghost use Rattle.std.specs.Ordering.{nat_cmp};
-    ghost use Rattle.p3_tree.specs.declared.term.Typed.{Typed};
+    ghost use Rattle.p3_task.specs.declared.term.Typed.{Typed};
     ghost use Rattle.p3_names.specs.Scopes.{Indexed};
 
     ghost Value = { List Typed };

@@ -2,14 +2,14 @@
 
 ghost use Rattle.std.specs.Prelude.{◌≡◌, [], map, take, length, IfOk, OnOk, OnErr};
 ghost use Rattle.std.specs.List.{position_or_len};
-ghost use Rattle.p3_tree.specs.Names.{same_names};
-ghost use Rattle.p3_tree.specs.Types.{names_of};
+ghost use Rattle.p3_task.specs.Names.{same_names};
+ghost use Rattle.p3_task.specs.Types.{names_of};
 ghost use Rattle.p3_names.specs.Names.{with_list};
 
 use crate::Key;
 use indexmap::IndexSet;
 use p3_base::NoMemory;
-use p3_tree::Ref;
+use p3_task::Ref;
 use std::alloc::Global;
 use std::marker::Model;
 

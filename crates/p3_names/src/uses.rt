@@ -1,21 +1,18 @@
 //! One walk over trees, for all that has to be known of the names that are used in them.
 
 ghost use Rattle.std.specs.Prelude.{◌≡◌, ◌∷◌, [], flat_map, length, OnOk, IfOk};
-ghost use Rattle.p3_tree.specs.Names.{total_cost};
-ghost use Rattle.p3_tree.specs.PreferenceNames.{named_at, named_in_goal, named_in_constraint};
-ghost use Rattle.p3_tree.specs.Uses.{AtomUse, FunctionUse, SideUse, NameUse};
-ghost use Rattle.p3_tree.specs.Uses.{formula_uses, effect_uses, amount_uses, goal_uses};
-ghost use Rattle.p3_tree.specs.Uses.{modal_uses, constraint_uses};
+ghost use Rattle.p3_task.specs.Names.{total_cost};
+ghost use Rattle.p3_task.specs.PreferenceNames.{named_at, named_in_goal, named_in_constraint};
+ghost use Rattle.p3_task.specs.Uses.{AtomUse, FunctionUse, SideUse, NameUse};
+ghost use Rattle.p3_task.specs.Uses.{formula_uses, effect_uses, amount_uses, goal_uses};
+ghost use Rattle.p3_task.specs.Uses.{modal_uses, constraint_uses};
 ghost use Rattle.p3_names.specs.Uses.{nothing, closed, seen_at, visit_step};
 ghost use Rattle.p3_names.specs.Uses.{uses_of_each, uses_of_action, uses_of_num, uses_of_metric};
 ghost use Rattle.p3_names.specs.Uses.{with_tree, with_variables, behind};
 ghost use Rattle.p3_names.specs.Uses.{domain_seen, problem_seen};
 
 use p3_base::{Name, NoMemory, Operands};
-use p3_tree::{
-    Action, Amount, Constraint, Domain, Effect, Formula, Metric, Modal, Num, PreGoal, Problem, Ref,
-    Term, Typed,
-};
+use p3_task::{Action, Amount, Constraint, Domain, Effect, Formula, Metric, Modal, Num, PreGoal, Problem, Ref, Term, Typed};
 use std::alloc::Global;
 use std::marker::Model;
 

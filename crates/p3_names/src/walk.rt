@@ -2,16 +2,16 @@
 
 ghost use Rattle.std.specs.Prelude.{List, filter_map, bytes_eq, All, IfOk, OnOk};
 ghost use Rattle.std.specs.HashMap.{get};
-ghost use Rattle.p3_tree.specs.Types.{pair_of};
+ghost use Rattle.p3_task.specs.Types.{pair_of};
 ghost use Rattle.p3_names.specs.Kinds.{AreFiled};
 ghost use Rattle.p3_names.specs.Walks.{IsAt, IsWalked, IsNext};
-ghost use Rattle.p3_tree.specs.Names.{Name};
+ghost use Rattle.p3_task.specs.Names.{Name};
 ghost use Rattle.p3_names.specs.Nexts.{AreNext};
 
 use crate::Key;
 use crate::words::Words;
 use p3_base::{List, NoMemory};
-use p3_tree::Kind;
+use p3_task::Kind;
 use std::alloc::Global;
 use std::collections::HashMap;
 

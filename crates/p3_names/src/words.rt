@@ -1,7 +1,7 @@
 //! Words of a task, each once, which are not copied.
 
 ghost use Rattle.std.specs.Prelude.{◌≡◌, ◌<◌, [], Some, length, map, slice_get, OnOk};
-ghost use Rattle.p3_tree.specs.Names.{has_name};
+ghost use Rattle.p3_task.specs.Names.{has_name};
 ghost use Rattle.p3_names.specs.Names.{with_name, with_names};
 ghost use Rattle.p3_names.specs.Walks.{place_of};
 

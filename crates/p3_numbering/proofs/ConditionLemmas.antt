@@ -1,13 +1,13 @@
 -- The condition that a formula becomes, form by form.
 use Rattle.std.proofs.Common.{◌≡◌, ◌∙◌, List, ◌++◌, map, refl, ap}
 use Rattle.std.proofs.lemmas.Simd.{map-map}
-use Rattle.p3_tree.proofs.Computes.{trees_compute}
-use Rattle.p3_tree.proofs.FoldLemmas.{fold_formula-And, fold_formula-Or}
-use Rattle.p3_tree.specs.declared.formula.Formula.{Formula}
-use Rattle.p3_tree.specs.declared.formula.Formula.TheVariants as formula
-use Rattle.p3_tree.specs.declared.term.Ref.{Ref}
-use Rattle.p3_tree.specs.declared.term.Term.{Term}
-use Rattle.p3_tree.specs.declared.term.Typed.{Typed}
+use Rattle.p3_task.proofs.Computes.{trees_compute}
+use Rattle.p3_task.proofs.FoldLemmas.{fold_formula-And, fold_formula-Or}
+use Rattle.p3_task.specs.declared.formula.Formula.{Formula}
+use Rattle.p3_task.specs.declared.formula.Formula.TheVariants as formula
+use Rattle.p3_task.specs.declared.term.Ref.{Ref}
+use Rattle.p3_task.specs.declared.term.Term.{Term}
+use Rattle.p3_task.specs.declared.term.Typed.{Typed}
 use Rattle.p3_numbers.specs.Conditions.{condition_of, condition_layer}
 use Rattle.p3_numbers.specs.Places.{Variables, number_in, numbered_term, numbered_terms, ranges_of, words_of}
 use Rattle.p3_numbers.specs.declared.condition.NumberedCondition.TheVariants as condition

@@ -1,13 +1,13 @@
 -- The numbered constraint that a constraint becomes, form by form.
 use Rattle.std.proofs.Common.{◌≡◌, ◌∙◌, ℕ, Option, List, ◌++◌, map, refl, ap}
 use Rattle.std.proofs.lemmas.Simd.{map-map}
-use Rattle.p3_tree.proofs.Computes.{trees_compute}
-use Rattle.p3_tree.proofs.FoldLemmas.{fold_constraint-Both}
-use Rattle.p3_tree.specs.Modal.{Modal}
-use Rattle.p3_tree.specs.declared.constraint.Constraint.{Constraint}
-use Rattle.p3_tree.specs.declared.constraint.Constraint.TheVariants as constraint
-use Rattle.p3_tree.specs.declared.term.Ref.{Ref}
-use Rattle.p3_tree.specs.declared.term.Typed.{Typed}
+use Rattle.p3_task.proofs.Computes.{trees_compute}
+use Rattle.p3_task.proofs.FoldLemmas.{fold_constraint-Both}
+use Rattle.p3_task.specs.Modal.{Modal}
+use Rattle.p3_task.specs.declared.constraint.Constraint.{Constraint}
+use Rattle.p3_task.specs.declared.constraint.Constraint.TheVariants as constraint
+use Rattle.p3_task.specs.declared.term.Ref.{Ref}
+use Rattle.p3_task.specs.declared.term.Typed.{Typed}
 use Rattle.p3_numbers.specs.Constraints.{modal_of, constraint_of, constraint_layer}
 use Rattle.p3_numbers.specs.Goals.{numbered_name}
 use Rattle.p3_numbers.specs.Places.{Variables, ranges_of, words_of}

@@ -18,16 +18,16 @@ use Rattle.p3_numbers.specs.Starts.{start_of, initial_values_of}
 use Rattle.p3_numbers.specs.Tasks.{HasNames, IsNumberedTask, header_names, numbered_action, object_words}
 use Rattle.p3_numbers.specs.declared.task.NumberedTask.{NumberedTask}
 use Rattle.p3_numbers.specs.declared.numbers.Numbers.{Numbers}
-use Rattle.p3_tree.proofs.MeaningLemmas.{list_any-map}
-use Rattle.p3_tree.specs.Names.{Name, same_name, same_names, has_name}
-use Rattle.p3_tree.specs.Offences.{is_declared}
-use Rattle.p3_tree.specs.PreferenceNames.{Named, placed, in_text_order, named_in_domain, named_in_problem, preference_names, ordered_names}
-use Rattle.p3_tree.specs.Types.{names_of, once_each, declared_objects}
-use Rattle.p3_tree.specs.Uses.{Use, Objects, Variables, AtomUse, FunctionUse, SideUse, NameUse}
-use Rattle.p3_tree.specs.declared.task.Header.{Header}
-use Rattle.p3_tree.specs.declared.task.Task.{Task}
-use Rattle.p3_tree.specs.declared.term.Ref.{Ref}
-use Rattle.p3_tree.specs.declared.term.Typed.{Typed}
+use Rattle.p3_task.proofs.MeaningLemmas.{list_any-map}
+use Rattle.p3_task.specs.Names.{Name, same_name, same_names, has_name}
+use Rattle.p3_task.specs.Offences.{is_declared}
+use Rattle.p3_task.specs.PreferenceNames.{Named, placed, in_text_order, named_in_domain, named_in_problem, preference_names, ordered_names}
+use Rattle.p3_task.specs.Types.{names_of, once_each, declared_objects}
+use Rattle.p3_task.specs.Uses.{Use, Objects, Variables, AtomUse, FunctionUse, SideUse, NameUse}
+use Rattle.p3_task.specs.declared.task.Header.{Header}
+use Rattle.p3_task.specs.declared.task.Task.{Task}
+use Rattle.p3_task.specs.declared.term.Ref.{Ref}
+use Rattle.p3_task.specs.declared.term.Typed.{Typed}
 
 -- ---- names
 

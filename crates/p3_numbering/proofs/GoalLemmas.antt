@@ -1,13 +1,13 @@
 -- The numbered goal that a precondition or a goal becomes, form by form.
 use Rattle.std.proofs.Common.{◌≡◌, ◌∙◌, List, ◌++◌, map, refl, ap}
 use Rattle.std.proofs.lemmas.Simd.{map-map}
-use Rattle.p3_tree.proofs.Computes.{trees_compute}
-use Rattle.p3_tree.proofs.FoldLemmas.{fold_goal-Both}
-use Rattle.p3_tree.specs.declared.formula.Formula.{Formula}
-use Rattle.p3_tree.specs.declared.goal.Pref.{Pref}
-use Rattle.p3_tree.specs.declared.goal.PreGoal.{PreGoal}
-use Rattle.p3_tree.specs.declared.goal.PreGoal.TheVariants as pregoal
-use Rattle.p3_tree.specs.declared.term.Typed.{Typed}
+use Rattle.p3_task.proofs.Computes.{trees_compute}
+use Rattle.p3_task.proofs.FoldLemmas.{fold_goal-Both}
+use Rattle.p3_task.specs.declared.formula.Formula.{Formula}
+use Rattle.p3_task.specs.declared.goal.Pref.{Pref}
+use Rattle.p3_task.specs.declared.goal.PreGoal.{PreGoal}
+use Rattle.p3_task.specs.declared.goal.PreGoal.TheVariants as pregoal
+use Rattle.p3_task.specs.declared.term.Typed.{Typed}
 use Rattle.p3_numbers.specs.Conditions.{condition_of}
 use Rattle.p3_numbers.specs.Goals.{numbered_name, goal_of, goal_layer}
 use Rattle.p3_numbers.specs.Places.{Variables, ranges_of, words_of}

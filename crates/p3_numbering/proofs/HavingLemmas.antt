@@ -13,11 +13,11 @@ use Rattle.p3_numbering.specs.Listed.{lists_in}
 use Rattle.p3_numbering.specs.Ranges.{IsRange, HaveRanges, AreNumbers}
 use Rattle.p3_numbers.specs.Places.{IsNumbering}
 use Rattle.p3_numbers.specs.declared.numbers.Numbers.{Numbers}
-use Rattle.p3_tree.proofs.OnceLemmas.{each_once}
-use Rattle.p3_tree.specs.Names.{Name, same_name, same_names}
-use Rattle.p3_tree.specs.Types.{names_of, type_names, below, declared_objects, once_each, objects}
-use Rattle.p3_tree.specs.declared.task.Task.{Task}
-use Rattle.p3_tree.specs.declared.term.Ref.{Ref}
+use Rattle.p3_task.proofs.OnceLemmas.{each_once}
+use Rattle.p3_task.specs.Names.{Name, same_name, same_names}
+use Rattle.p3_task.specs.Types.{names_of, type_names, below, declared_objects, once_each, objects}
+use Rattle.p3_task.specs.declared.task.Task.{Task}
+use Rattle.p3_task.specs.declared.term.Ref.{Ref}
 
 -- ---- types of the same names have the same objects
 

@@ -4,18 +4,18 @@ use Rattle.std.specs.Prelude.{flat_map}
 use Rattle.std.proofs.lemmas.List.{append-nil, append_assoc}
 use Rattle.std.proofs.lemmas.List.Concat.{flat_map-append}
 use mathlib.Core.Former.{Count}
-use Rattle.p3_tree.specs.Uses.{Use, goal_uses, constraint_uses, num_layer, num_uses, metric_uses, init_uses, problem_uses}
-use Rattle.p3_tree.specs.Folds.{fold_nums}
+use Rattle.p3_task.specs.Uses.{Use, goal_uses, constraint_uses, num_layer, num_uses, metric_uses, init_uses, problem_uses}
+use Rattle.p3_task.specs.Folds.{fold_nums}
 use Rattle.p3_names.specs.Uses.{domain_seen}
 use Rattle.p3_numbers.specs.Known.{tree_uses}
-use Rattle.p3_tree.specs.declared.metric.Metric.{Metric}
-use Rattle.p3_tree.specs.declared.metric.Num.{Num, Row_of-Num, end_of-Num, more_of-Num}
-use Rattle.p3_tree.specs.declared.metric.Num.TheVariants as num
-use Rattle.p3_tree.specs.declared.task.Init.{Init}
-use Rattle.p3_tree.specs.declared.task.Init.TheVariants as init
-use Rattle.p3_tree.specs.declared.task.Problem.{Problem}
-use Rattle.p3_tree.specs.declared.task.Task.{Task}
-use Rattle.p3_tree.specs.declared.term.Ref.{Ref}
+use Rattle.p3_task.specs.declared.metric.Metric.{Metric}
+use Rattle.p3_task.specs.declared.metric.Num.{Num, Row_of-Num, end_of-Num, more_of-Num}
+use Rattle.p3_task.specs.declared.metric.Num.TheVariants as num
+use Rattle.p3_task.specs.declared.task.Init.{Init}
+use Rattle.p3_task.specs.declared.task.Init.TheVariants as init
+use Rattle.p3_task.specs.declared.task.Problem.{Problem}
+use Rattle.p3_task.specs.declared.task.Task.{Task}
+use Rattle.p3_task.specs.declared.term.Ref.{Ref}
 use Rattle.p3_numbering.specs.Listed.{lists_at, lists_of}
 
 lists_of-append : (first second : List Use) → lists_of (first ++ second) ≡ lists_of first ++ lists_of second

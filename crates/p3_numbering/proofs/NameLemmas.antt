@@ -7,8 +7,8 @@ use Rattle.std.proofs.lemmas.Bool.{ltb-false}
 use Rattle.std.proofs.lemmas.List.{append-nil, map-append, take_more}
 use Rattle.std.proofs.lemmas.List.Elements.{filter-append}
 use Rattle.std.proofs.lemmas.Slice.Eq.{bytes_eq-Decides}
-use Rattle.p3_tree.specs.Names.{Name, same_name, has_name}
-use Rattle.p3_tree.specs.Types.{once_each}
+use Rattle.p3_task.specs.Names.{Name, same_name, has_name}
+use Rattle.p3_task.specs.Types.{once_each}
 
 place_at_most : {A : Type 0} (test : A → Bool) (xs : List A) → position_or_len test xs ≤ length xs
 place_at_most test [] = omega arith

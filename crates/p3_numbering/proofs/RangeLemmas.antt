@@ -6,14 +6,14 @@ use Rattle.std.specs.List.{list_any}
 use Rattle.std.proofs.lemmas.List.{map-append, take_more}
 use Rattle.std.proofs.lemmas.List.Folds.{list_any_at}
 use Rattle.std.proofs.lemmas.List.Quantifiers.{position-Some}
-use Rattle.p3_tree.specs.Names.{Name, same_names}
+use Rattle.p3_task.specs.Names.{Name, same_names}
 use Rattle.p3_names.specs.Names.{with_list}
 use Rattle.p3_numbering.proofs.NameLemmas.{place_behind}
 use Rattle.p3_numbering.specs.Listed.{lists_in}
 use Rattle.p3_numbering.specs.Ranges.{lists_once}
 use Rattle.p3_numbers.proofs.PlaceLemmas.{first_within}
-use Rattle.p3_tree.specs.Types.{names_of}
-use Rattle.p3_tree.specs.declared.term.Ref.{Ref}
+use Rattle.p3_task.specs.Types.{names_of}
+use Rattle.p3_task.specs.declared.term.Ref.{Ref}
 
 module _ (lists : List (List Name)) (names : List Name) where
   -- a list that has a place is not new

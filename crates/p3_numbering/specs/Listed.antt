@@ -1,9 +1,9 @@
 -- The lists of types that a task's trees declare variables with.
 use Rattle.std.specs.Prelude.{List, [], map, flat_map}
 use denote.Ref.{Bor}
-use Rattle.p3_tree.specs.Uses.{Use, Objects, Variables, AtomUse, FunctionUse, SideUse, NameUse}
-use Rattle.p3_tree.specs.declared.term.Ref.{Ref}
-use Rattle.p3_tree.specs.declared.term.Typed.{Typed}
+use Rattle.p3_task.specs.Uses.{Use, Objects, Variables, AtomUse, FunctionUse, SideUse, NameUse}
+use Rattle.p3_task.specs.declared.term.Ref.{Ref}
+use Rattle.p3_task.specs.declared.term.Typed.{Typed}
 
 abbrev pub lists_in : List (Bor (List Ref)) → List (List Ref)
 lists_in found = map (λ (types : Bor (List Ref)). types.now) found

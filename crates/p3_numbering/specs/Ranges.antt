@@ -7,10 +7,10 @@ use Rattle.p3_numbers.specs.Known.{tree_uses}
 use Rattle.p3_numbers.specs.Tasks.{HasNames}
 use Rattle.p3_numbers.specs.declared.numbers.Numbers.{Numbers}
 use Rattle.p3_numbering.specs.Listed.{lists_of}
-use Rattle.p3_tree.specs.Names.{Name}
-use Rattle.p3_tree.specs.Types.{names_of, objects}
-use Rattle.p3_tree.specs.declared.task.Task.{Task}
-use Rattle.p3_tree.specs.declared.term.Ref.{Ref}
+use Rattle.p3_task.specs.Names.{Name}
+use Rattle.p3_task.specs.Types.{names_of, objects}
+use Rattle.p3_task.specs.declared.task.Task.{Task}
+use Rattle.p3_task.specs.declared.term.Ref.{Ref}
 
 -- the numbers are those of the objects of the types with these names
 pub record IsRange (T : Task) (names : List Name) (range : List ℕ) : Type 0 where

@@ -1,9 +1,9 @@
 -- Names as they stand in the trees of a task, borrowed.
 use Rattle.std.specs.Prelude.{List, map, ◌++◌}
 use denote.Ref.{Bor}
-use Rattle.p3_tree.specs.Names.{Name}
-use Rattle.p3_tree.specs.PreferenceNames as tree
-use Rattle.p3_tree.specs.declared.task.Task.{Task}
+use Rattle.p3_task.specs.Names.{Name}
+use Rattle.p3_task.specs.PreferenceNames as tree
+use Rattle.p3_task.specs.declared.task.Task.{Task}
 
 abbrev pub names_in : List (Bor Name) → List Name
 names_in words = map (λ (word : Bor Name). word.now) words

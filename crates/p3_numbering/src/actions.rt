@@ -11,7 +11,7 @@ use crate::terms::ranges;
 use p3_base::{List, NoMemory};
 use p3_names::Scope;
 use p3_numbers::NumberedAction;
-use p3_tree::Action;
+use p3_task::Action;
 use std::alloc::Global;
 
 /// An action with numbers.

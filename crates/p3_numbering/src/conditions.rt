@@ -10,7 +10,7 @@ use crate::terms::{argument, arguments, ranges};
 use p3_base::{Boxed, List, NoMemory};
 use p3_names::Scope;
 use p3_numbers::NumberedCondition;
-use p3_tree::{Formula, Typed};
+use p3_task::{Formula, Typed};
 use std::alloc::Global;
 
 /// A formula with numbers; the scope is as before where it is answered.

@@ -12,7 +12,7 @@ use crate::terms::ranges;
 use p3_base::{Boxed, List, NoMemory, Operands};
 use p3_names::Scope;
 use p3_numbers::{NumberedConstraint, NumberedModal};
-use p3_tree::{Constraint, Modal, Typed};
+use p3_task::{Constraint, Modal, Typed};
 use std::alloc::Global;
 
 /// An operator with numbers; the scope is as before where it is answered.

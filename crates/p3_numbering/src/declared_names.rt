@@ -1,14 +1,14 @@
 //! The names of a task with their numbers.
 
 ghost use Rattle.std.specs.Prelude.{◌≡◌, IfOk};
-ghost use Rattle.p3_tree.specs.PreferenceNames.{ordered_names};
-ghost use Rattle.p3_tree.specs.Types.{once_each};
+ghost use Rattle.p3_task.specs.PreferenceNames.{ordered_names};
+ghost use Rattle.p3_task.specs.Types.{once_each};
 ghost use Rattle.p3_numbers.specs.Tasks.{header_names, object_words as words_of_objects};
 
 use crate::name_table::NameTable;
 use crate::words::{header_words, object_words, preference_words};
 use p3_base::NoMemory;
-use p3_tree::{Header, Task};
+use p3_task::{Header, Task};
 use std::alloc::Global;
 
 /// The names of headers, in the order in which they were first declared.
@@ -30,7 +30,7 @@ pub(crate) fn object_table(alloc: Global, task: &Task) -> Result<NameTable, NoMe
 }
 
 /// The names of preferences, in the order of the text.
-#[tactic(auto, unfolding(p3_tree::specs::PreferenceNames::ordered_names))]
+#[tactic(auto, unfolding(p3_task::specs::PreferenceNames::ordered_names))]
 pub(crate) fn preference_table(alloc: Global, task: &Task) -> Result<NameTable, NoMemory>
     ensures { IfOk result (λ table. table.names ≡ ordered_names task.now) }
 {

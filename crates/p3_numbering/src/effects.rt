@@ -11,7 +11,7 @@ use crate::terms::{arguments, ranges};
 use p3_base::{Boxed, List, NoMemory};
 use p3_names::Scope;
 use p3_numbers::{NumberedAmount, NumberedEffect};
-use p3_tree::{Amount, Effect, Typed};
+use p3_task::{Amount, Effect, Typed};
 use std::alloc::Global;
 
 /// An amount with numbers.

@@ -12,7 +12,7 @@ use crate::terms::ranges;
 use p3_base::{Boxed, List, NoMemory};
 use p3_names::Scope;
 use p3_numbers::{NumberedGoal, NumberedPreference};
-use p3_tree::{PreGoal, Pref, Ref, Typed};
+use p3_task::{PreGoal, Pref, Ref, Typed};
 use std::alloc::Global;
 
 /// The number of a preference's name, where it has one.

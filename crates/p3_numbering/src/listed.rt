@@ -1,14 +1,14 @@
 //! The lists of types with which the variables of a task's trees are declared.
 
 ghost use Rattle.std.specs.Prelude.{◌≡◌, ◌++◌, OnOk, IfOk};
-ghost use Rattle.p3_tree.specs.Uses.{Scope};
+ghost use Rattle.p3_task.specs.Uses.{Scope};
 ghost use Rattle.p3_names.specs.Uses.{seen_at, uses_at};
 ghost use Rattle.p3_numbers.specs.Known.{tree_uses};
 ghost use Rattle.p3_numbering.specs.Listed.{lists_in, lists_of, types_of};
 
 use p3_base::NoMemory;
 use p3_names::{Visit, Visits};
-use p3_tree::{Ref, Task, Typed};
+use p3_task::{Ref, Task, Typed};
 use std::alloc::Global;
 
 /// The lists of variables more.

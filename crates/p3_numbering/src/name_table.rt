@@ -1,8 +1,8 @@
 //! Names with their numbers, found by hashing.
 
 ghost use Rattle.std.specs.Prelude.{◌≡◌, ◌++◌, ◌∷◌, [], if◌then◌else◌, OnOk, IfOk};
-ghost use Rattle.p3_tree.specs.Names.{has_name};
-ghost use Rattle.p3_tree.specs.Types.{once_each};
+ghost use Rattle.p3_task.specs.Names.{has_name};
+ghost use Rattle.p3_task.specs.Types.{once_each};
 ghost use Rattle.p3_numbers.specs.Places.{number_in};
 ghost use Rattle.p3_numbering.specs.Words.{names_in};
 

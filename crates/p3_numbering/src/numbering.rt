@@ -18,7 +18,7 @@ use p3_names::Scope;
 use p3_numbers::{
     NumberedGoal, NumberedAction, NumberedConstraint, NumberedFact, NumberedTask, NumberedValue,
 };
-use p3_tree::{Constraint, Domain, PreGoal, Problem, Task};
+use p3_task::{Constraint, Domain, PreGoal, Problem, Task};
 use std::alloc::Global;
 
 /// A constraint with numbers outside all variables.

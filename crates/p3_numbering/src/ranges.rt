@@ -6,15 +6,15 @@ ghost use Rattle.p3_names.specs.Names.{with_list};
 ghost use Rattle.p3_numbers.specs.Known.{tree_uses};
 ghost use Rattle.p3_numbering.specs.Listed.{lists_in, lists_of};
 ghost use Rattle.p3_numbering.specs.Ranges.{IsRange, HaveRanges, lists_once};
-ghost use Rattle.p3_tree.specs.Names.{same_names};
-ghost use Rattle.p3_tree.specs.Types.{names_of};
+ghost use Rattle.p3_task.specs.Names.{same_names};
+ghost use Rattle.p3_task.specs.Types.{names_of};
 
 use crate::listed::task_lists;
 use crate::name_table::copied;
 use crate::type_table::TypeTable;
 use p3_base::{List, Name, NoMemory, as_number};
 use p3_names::{Kinds, Objects, list_key};
-use p3_tree::{Ref, Task};
+use p3_task::{Ref, Task};
 use std::alloc::Global;
 
 /// The list goes last, if it is new.

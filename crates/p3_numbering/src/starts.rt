@@ -9,7 +9,7 @@ ghost use Rattle.p3_numbering.specs.Tables.{numbers_of};
 use crate::tables::Tables;
 use p3_base::{List, NoMemory};
 use p3_numbers::{NumberedFact, NumberedValue};
-use p3_tree::{Init, Ref, Task, Term};
+use p3_task::{Init, Ref, Task, Term};
 use std::alloc::Global;
 
 /// The object that a term of the initial state is, where no variable is in scope.

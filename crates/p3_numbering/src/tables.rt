@@ -10,7 +10,7 @@ use crate::name_table::NameTable;
 use crate::ranges::Ranges;
 use p3_base::NoMemory;
 use p3_numbers::Numbers;
-use p3_tree::{Ref, Task};
+use p3_task::{Ref, Task};
 use std::alloc::Global;
 
 /// The names and the lists of types of a task, and the objects of each list.

@@ -8,7 +8,7 @@ use crate::tables::Tables;
 use p3_base::{List, NoMemory, as_number};
 use p3_names::Scope;
 use p3_numbers::NumberedArgument;
-use p3_tree::{Term, Typed};
+use p3_task::{Term, Typed};
 use std::alloc::Global;
 
 /// The argument of a slot.

@@ -1,14 +1,14 @@
 //! Lists of types with their numbers, found by hashing without being added.
 
 ghost use Rattle.std.specs.Prelude.{◌≡◌, [], map, length, position, OnOk, IfOk};
-ghost use Rattle.p3_tree.specs.Names.{same_names};
-ghost use Rattle.p3_tree.specs.Types.{names_of};
+ghost use Rattle.p3_task.specs.Names.{same_names};
+ghost use Rattle.p3_task.specs.Types.{names_of};
 ghost use Rattle.p3_names.specs.Names.{with_list};
 
 use indexmap::IndexSet;
 use p3_base::NoMemory;
 use p3_names::Key;
-use p3_tree::Ref;
+use p3_task::Ref;
 use std::alloc::Global;
 use std::marker::Model;
 

@@ -1,7 +1,7 @@
 //! The names that a task declares, and those of its preferences, as they stand in its trees.
 
 ghost use Rattle.std.specs.Prelude.{◌≡◌, ◌++◌, map, OnOk, IfOk};
-ghost use Rattle.p3_tree.specs.PreferenceNames.{in_text_order, named_in_domain, named_in_problem};
+ghost use Rattle.p3_task.specs.PreferenceNames.{in_text_order, named_in_domain, named_in_problem};
 ghost use Rattle.p3_names.specs.Preferences.{named_in};
 ghost use Rattle.p3_numbers.specs.Places.{words_of};
 ghost use Rattle.p3_numbers.specs.Tasks.{header_names, object_words as words_of_objects};
@@ -9,7 +9,7 @@ ghost use Rattle.p3_numbering.specs.Words.{names_in, name_of, words_of_preferenc
 
 use p3_base::{Name, NoMemory};
 use p3_names::{Named, Visits};
-use p3_tree::{Domain, Header, Problem, Task, Typed};
+use p3_task::{Domain, Header, Problem, Task, Typed};
 use std::alloc::Global;
 
 /// The names of headers.

@@ -5,11 +5,11 @@ use Rattle.std.specs.List.{All}
 use Rattle.std.proofs.lemmas.List.{map-append, length-map}
 use Rattle.std.proofs.lemmas.List.Elements.{All-nil, All-cons, All-append, All-head, All-tail}
 use Rattle.std.proofs.lemmas.Bool.{and_parts}
-use Rattle.p3_tree.specs.Names.{Name}
-use Rattle.p3_tree.specs.States.{Environment}
-use Rattle.p3_tree.specs.Bindings.{tuples, extended, bind}
-use Rattle.p3_tree.specs.declared.term.Typed.{Typed}
-use Rattle.p3_tree.specs.declared.task.Task.{Task}
+use Rattle.p3_task.specs.Names.{Name}
+use Rattle.p3_task.specs.States.{Environment}
+use Rattle.p3_task.specs.Bindings.{tuples, extended, bind}
+use Rattle.p3_task.specs.declared.term.Typed.{Typed}
+use Rattle.p3_task.specs.declared.task.Task.{Task}
 use Rattle.p3_numbers.specs.Slots.{Slots, name_at, object_names, range_at, tuples_of, bound}
 use Rattle.p3_numbers.specs.Places.{Variables, range_of, ranges_of, words_of, are_known_types, AreObjects, IsNumbering, Fills, paired, environment_of}
 use Rattle.p3_numbers.specs.declared.numbers.Numbers.{Numbers}

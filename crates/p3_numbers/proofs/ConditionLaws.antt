@@ -4,16 +4,16 @@ use Rattle.std.specs.List.{list_any, list_all}
 use Rattle.std.proofs.lemmas.List.Folds.{list_all-map}
 use mathlib.Core.Former.{Count}
 use Rattle.p3_base.specs.Connectives.{◌implies◌}
-use Rattle.p3_tree.specs.Folds.{fold_formulas}
-use Rattle.p3_tree.specs.Formulas.{holds, holds_layer}
+use Rattle.p3_task.specs.Folds.{fold_formulas}
+use Rattle.p3_task.specs.Formulas.{holds, holds_layer}
 use Rattle.std.proofs.lemmas.Bool.{and_parts}
-use Rattle.p3_tree.specs.Names.{same_name}
-use Rattle.p3_tree.specs.States.{State, has_fact}
-use Rattle.p3_tree.specs.Bindings.{bind}
-use Rattle.p3_tree.proofs.MeaningLemmas.{list_any-map}
-use Rattle.p3_tree.specs.declared.formula.Formula.{Formula, Row_of-Formula, end_of-Formula, more_of-Formula}
-use Rattle.p3_tree.specs.declared.formula.Formula.TheVariants.{Atom, Equal, And', Or', Not', Imply', Exists', Forall'}
-use Rattle.p3_tree.specs.declared.task.Task.{Task}
+use Rattle.p3_task.specs.Names.{same_name}
+use Rattle.p3_task.specs.States.{State, has_fact}
+use Rattle.p3_task.specs.Bindings.{bind}
+use Rattle.p3_task.proofs.MeaningLemmas.{list_any-map}
+use Rattle.p3_task.specs.declared.formula.Formula.{Formula, Row_of-Formula, end_of-Formula, more_of-Formula}
+use Rattle.p3_task.specs.declared.formula.Formula.TheVariants.{Atom, Equal, And', Or', Not', Imply', Exists', Forall'}
+use Rattle.p3_task.specs.declared.task.Task.{Task}
 use Rattle.p3_numbers.specs.Slots.{Slots, value_of, bound}
 use Rattle.p3_numbers.specs.Places.{Variables, numbered_term, ranges_of, words_of, is_known_term, are_known_types, IsNumbering, Fills, environment_of}
 use Rattle.p3_numbers.specs.Conditions.{met, condition_of, condition_layer, is_known_formula, known_formula_layer}

@@ -5,8 +5,8 @@ use Rattle.std.proofs.lemmas.List.Folds.{list_all-map}
 use mathlib.Core.Former.{Count}
 use denote.Hole.Carrier.{hidden}
 use Rattle.p3_base.specs.Connectives.{◌implies◌}
-use Rattle.p3_tree.specs.States.{State}
-use Rattle.p3_tree.proofs.MeaningLemmas.{list_any-map}
+use Rattle.p3_task.specs.States.{State}
+use Rattle.p3_task.proofs.MeaningLemmas.{list_any-map}
 use Rattle.p3_numbers.specs.Slots.{Slots, bound}
 use Rattle.p3_numbers.specs.Folds.{fold_condition, fold_conditions}
 use Rattle.p3_numbers.specs.Conditions.{met, met_layer}

@@ -6,22 +6,22 @@ use Rattle.std.proofs.lemmas.Bool.{and_parts}
 use Rattle.std.proofs.lemmas.List.{map-append}
 use Rattle.std.proofs.lemmas.List.Folds.{list_all-map}
 use mathlib.Core.Former.{Count}
-use Rattle.p3_tree.specs.Constraints as named
-use Rattle.p3_tree.specs.Constraints.{HardModal, hard_modals, hard_modals_layer, operators, satisfies, sat, instances_of, instances_of_all, instances_of_one}
-use Rattle.p3_tree.specs.Folds.{fold_constraints}
-use Rattle.p3_tree.specs.States.{State, Environment}
-use Rattle.p3_tree.specs.Bindings.{bind}
-use Rattle.p3_tree.proofs.OperatorLaws.{sat-operators}
-use Rattle.p3_tree.specs.Modal.{Modal}
+use Rattle.p3_task.specs.Constraints as named
+use Rattle.p3_task.specs.Constraints.{HardModal, hard_modals, hard_modals_layer, operators, satisfies, sat, instances_of, instances_of_all, instances_of_one}
+use Rattle.p3_task.specs.Folds.{fold_constraints}
+use Rattle.p3_task.specs.States.{State, Environment}
+use Rattle.p3_task.specs.Bindings.{bind}
+use Rattle.p3_task.proofs.OperatorLaws.{sat-operators}
+use Rattle.p3_task.specs.Modal.{Modal}
 use Rattle.p3_base.proofs.OperatorLaws.{over_over, over_where}
 use Rattle.p3_base.specs.Operators as meaning_of
-use Rattle.p3_tree.specs.declared.constraint.Constraint.{Constraint, Row_of-Constraint, end_of-Constraint, more_of-Constraint}
-use Rattle.p3_tree.specs.declared.constraint.Constraint.TheVariants.{Both', Each', Single, Soft'}
-use Rattle.p3_tree.specs.declared.task.Task.{Task}
+use Rattle.p3_task.specs.declared.constraint.Constraint.{Constraint, Row_of-Constraint, end_of-Constraint, more_of-Constraint}
+use Rattle.p3_task.specs.declared.constraint.Constraint.TheVariants.{Both', Each', Single, Soft'}
+use Rattle.p3_task.specs.declared.task.Task.{Task}
 use Rattle.p3_numbers.specs.Slots.{Slots, bound}
 use Rattle.p3_numbers.specs.Places.{Variables, ranges_of, words_of, are_known_types, IsNumbering, Fills, environment_of}
 use Rattle.p3_numbers.specs.Conditions.{condition_of, is_known_formula}
-use Rattle.p3_tree.specs.Plans.{state_at}
+use Rattle.p3_task.specs.Plans.{state_at}
 use Rattle.p3_numbers.specs.Goals.{numbered_name, is_known_name}
 use Rattle.p3_numbers.specs.Constraints.{hard_operators, all_operators, soft_instances, modal_of, constraint_layer, constraint_of, is_known_modal, known_constraint_layer, is_known_constraint, ModalMeaning, test_at, test_of, numbered_modal_meaning, placed_modal_meaning, modal_meaning, hard_modal_meaning, is_met_by, is_satisfied, InstanceMeaning, placed_instance_meaning, instance_meaning}
 use Rattle.p3_numbers.specs.declared.numbers.Numbers.{Numbers}

@@ -5,24 +5,24 @@ use Rattle.std.specs.List.{list_all}
 use Rattle.std.proofs.lemmas.Bool.{and_parts}
 use Rattle.std.proofs.lemmas.List.Folds.{flat_map-map}
 use mathlib.Core.Former.{Count}
-use Rattle.p3_tree.specs.Costs as cost
-use Rattle.p3_tree.specs.Costs.{total, amount_value, increases, effect_cost, given_value}
-use Rattle.p3_tree.specs.Effects as named
-use Rattle.p3_tree.specs.Effects.{adds, dels}
-use Rattle.p3_tree.specs.Folds.{fold_effect, fold_effects}
-use Rattle.p3_tree.specs.Formulas.{holds}
-use Rattle.p3_tree.specs.Literals as literal
-use Rattle.p3_tree.specs.Literals.{literals}
-use Rattle.p3_tree.specs.Names.{has_name}
-use Rattle.p3_tree.specs.States.{State, Environment}
-use Rattle.p3_tree.specs.Bindings.{bind}
-use Rattle.p3_tree.specs.declared.state.Fact.{Fact}
-use Rattle.p3_tree.specs.declared.formula.Formula.{Formula}
-use Rattle.p3_tree.specs.declared.effect.Amount.{Amount}
-use Rattle.p3_tree.specs.declared.effect.Amount.TheVariants as amount
-use Rattle.p3_tree.specs.declared.effect.Effect.{Effect, Row_of-Effect, end_of-Effect, more_of-Effect}
-use Rattle.p3_tree.specs.declared.effect.Effect.TheVariants.{Add, Del, All', Each', If', Cost}
-use Rattle.p3_tree.specs.declared.task.Task.{Task}
+use Rattle.p3_task.specs.Costs as cost
+use Rattle.p3_task.specs.Costs.{total, amount_value, increases, effect_cost, given_value}
+use Rattle.p3_task.specs.Effects as named
+use Rattle.p3_task.specs.Effects.{adds, dels}
+use Rattle.p3_task.specs.Folds.{fold_effect, fold_effects}
+use Rattle.p3_task.specs.Formulas.{holds}
+use Rattle.p3_task.specs.Literals as literal
+use Rattle.p3_task.specs.Literals.{literals}
+use Rattle.p3_task.specs.Names.{has_name}
+use Rattle.p3_task.specs.States.{State, Environment}
+use Rattle.p3_task.specs.Bindings.{bind}
+use Rattle.p3_task.specs.declared.state.Fact.{Fact}
+use Rattle.p3_task.specs.declared.formula.Formula.{Formula}
+use Rattle.p3_task.specs.declared.effect.Amount.{Amount}
+use Rattle.p3_task.specs.declared.effect.Amount.TheVariants as amount
+use Rattle.p3_task.specs.declared.effect.Effect.{Effect, Row_of-Effect, end_of-Effect, more_of-Effect}
+use Rattle.p3_task.specs.declared.effect.Effect.TheVariants.{Add, Del, All', Each', If', Cost}
+use Rattle.p3_task.specs.declared.task.Task.{Task}
 use Rattle.p3_numbers.specs.Slots.{Slots, bound}
 use Rattle.p3_numbers.specs.Places.{Variables, ranges_of, words_of, are_known_terms, are_known_types, IsNumbering, Fills, environment_of}
 use Rattle.p3_numbers.specs.Conditions.{met, condition_of, is_known_formula}

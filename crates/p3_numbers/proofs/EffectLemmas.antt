@@ -4,8 +4,8 @@ use Rattle.std.specs.Prelude.{flat_map, if◌then◌else◌}
 use Rattle.std.proofs.lemmas.List.Folds.{flat_map-map}
 use mathlib.Core.Former.{Count}
 use denote.Hole.Carrier.{hidden}
-use Rattle.p3_tree.specs.States.{State}
-use Rattle.p3_tree.specs.declared.state.Fact.{Fact}
+use Rattle.p3_task.specs.States.{State}
+use Rattle.p3_task.specs.declared.state.Fact.{Fact}
 use Rattle.p3_numbers.specs.Conditions.{met}
 use Rattle.p3_numbers.specs.Slots.{Slots, bound}
 use Rattle.p3_numbers.specs.Folds.{fold_effect, fold_effects}

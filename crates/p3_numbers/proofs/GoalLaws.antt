@@ -5,15 +5,15 @@ use Rattle.std.specs.List.{list_all}
 use Rattle.std.proofs.lemmas.Bool.{and_parts}
 use Rattle.std.proofs.lemmas.List.Folds.{list_all-map}
 use mathlib.Core.Former.{Count}
-use Rattle.p3_tree.specs.Folds.{fold_goals}
-use Rattle.p3_tree.specs.Goals as named
-use Rattle.p3_tree.specs.Goals.{hard_holds, prefs, prefs_layer}
-use Rattle.p3_tree.specs.States.{State}
-use Rattle.p3_tree.specs.Bindings.{bind}
-use Rattle.p3_tree.specs.declared.term.Ref.{Ref}
-use Rattle.p3_tree.specs.declared.goal.PreGoal.{PreGoal, Row_of-PreGoal, end_of-PreGoal, more_of-PreGoal}
-use Rattle.p3_tree.specs.declared.goal.PreGoal.TheVariants.{Plain, Both', Each', Soft}
-use Rattle.p3_tree.specs.declared.task.Task.{Task}
+use Rattle.p3_task.specs.Folds.{fold_goals}
+use Rattle.p3_task.specs.Goals as named
+use Rattle.p3_task.specs.Goals.{hard_holds, prefs, prefs_layer}
+use Rattle.p3_task.specs.States.{State}
+use Rattle.p3_task.specs.Bindings.{bind}
+use Rattle.p3_task.specs.declared.term.Ref.{Ref}
+use Rattle.p3_task.specs.declared.goal.PreGoal.{PreGoal, Row_of-PreGoal, end_of-PreGoal, more_of-PreGoal}
+use Rattle.p3_task.specs.declared.goal.PreGoal.TheVariants.{Plain, Both', Each', Soft}
+use Rattle.p3_task.specs.declared.task.Task.{Task}
 use Rattle.p3_numbers.specs.Slots.{Slots, name_at, bound}
 use Rattle.p3_numbers.specs.Places.{Variables, number_in, ranges_of, words_of, are_known_types, IsNumbering, Fills, environment_of}
 use Rattle.p3_numbers.specs.Conditions.{is_known_formula}

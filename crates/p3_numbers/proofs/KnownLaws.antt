@@ -8,30 +8,30 @@ use Rattle.std.proofs.lemmas.List.Folds.{list_all-append}
 use Rattle.std.proofs.lemmas.List.Concat.{flat_map-append}
 use Rattle.std.proofs.lemmas.Slice.Eq.{bytes_eq-Decides}
 use mathlib.Core.Former.{Count}
-use Rattle.p3_tree.specs.Folds.{fold_formulas, fold_effects, fold_goals, fold_constraints}
-use Rattle.p3_tree.specs.Names.{Name, same_name, has_name, total_cost}
-use Rattle.p3_tree.specs.Offences.{WellFormed, unknown_words, domain_unknowns, problem_unknowns}
-use Rattle.p3_tree.specs.PreferenceNames.{Named, named_at, goal_names_layer, named_in_goal, constraint_names_layer, named_in_constraint, named_in_domain, named_in_problem, preference_names}
-use Rattle.p3_tree.specs.Uses as uses
-use Rattle.p3_tree.specs.Uses.{Scope, scope_of, Use, Objects, formula_uses, amount_uses, effect_uses, goal_uses, modal_uses, constraint_uses, metric_uses, init_uses, action_uses, header_uses, domain_uses, problem_uses}
-use Rattle.p3_tree.proofs.OnceLemmas.{nil_left, nil_right}
-use Rattle.p3_tree.specs.declared.term.Ref.{Ref}
-use Rattle.p3_tree.specs.declared.formula.Formula.{Formula, Row_of-Formula, end_of-Formula, more_of-Formula}
-use Rattle.p3_tree.specs.declared.formula.Formula.TheVariants as formula
-use Rattle.p3_tree.specs.declared.effect.Amount.{Amount}
-use Rattle.p3_tree.specs.declared.effect.Amount.TheVariants as amount
-use Rattle.p3_tree.specs.declared.effect.Effect.{Effect, Row_of-Effect, end_of-Effect, more_of-Effect}
-use Rattle.p3_tree.specs.declared.effect.Effect.TheVariants as effect
-use Rattle.p3_tree.specs.declared.goal.PreGoal.{PreGoal, Row_of-PreGoal, end_of-PreGoal, more_of-PreGoal}
-use Rattle.p3_tree.specs.declared.goal.PreGoal.TheVariants as goal
-use Rattle.p3_tree.specs.Modal.{Modal}
+use Rattle.p3_task.specs.Folds.{fold_formulas, fold_effects, fold_goals, fold_constraints}
+use Rattle.p3_task.specs.Names.{Name, same_name, has_name, total_cost}
+use Rattle.p3_task.specs.Offences.{WellFormed, unknown_words, domain_unknowns, problem_unknowns}
+use Rattle.p3_task.specs.PreferenceNames.{Named, named_at, goal_names_layer, named_in_goal, constraint_names_layer, named_in_constraint, named_in_domain, named_in_problem, preference_names}
+use Rattle.p3_task.specs.Uses as uses
+use Rattle.p3_task.specs.Uses.{Scope, scope_of, Use, Objects, formula_uses, amount_uses, effect_uses, goal_uses, modal_uses, constraint_uses, metric_uses, init_uses, action_uses, header_uses, domain_uses, problem_uses}
+use Rattle.p3_task.proofs.OnceLemmas.{nil_left, nil_right}
+use Rattle.p3_task.specs.declared.term.Ref.{Ref}
+use Rattle.p3_task.specs.declared.formula.Formula.{Formula, Row_of-Formula, end_of-Formula, more_of-Formula}
+use Rattle.p3_task.specs.declared.formula.Formula.TheVariants as formula
+use Rattle.p3_task.specs.declared.effect.Amount.{Amount}
+use Rattle.p3_task.specs.declared.effect.Amount.TheVariants as amount
+use Rattle.p3_task.specs.declared.effect.Effect.{Effect, Row_of-Effect, end_of-Effect, more_of-Effect}
+use Rattle.p3_task.specs.declared.effect.Effect.TheVariants as effect
+use Rattle.p3_task.specs.declared.goal.PreGoal.{PreGoal, Row_of-PreGoal, end_of-PreGoal, more_of-PreGoal}
+use Rattle.p3_task.specs.declared.goal.PreGoal.TheVariants as goal
+use Rattle.p3_task.specs.Modal.{Modal}
 use Rattle.p3_base.proofs.OperatorLaws.{joined_image}
-use Rattle.p3_tree.specs.declared.constraint.Constraint.{Constraint, Row_of-Constraint, end_of-Constraint, more_of-Constraint}
-use Rattle.p3_tree.specs.declared.constraint.Constraint.TheVariants as constraint
-use Rattle.p3_tree.specs.declared.task.Action.{Action}
-use Rattle.p3_tree.specs.declared.task.Init.{Init}
-use Rattle.p3_tree.specs.declared.task.Init.TheVariants as init
-use Rattle.p3_tree.specs.declared.task.Task.{Task}
+use Rattle.p3_task.specs.declared.constraint.Constraint.{Constraint, Row_of-Constraint, end_of-Constraint, more_of-Constraint}
+use Rattle.p3_task.specs.declared.constraint.Constraint.TheVariants as constraint
+use Rattle.p3_task.specs.declared.task.Action.{Action}
+use Rattle.p3_task.specs.declared.task.Init.{Init}
+use Rattle.p3_task.specs.declared.task.Init.TheVariants as init
+use Rattle.p3_task.specs.declared.task.Task.{Task}
 use Rattle.p3_numbers.specs.Places.{Variables, words_of, are_known_types}
 use Rattle.p3_numbers.specs.Conditions.{known_formula_layer, is_known_formula}
 use Rattle.p3_numbers.specs.Goals.{is_known_name, known_goal_layer, is_known_goal}

@@ -8,12 +8,12 @@ use Rattle.std.proofs.Math.Seq.{get_or-append_seam}
 use Rattle.std.proofs.lemmas.Bool.{and_parts}
 use Rattle.std.proofs.lemmas.Slice.Eq.{bytes_eq-Decides}
 use Rattle.std.proofs.lemmas.Bool.Decides.{Decides-eqb}
-use Rattle.p3_tree.specs.Names.{Name, same_name, has_name}
-use Rattle.p3_tree.specs.States.{Environment, object_of, meaning, meanings, fact_of}
-use Rattle.p3_tree.specs.declared.term.Ref.{Ref}
-use Rattle.p3_tree.specs.declared.term.Term.{Term}
-use Rattle.p3_tree.specs.declared.term.Term.TheVariants.{Var, Const}
-use Rattle.p3_tree.specs.declared.task.Task.{Task}
+use Rattle.p3_task.specs.Names.{Name, same_name, has_name}
+use Rattle.p3_task.specs.States.{Environment, object_of, meaning, meanings, fact_of}
+use Rattle.p3_task.specs.declared.term.Ref.{Ref}
+use Rattle.p3_task.specs.declared.term.Term.{Term}
+use Rattle.p3_task.specs.declared.term.Term.TheVariants.{Var, Const}
+use Rattle.p3_task.specs.declared.task.Task.{Task}
 use Rattle.p3_numbers.specs.Slots.{Slots, value_of, values_of, name_at, object_names, fact_at}
 use Rattle.p3_numbers.specs.Places.{number_in, Variables, place_after, slot_of, slot_or_first, numbered_term, numbered_terms, is_known_term, are_known_terms, IsNumbering, Fills, paired, environment_of}
 use Rattle.p3_numbers.specs.declared.numbers.Numbers.{Numbers}

@@ -5,17 +5,17 @@ use Rattle.std.specs.List.{list_any, list_all}
 use Rattle.std.proofs.Math.Bool.{or-true, or_comm}
 use Rattle.std.proofs.lemmas.Bool.{and_parts}
 use Rattle.std.proofs.lemmas.List.Folds.{list_any-append}
-use Rattle.p3_tree.specs.Names.{Name, same_name, has_name}
-use Rattle.p3_tree.specs.Offences.{unless, unknown_term, unknown_words, is_declared}
-use Rattle.p3_tree.specs.Types.{declared_objects, type_names}
-use Rattle.p3_tree.specs.Uses.{Scope, scope_of, Use, Objects, Variables, AtomUse, FunctionUse, SideUse, NameUse}
-use Rattle.p3_tree.proofs.MeaningLemmas.{list_any-map}
-use Rattle.p3_tree.proofs.OnceLemmas.{nil_left, nil_right}
-use Rattle.p3_tree.specs.declared.term.Ref.{Ref}
-use Rattle.p3_tree.specs.declared.term.Term.{Term}
-use Rattle.p3_tree.specs.declared.term.Term.TheVariants.{Var, Const}
-use Rattle.p3_tree.specs.declared.term.Typed.{Typed}
-use Rattle.p3_tree.specs.declared.task.Task.{Task}
+use Rattle.p3_task.specs.Names.{Name, same_name, has_name}
+use Rattle.p3_task.specs.Offences.{unless, unknown_term, unknown_words, is_declared}
+use Rattle.p3_task.specs.Types.{declared_objects, type_names}
+use Rattle.p3_task.specs.Uses.{Scope, scope_of, Use, Objects, Variables, AtomUse, FunctionUse, SideUse, NameUse}
+use Rattle.p3_task.proofs.MeaningLemmas.{list_any-map}
+use Rattle.p3_task.proofs.OnceLemmas.{nil_left, nil_right}
+use Rattle.p3_task.specs.declared.term.Ref.{Ref}
+use Rattle.p3_task.specs.declared.term.Term.{Term}
+use Rattle.p3_task.specs.declared.term.Term.TheVariants.{Var, Const}
+use Rattle.p3_task.specs.declared.term.Typed.{Typed}
+use Rattle.p3_task.specs.declared.task.Task.{Task}
 use Rattle.p3_numbers.specs.Known.{declares, has_use_types, Covers}
 use Rattle.p3_numbers.specs.Places as place
 use Rattle.p3_numbers.specs.Places.{place_after, slot_of, words_of, is_known_term, are_known_terms, are_known_types}

@@ -1,6 +1,6 @@
 -- The worked cases compute.
 use Rattle.std.proofs.Common.{refl}
-use Rattle.p3_tree.proofs.Computes.{trees_compute}
+use Rattle.p3_task.proofs.Computes.{trees_compute}
 use Rattle.p3_numbers.specs.Slots.{tuples_of}
 use Rattle.p3_numbers.specs.Conditions.{met, condition_of}
 use Rattle.p3_numbers.specs.Worked.{small, AnInnerVariableHasASlotOfItsOwn, EqualTermsAreOneObject, ATypeWithoutObjects}

@@ -2,13 +2,13 @@
 use Rattle.std.specs.Prelude.{◌≡◌, ◌==◌, Bool, true, not, ◌&&◌, ◌++◌, map}
 use Rattle.std.specs.List.{list_any, list_all}
 use Rattle.p3_base.specs.Connectives.{◌implies◌}
-use Rattle.p3_tree.specs.Folds.{fold_formula}
-use Rattle.p3_tree.specs.Formulas.{holds}
-use Rattle.p3_tree.specs.Names.{has_name}
-use Rattle.p3_tree.specs.States.{State, has_fact}
-use Rattle.p3_tree.specs.declared.formula.Formula.{Formula}
-use Rattle.p3_tree.specs.declared.formula.Formula.TheOpen as formula
-use Rattle.p3_tree.specs.declared.task.Task.{Task}
+use Rattle.p3_task.specs.Folds.{fold_formula}
+use Rattle.p3_task.specs.Formulas.{holds}
+use Rattle.p3_task.specs.Names.{has_name}
+use Rattle.p3_task.specs.States.{State, has_fact}
+use Rattle.p3_task.specs.declared.formula.Formula.{Formula}
+use Rattle.p3_task.specs.declared.formula.Formula.TheOpen as formula
+use Rattle.p3_task.specs.declared.task.Task.{Task}
 use Rattle.p3_numbers.specs.Folds.{fold_condition}
 use Rattle.p3_numbers.specs.Places.{Variables, number_in, numbered_term, numbered_terms, ranges_of, words_of, is_known_term, are_known_terms, are_known_types, Fills, environment_of}
 use Rattle.p3_numbers.specs.Slots.{Slots, value_of, fact_at, bound}

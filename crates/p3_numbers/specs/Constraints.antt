@@ -2,21 +2,21 @@
 use Rattle.std.specs.Prelude.{◌≡◌, ℕ, Bool, true, ◌&&◌, List, [], ◌∷◌, ◌++◌, map, flat_map, length, Option, option_map}
 use Rattle.std.specs.List.{list_all}
 use mathlib.Core.Former.{Count, one_more}
-use Rattle.p3_tree.specs.Constraints as named
-use Rattle.p3_tree.specs.Constraints.{HardModal, Instance}
-use Rattle.p3_tree.specs.Folds as fold
-use Rattle.p3_tree.specs.Formulas.{holds}
-use Rattle.p3_tree.specs.Names.{Name}
-use Rattle.p3_tree.specs.Plans.{state_at}
-use Rattle.p3_tree.specs.States.{State, Environment}
-use Rattle.p3_tree.specs.Modal.{Modal}
+use Rattle.p3_task.specs.Constraints as named
+use Rattle.p3_task.specs.Constraints.{HardModal, Instance}
+use Rattle.p3_task.specs.Folds as fold
+use Rattle.p3_task.specs.Formulas.{holds}
+use Rattle.p3_task.specs.Names.{Name}
+use Rattle.p3_task.specs.Plans.{state_at}
+use Rattle.p3_task.specs.States.{State, Environment}
+use Rattle.p3_task.specs.Modal.{Modal}
 use Rattle.p3_base.specs.Operators as operator
 use Rattle.p3_base.specs.Operators.{all, over}
 use Rattle.p3_base.specs.declared.operator.Operator.{Operator}
-use Rattle.p3_tree.specs.declared.constraint.Constraint.{Constraint}
-use Rattle.p3_tree.specs.declared.constraint.Constraint.TheOpen as constraint
-use Rattle.p3_tree.specs.declared.formula.Formula.{Formula}
-use Rattle.p3_tree.specs.declared.task.Task.{Task}
+use Rattle.p3_task.specs.declared.constraint.Constraint.{Constraint}
+use Rattle.p3_task.specs.declared.constraint.Constraint.TheOpen as constraint
+use Rattle.p3_task.specs.declared.formula.Formula.{Formula}
+use Rattle.p3_task.specs.declared.task.Task.{Task}
 use Rattle.p3_numbers.specs.Conditions.{met, condition_of, is_known_formula}
 use Rattle.p3_numbers.specs.Folds.{fold_constraint}
 use Rattle.p3_numbers.specs.Goals.{numbered_name, is_known_name}

@@ -1,19 +1,19 @@
 -- Effects with numbers: what they add and delete, their literals, and their cost.
 use Rattle.std.specs.Prelude.{◌≡◌, ℕ, Bool, true, false, ◌&&◌, List, [], ◌∷◌, ◌++◌, map, flat_map, if◌then◌else◌, Option, Some}
 use Rattle.std.specs.List.{list_all}
-use Rattle.p3_tree.specs.Costs.{cost_units, given_value, total, effect_cost}
-use Rattle.p3_tree.specs.Effects.{adds, dels}
-use Rattle.p3_tree.specs.Folds as named
-use Rattle.p3_tree.specs.Formulas.{holds}
-use Rattle.p3_tree.specs.Literals as literal
-use Rattle.p3_tree.specs.Names.{has_name}
-use Rattle.p3_tree.specs.States.{State}
-use Rattle.p3_tree.specs.declared.state.Fact.{Fact}
-use Rattle.p3_tree.specs.declared.effect.Amount.{Amount}
-use Rattle.p3_tree.specs.declared.effect.Amount.TheVariants as amount
-use Rattle.p3_tree.specs.declared.effect.Effect.{Effect}
-use Rattle.p3_tree.specs.declared.effect.Effect.TheOpen as effect
-use Rattle.p3_tree.specs.declared.task.Task.{Task}
+use Rattle.p3_task.specs.Costs.{cost_units, given_value, total, effect_cost}
+use Rattle.p3_task.specs.Effects.{adds, dels}
+use Rattle.p3_task.specs.Folds as named
+use Rattle.p3_task.specs.Formulas.{holds}
+use Rattle.p3_task.specs.Literals as literal
+use Rattle.p3_task.specs.Names.{has_name}
+use Rattle.p3_task.specs.States.{State}
+use Rattle.p3_task.specs.declared.state.Fact.{Fact}
+use Rattle.p3_task.specs.declared.effect.Amount.{Amount}
+use Rattle.p3_task.specs.declared.effect.Amount.TheVariants as amount
+use Rattle.p3_task.specs.declared.effect.Effect.{Effect}
+use Rattle.p3_task.specs.declared.effect.Effect.TheOpen as effect
+use Rattle.p3_task.specs.declared.task.Task.{Task}
 use Rattle.p3_numbers.specs.Conditions.{met, condition_of, is_known_formula}
 use Rattle.p3_numbers.specs.Folds.{fold_effect}
 use Rattle.p3_numbers.specs.Places.{Variables, number_in, numbered_terms, ranges_of, words_of, are_known_terms, are_known_types, Fills, environment_of}

@@ -1,15 +1,15 @@
 -- Preconditions and goals with numbers: their hard parts and their preferences.
 use Rattle.std.specs.Prelude.{◌≡◌, ℕ, Bool, true, ◌&&◌, List, [], ◌∷◌, ◌++◌, map, flat_map, Option, Some, None, option_map}
 use Rattle.std.specs.List.{list_all}
-use Rattle.p3_tree.specs.Folds as named
-use Rattle.p3_tree.specs.Formulas.{holds}
-use Rattle.p3_tree.specs.Goals.{StatePref, hard_holds, prefs}
-use Rattle.p3_tree.specs.Names.{Name, has_name}
-use Rattle.p3_tree.specs.States.{State}
-use Rattle.p3_tree.specs.declared.goal.PreGoal.{PreGoal}
-use Rattle.p3_tree.specs.declared.goal.PreGoal.TheOpen as pregoal
-use Rattle.p3_tree.specs.declared.term.Ref.{Ref}
-use Rattle.p3_tree.specs.declared.task.Task.{Task}
+use Rattle.p3_task.specs.Folds as named
+use Rattle.p3_task.specs.Formulas.{holds}
+use Rattle.p3_task.specs.Goals.{StatePref, hard_holds, prefs}
+use Rattle.p3_task.specs.Names.{Name, has_name}
+use Rattle.p3_task.specs.States.{State}
+use Rattle.p3_task.specs.declared.goal.PreGoal.{PreGoal}
+use Rattle.p3_task.specs.declared.goal.PreGoal.TheOpen as pregoal
+use Rattle.p3_task.specs.declared.term.Ref.{Ref}
+use Rattle.p3_task.specs.declared.task.Task.{Task}
 use Rattle.p3_numbers.specs.Conditions.{met, condition_of, is_known_formula}
 use Rattle.p3_numbers.specs.Folds.{fold_goal}
 use Rattle.p3_numbers.specs.Places.{Variables, number_in, ranges_of, words_of, are_known_types, Fills, environment_of}

@@ -1,14 +1,14 @@
 -- What the numbers of a well-formed task cover: each name in it has a number, and each variable a slot.
 use Rattle.std.specs.Prelude.{◌≡◌, Bool, true, ◌&&◌, List, [], ◌++◌, flat_map}
 use Rattle.std.specs.List.{list_any, list_all}
-use Rattle.p3_tree.specs.Names.{Name, same_name, has_name}
-use Rattle.p3_tree.specs.Offences.{WellFormed, is_declared}
-use Rattle.p3_tree.specs.PreferenceNames.{preference_names}
-use Rattle.p3_tree.specs.Types.{declared_objects}
-use Rattle.p3_tree.specs.Uses.{Use, Objects, Variables, AtomUse, FunctionUse, SideUse, NameUse, action_uses, constraint_uses, problem_uses}
-use Rattle.p3_tree.specs.declared.task.Action.{Action}
-use Rattle.p3_tree.specs.declared.task.Header.{Header}
-use Rattle.p3_tree.specs.declared.task.Task.{Task}
+use Rattle.p3_task.specs.Names.{Name, same_name, has_name}
+use Rattle.p3_task.specs.Offences.{WellFormed, is_declared}
+use Rattle.p3_task.specs.PreferenceNames.{preference_names}
+use Rattle.p3_task.specs.Types.{declared_objects}
+use Rattle.p3_task.specs.Uses.{Use, Objects, Variables, AtomUse, FunctionUse, SideUse, NameUse, action_uses, constraint_uses, problem_uses}
+use Rattle.p3_task.specs.declared.task.Action.{Action}
+use Rattle.p3_task.specs.declared.task.Header.{Header}
+use Rattle.p3_task.specs.declared.task.Task.{Task}
 use Rattle.p3_numbers.specs.Constraints.{is_known_constraint}
 use Rattle.p3_numbers.specs.Effects.{is_known_effect}
 use Rattle.p3_numbers.specs.Goals.{is_known_goal}

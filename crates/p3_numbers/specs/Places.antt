@@ -1,16 +1,16 @@
 -- The numbers of names and the slots of variables.
 use Rattle.std.specs.Prelude.{◌≡◌, ℕ, ◌<◌, Bool, true, List, [], ◌∷◌, map, length, Option, Some, None, is_some}
 use Rattle.std.specs.List.{list_any, list_all, position_or_len, All}
-use Rattle.p3_tree.specs.Names.{Name, same_name, same_names, has_name}
-use Rattle.p3_tree.specs.Types.{names_of, objects}
-use Rattle.p3_tree.specs.States.{Environment}
-use Rattle.p3_tree.specs.Bindings.{tuples, extended}
-use Rattle.p3_tree.specs.declared.term.Ref.{Ref}
-use Rattle.p3_tree.specs.declared.term.Term.{Term}
-use Rattle.p3_tree.specs.declared.term.Term.TheVariants.{Var, Const}
-use Rattle.p3_tree.specs.declared.term.Typed.{Typed}
-use Rattle.p3_tree.specs.declared.task.Task.{Task}
-pub use Rattle.p3_tree.specs.Slots.{place_after, slot_of, words_of}
+use Rattle.p3_task.specs.Names.{Name, same_name, same_names, has_name}
+use Rattle.p3_task.specs.Types.{names_of, objects}
+use Rattle.p3_task.specs.States.{Environment}
+use Rattle.p3_task.specs.Bindings.{tuples, extended}
+use Rattle.p3_task.specs.declared.term.Ref.{Ref}
+use Rattle.p3_task.specs.declared.term.Term.{Term}
+use Rattle.p3_task.specs.declared.term.Term.TheVariants.{Var, Const}
+use Rattle.p3_task.specs.declared.term.Typed.{Typed}
+use Rattle.p3_task.specs.declared.task.Task.{Task}
+pub use Rattle.p3_task.specs.Slots.{place_after, slot_of, words_of}
 use Rattle.p3_numbers.specs.Slots.{Slots, name_at, object_names, range_at, tuples_of}
 use Rattle.p3_numbers.specs.declared.condition.NumberedArgument.{NumberedArgument}
 use Rattle.p3_numbers.specs.declared.condition.NumberedArgument.TheVariants.{Slot, Object}

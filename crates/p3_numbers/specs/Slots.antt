@@ -1,7 +1,7 @@
 -- Numbers in the place of names, and objects in the slots of variables.
 use Rattle.std.specs.Prelude.{ℕ, List, [], ◌∷◌, ◌++◌, map, flat_map, slice_index_or}
-use Rattle.p3_tree.specs.Names.{Name}
-use Rattle.p3_tree.specs.declared.state.Fact.{Fact}
+use Rattle.p3_task.specs.Names.{Name}
+use Rattle.p3_task.specs.declared.state.Fact.{Fact}
 use Rattle.p3_numbers.specs.declared.condition.NumberedArgument.{NumberedArgument}
 use Rattle.p3_numbers.specs.declared.condition.NumberedArgument.TheVariants.{Slot, Object}
 use Rattle.p3_numbers.specs.declared.numbers.Numbers.{Numbers}

@@ -1,12 +1,12 @@
 -- The initial state with numbers.
 use Rattle.std.specs.Prelude.{◌≡◌, Bool, true, ◌&&◌, List, [], map, filter_map, Option, Some, None}
 use Rattle.std.specs.List.{list_all}
-use Rattle.p3_tree.specs.Names.{has_name}
-use Rattle.p3_tree.specs.States.{start}
-use Rattle.p3_tree.specs.declared.state.Fact.{Fact}
-use Rattle.p3_tree.specs.declared.task.Init.{Init}
-use Rattle.p3_tree.specs.declared.task.Init.TheVariants.{True, False, Value}
-use Rattle.p3_tree.specs.declared.task.Task.{Task}
+use Rattle.p3_task.specs.Names.{has_name}
+use Rattle.p3_task.specs.States.{start}
+use Rattle.p3_task.specs.declared.state.Fact.{Fact}
+use Rattle.p3_task.specs.declared.task.Init.{Init}
+use Rattle.p3_task.specs.declared.task.Init.TheVariants.{True, False, Value}
+use Rattle.p3_task.specs.declared.task.Task.{Task}
 use Rattle.p3_numbers.specs.Places.{number_in, numbered_terms, are_known_terms}
 use Rattle.p3_numbers.specs.Slots.{values_of, name_at, object_names}
 use Rattle.p3_numbers.specs.declared.numbers.Numbers.{Numbers}

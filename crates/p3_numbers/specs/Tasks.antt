@@ -1,11 +1,11 @@
 -- The numbered task that a task becomes.
 use Rattle.std.specs.Prelude.{◌≡◌, List, [], map}
-use Rattle.p3_tree.specs.Names.{Name}
-use Rattle.p3_tree.specs.PreferenceNames.{ordered_names}
-use Rattle.p3_tree.specs.Types.{once_each, declared_objects}
-use Rattle.p3_tree.specs.declared.task.Action.{Action}
-use Rattle.p3_tree.specs.declared.task.Header.{Header}
-use Rattle.p3_tree.specs.declared.task.Task.{Task}
+use Rattle.p3_task.specs.Names.{Name}
+use Rattle.p3_task.specs.PreferenceNames.{ordered_names}
+use Rattle.p3_task.specs.Types.{once_each, declared_objects}
+use Rattle.p3_task.specs.declared.task.Action.{Action}
+use Rattle.p3_task.specs.declared.task.Header.{Header}
+use Rattle.p3_task.specs.declared.task.Task.{Task}
 use Rattle.p3_numbers.specs.Constraints.{constraint_of}
 use Rattle.p3_numbers.specs.Effects.{effect_of}
 use Rattle.p3_numbers.specs.Goals.{goal_of}

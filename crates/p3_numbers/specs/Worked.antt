@@ -1,10 +1,10 @@
 -- Worked cases on numbered formulas: hidden variables, several types, equality and types without objects.
 use Rattle.std.specs.Prelude.{◌≡◌, Bool, true, false, List, [], ◌∷◌, codes, map}
 use Prim.Native.String.{String}
-use Rattle.p3_tree.specs.States.{State}
-use Rattle.p3_tree.specs.Worked.Build.{term, typed, atom}
-use Rattle.p3_tree.specs.declared.formula.Formula.{Formula}
-use Rattle.p3_tree.specs.declared.formula.Formula.TheVariants as formula
+use Rattle.p3_task.specs.States.{State}
+use Rattle.p3_task.specs.Worked.Build.{term, typed, atom}
+use Rattle.p3_task.specs.declared.formula.Formula.{Formula}
+use Rattle.p3_task.specs.declared.formula.Formula.TheVariants as formula
 use Rattle.p3_numbers.specs.Conditions.{met, condition_of}
 use Rattle.p3_numbers.specs.declared.condition.NumberedArgument.TheVariants.{Slot}
 use Rattle.p3_numbers.specs.declared.condition.NumberedCondition.TheVariants as condition

@@ -2,7 +2,7 @@
 
 use crate::{NumberedArgument, NumberedCondition};
 use p3_base::{Boxed, List};
-use p3_tree::Numeral;
+use p3_task::Numeral;
 
 /// By how much an action increases the total cost.
 #[derive(Debug, Drop)]

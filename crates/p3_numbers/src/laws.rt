@@ -19,7 +19,7 @@ ghost use Rattle.p3_numbers.specs.Worked.{
   EqualTermsAreOneObject,
 };
 ghost use Rattle.p3_numbers.specs.declared.numbers.Numbers.{Numbers};
-ghost use Rattle.p3_tree.specs.declared.task.Task.{Task};
+ghost use Rattle.p3_task.specs.declared.task.Task.{Task};
 
 /// A condition holds where its formula does.
 pub fn numbered_conditions_mean_their_formulas()

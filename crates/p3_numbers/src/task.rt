@@ -2,7 +2,7 @@
 
 use crate::{NumberedGoal, NumberedConstraint, NumberedEffect, Numbers};
 use p3_base::List;
-use p3_tree::Numeral;
+use p3_task::Numeral;
 
 /// A predicate at objects.
 #[derive(Debug, Drop)]

@@ -5,8 +5,8 @@ use Rattle.std.proofs.lemmas.List.{append-nil, take_more}
 use Rattle.std.proofs.lemmas.List.Elements.{filter-append}
 use Rattle.std.proofs.lemmas.Slice.Eq.{bytes_eq-Decides}
 use denote.Ref.{Bor}
-use Rattle.p3_tree.specs.Names.{Name, same_name}
-use Rattle.p3_tree.specs.declared.term.Typed.{Typed}
+use Rattle.p3_task.specs.Names.{Name, same_name}
+use Rattle.p3_task.specs.declared.term.Typed.{Typed}
 use Rattle.p3_names.specs.Objects.{name_of}
 use Rattle.p3_offences.specs.ByName.{Lookup, items_in, declared_as, is_repeated, repeated_in, Files, FilesUnder}
 

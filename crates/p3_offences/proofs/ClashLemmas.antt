@@ -5,16 +5,16 @@ use Rattle.std.proofs.lemmas.List.{take_more, take_all, append-nil}
 use Rattle.std.proofs.lemmas.List.Concat.{flat_map-append}
 use Rattle.std.proofs.lemmas.Slice.Zip.{get_or-zip, length-zip}
 use Rattle.std.proofs.Math.Nat.{min-le_left, min-le_right}
-use Rattle.p3_tree.specs.Names.{Name, same_name}
-use Rattle.p3_tree.specs.Types.{type_names}
-use Rattle.p3_tree.specs.Uses.{Scope}
-use Rattle.p3_tree.specs.Offences.{term_fits, variable_fits, unless, word_of}
-use Rattle.p3_tree.specs.declared.term.Ref.{Ref}
-use Rattle.p3_tree.specs.declared.term.Term.{Term}
-use Rattle.p3_tree.specs.declared.term.Term.TheVariants.{Const, Var}
-use Rattle.p3_tree.specs.declared.term.Typed.{Typed}
-use Rattle.p3_tree.specs.declared.task.Header.{Header}
-use Rattle.p3_tree.specs.declared.task.Task.{Task}
+use Rattle.p3_task.specs.Names.{Name, same_name}
+use Rattle.p3_task.specs.Types.{type_names}
+use Rattle.p3_task.specs.Uses.{Scope}
+use Rattle.p3_task.specs.Offences.{term_fits, variable_fits, unless, word_of}
+use Rattle.p3_task.specs.declared.term.Ref.{Ref}
+use Rattle.p3_task.specs.declared.term.Term.{Term}
+use Rattle.p3_task.specs.declared.term.Term.TheVariants.{Const, Var}
+use Rattle.p3_task.specs.declared.term.Typed.{Typed}
+use Rattle.p3_task.specs.declared.task.Header.{Header}
+use Rattle.p3_task.specs.declared.task.Task.{Task}
 use Rattle.p3_offences.specs.Fitting.{object_fits_at, variable_fits_at}
 use Rattle.p3_offences.specs.Numbers.{headers_of, parameter_at}
 use Rattle.p3_offences.specs.Spots.{step}

@@ -6,8 +6,8 @@ use Rattle.std.proofs.lemmas.List.{take_more}
 use Rattle.std.proofs.lemmas.List.Folds.{find-append}
 use Rattle.std.proofs.lemmas.Option.{slice_get-get_or}
 use denote.Ref.{Bor}
-use Rattle.p3_tree.specs.Names.{Name, same_name}
-use Rattle.p3_tree.specs.declared.term.Ref.{Ref}
+use Rattle.p3_task.specs.Names.{Name, same_name}
+use Rattle.p3_task.specs.declared.term.Ref.{Ref}
 use Rattle.p3_offences.specs.Tables.{AddsFirst, ArePlaced, FindsFirst, Placed, first_named, item_of, looked_at}
 
 module _ {A : Type 0} (word_of : A → Ref) where

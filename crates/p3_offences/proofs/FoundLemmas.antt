@@ -4,13 +4,13 @@ use Rattle.std.specs.Prelude.{slice_get, option_map, option_and_then, All}
 use Rattle.std.specs.List.{list_all}
 use Rattle.std.proofs.lemmas.Option.{slice_get-map}
 use Rattle.std.proofs.lemmas.List.Elements.{All-head, All-tail}
-use Rattle.p3_tree.specs.Names.{Name}
-use Rattle.p3_tree.specs.Types.{declared_objects, is_below_some, is_object_of, names_of}
-use Rattle.p3_tree.specs.declared.term.Ref.{Ref}
-use Rattle.p3_tree.specs.declared.term.Typed.{Typed}
-use Rattle.p3_tree.specs.declared.task.Header.{Header}
-use Rattle.p3_tree.specs.declared.task.Task.{Task}
-use Rattle.p3_tree.proofs.OnceLemmas.{Some-injective}
+use Rattle.p3_task.specs.Names.{Name}
+use Rattle.p3_task.specs.Types.{declared_objects, is_below_some, is_object_of, names_of}
+use Rattle.p3_task.specs.declared.term.Ref.{Ref}
+use Rattle.p3_task.specs.declared.term.Typed.{Typed}
+use Rattle.p3_task.specs.declared.task.Header.{Header}
+use Rattle.p3_task.specs.declared.task.Task.{Task}
+use Rattle.p3_task.proofs.OnceLemmas.{Some-injective}
 use Rattle.p3_offences.specs.Fitting.{HasFitting, found_fits}
 use Rattle.p3_offences.specs.Numbers.{AreAllNumbers, names_at, number_at}
 use Rattle.p3_offences.proofs.FitLemmas.{object-fits, same-below, same-objects}

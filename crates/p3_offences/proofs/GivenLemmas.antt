@@ -5,16 +5,16 @@ use Rattle.std.specs.List.{list_any}
 use Rattle.std.specs.Cmp.Lexicographic.{pointwise, nat_list_eq_equiv, lists_equiv}
 use Rattle.std.proofs.lemmas.List.{take_more, append-nil, map-append}
 use Rattle.std.proofs.lemmas.List.Folds.{list_any-append}
-use Rattle.p3_tree.proofs.MeaningLemmas.{list_any-map}
+use Rattle.p3_task.proofs.MeaningLemmas.{list_any-map}
 use Rattle.indexmap.specs.IndexSet.{insert_key}
-use Rattle.p3_tree.specs.Names.{Name, same_names}
-use Rattle.p3_tree.specs.States.{meanings}
-use Rattle.p3_tree.specs.Offences.{is_given_by, repeated_value, repeated_values, unless}
-use Rattle.p3_tree.specs.declared.effect.Numeral.{Numeral}
-use Rattle.p3_tree.specs.declared.term.Ref.{Ref}
-use Rattle.p3_tree.specs.declared.term.Term.{Term}
-use Rattle.p3_tree.specs.declared.task.Init.{Init}
-use Rattle.p3_tree.specs.declared.task.Init.TheVariants as init
+use Rattle.p3_task.specs.Names.{Name, same_names}
+use Rattle.p3_task.specs.States.{meanings}
+use Rattle.p3_task.specs.Offences.{is_given_by, repeated_value, repeated_values, unless}
+use Rattle.p3_task.specs.declared.effect.Numeral.{Numeral}
+use Rattle.p3_task.specs.declared.term.Ref.{Ref}
+use Rattle.p3_task.specs.declared.term.Term.{Term}
+use Rattle.p3_task.specs.declared.task.Init.{Init}
+use Rattle.p3_task.specs.declared.task.Init.TheVariants as init
 use Rattle.p3_offences.specs.Given.{AddsKey, AddsValue, Tells, value_in}
 use Rattle.p3_offences.specs.Spots.{step}
 use Rattle.p3_offences.specs.declared.spot.Spot.{Spot}

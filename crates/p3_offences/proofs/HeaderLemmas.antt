@@ -1,12 +1,12 @@
 -- A predicate or a function at arguments, by the header that was found.
 use Rattle.std.proofs.Common.{◌≡◌, ◌∙◌, List, ◌++◌, Option, sym}
 use Rattle.std.specs.Prelude.{fold, flat_map, is_some}
-use Rattle.p3_tree.specs.Uses.{Scope, AtomUse, FunctionUse}
-use Rattle.p3_tree.specs.Offences.{header_named, unless, unknown_term, unknown_header}
-use Rattle.p3_tree.specs.declared.term.Ref.{Ref}
-use Rattle.p3_tree.specs.declared.term.Term.{Term}
-use Rattle.p3_tree.specs.declared.task.Header.{Header}
-use Rattle.p3_tree.specs.declared.task.Task.{Task}
+use Rattle.p3_task.specs.Uses.{Scope, AtomUse, FunctionUse}
+use Rattle.p3_task.specs.Offences.{header_named, unless, unknown_term, unknown_header}
+use Rattle.p3_task.specs.declared.term.Ref.{Ref}
+use Rattle.p3_task.specs.declared.term.Term.{Term}
+use Rattle.p3_task.specs.declared.task.Header.{Header}
+use Rattle.p3_task.specs.declared.task.Task.{Task}
 use Rattle.p3_offences.specs.declared.spot.FirstOffences.{FirstOffences}
 use Rattle.p3_offences.specs.Spots.{step, use_step, header_step}
 use Rattle.p3_offences.proofs.TableLemmas.{found-named}

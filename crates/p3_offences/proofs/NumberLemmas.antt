@@ -5,12 +5,12 @@ use Rattle.std.specs.List.{list_any, position_or_len}
 use Rattle.std.proofs.lemmas.List.{append-nil, map-append, length-map, take_more}
 use Rattle.std.proofs.Math.Dec.{eqb-suc-suc, eqb-zero-suc}
 use denote.Ref.{Bor}
-use Rattle.p3_tree.specs.Names.{Name, same_names}
-use Rattle.p3_tree.specs.Types.{names_of}
-use Rattle.p3_tree.specs.declared.term.Ref.{Ref}
-use Rattle.p3_tree.specs.declared.term.Typed.{Typed}
-use Rattle.p3_tree.specs.declared.task.Header.{Header}
-use Rattle.p3_tree.proofs.StateLemmas.{same_names-Decides}
+use Rattle.p3_task.specs.Names.{Name, same_names}
+use Rattle.p3_task.specs.Types.{names_of}
+use Rattle.p3_task.specs.declared.term.Ref.{Ref}
+use Rattle.p3_task.specs.declared.term.Typed.{Typed}
+use Rattle.p3_task.specs.declared.task.Header.{Header}
+use Rattle.p3_task.proofs.StateLemmas.{same_names-Decides}
 use Rattle.p3_names.specs.Names.{with_list}
 use Rattle.p3_offences.specs.Numbers.{Keeps, AreNumbers, AreAllNumbers, NumbersMore, names_at, names_in}
 

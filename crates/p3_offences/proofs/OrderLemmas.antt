@@ -6,13 +6,13 @@ use Rattle.p3_base.specs.declared.refusal.Code.{Code}
 use Rattle.p3_base.specs.declared.refusal.Code.TheVariants.{Duplicate, Unknown, Arity, TypeClash}
 use Rattle.p3_base.specs.declared.refusal.Refusal.{Refusal}
 use Rattle.p3_base.specs.declared.refusal.Side.{Side}
-use Rattle.p3_tree.specs.FirstOffence.{Offence, offence, first_offence, least_word}
-use Rattle.p3_tree.specs.Offences.{domain_duplicates, problem_duplicates, domain_unknowns, problem_unknowns, domain_miscounts, problem_miscounts, domain_clashes, problem_clashes}
-use Rattle.p3_tree.specs.Refusals.First.{refusal_of}
-use Rattle.p3_tree.specs.Refusals.Places.{first_some}
-use Rattle.p3_tree.specs.Sides.{Half, InDomain, InProblem, role_of}
-use Rattle.p3_tree.specs.declared.term.Ref.{Ref}
-use Rattle.p3_tree.specs.declared.task.Task.{Task}
+use Rattle.p3_task.specs.FirstOffence.{Offence, offence, first_offence, least_word}
+use Rattle.p3_task.specs.Offences.{domain_duplicates, problem_duplicates, domain_unknowns, problem_unknowns, domain_miscounts, problem_miscounts, domain_clashes, problem_clashes}
+use Rattle.p3_task.specs.Refusals.First.{refusal_of}
+use Rattle.p3_task.specs.Refusals.Places.{first_some}
+use Rattle.p3_task.specs.Sides.{Half, InDomain, InProblem, role_of}
+use Rattle.p3_task.specs.declared.term.Ref.{Ref}
+use Rattle.p3_task.specs.declared.task.Task.{Task}
 use Rattle.p3_offences.specs.Order.{in_order, of_kind, refusal_at_spot}
 use Rattle.p3_offences.specs.Spots.{spot_of}
 use Rattle.p3_offences.specs.declared.spot.FirstOffences.{FirstOffences}

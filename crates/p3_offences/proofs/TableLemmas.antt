@@ -4,14 +4,14 @@ use Rattle.std.specs.Prelude.{flat_map, cond, is_some}
 use Rattle.std.specs.List.{list_any}
 use Rattle.std.proofs.lemmas.List.{map-append}
 use Rattle.std.proofs.lemmas.List.Folds.{list_any-append}
-use Rattle.p3_tree.specs.Names.{Name, same_name, has_name}
-use Rattle.p3_tree.specs.Offences.{kind_names, is_declared}
-use Rattle.p3_tree.specs.PreferenceNames as tree
-use Rattle.p3_tree.specs.PreferenceNames.{named_in_goal, named_in_constraint, named_in_domain, preference_names}
-use Rattle.p3_tree.specs.declared.term.Ref.{Ref}
-use Rattle.p3_tree.specs.declared.term.Typed.{Typed}
-use Rattle.p3_tree.specs.declared.task.Kind.{Kind}
-use Rattle.p3_tree.specs.declared.task.Task.{Task}
+use Rattle.p3_task.specs.Names.{Name, same_name, has_name}
+use Rattle.p3_task.specs.Offences.{kind_names, is_declared}
+use Rattle.p3_task.specs.PreferenceNames as tree
+use Rattle.p3_task.specs.PreferenceNames.{named_in_goal, named_in_constraint, named_in_domain, preference_names}
+use Rattle.p3_task.specs.declared.term.Ref.{Ref}
+use Rattle.p3_task.specs.declared.term.Typed.{Typed}
+use Rattle.p3_task.specs.declared.task.Kind.{Kind}
+use Rattle.p3_task.specs.declared.task.Task.{Task}
 use Rattle.p3_names.specs.Names.{Adds}
 use Rattle.p3_names.specs.Preferences.{named_in}
 use Rattle.p3_names.specs.Uses.{Seen, domain_seen, problem_seen}

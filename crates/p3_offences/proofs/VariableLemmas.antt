@@ -3,12 +3,12 @@ use Rattle.std.proofs.Common.{◌≡◌, ◌∙◌, ℕ, ◌+◌, ◌<◌, lengt
 use Rattle.std.specs.Prelude.{find, reverse, slice_get, option_map, is_some}
 use Rattle.std.proofs.lemmas.List.{reverse-reverse, reverse-append, map-append, length-map, length_push, get_or_append_left, get_or_push}
 use Rattle.std.proofs.lemmas.Option.{slice_get-get_or}
-use Rattle.p3_tree.specs.Names.{Name, same_name}
-use Rattle.p3_tree.specs.Types.{type_names}
-use Rattle.p3_tree.specs.Uses.{scope_of}
-use Rattle.p3_tree.specs.declared.term.Typed.{Typed}
-use Rattle.p3_tree.proofs.OnceLemmas.{Some-injective}
-use Rattle.p3_tree.specs.Slots.{place_after, slot_of, words_of}
+use Rattle.p3_task.specs.Names.{Name, same_name}
+use Rattle.p3_task.specs.Types.{type_names}
+use Rattle.p3_task.specs.Uses.{scope_of}
+use Rattle.p3_task.specs.declared.term.Typed.{Typed}
+use Rattle.p3_task.proofs.OnceLemmas.{Some-injective}
+use Rattle.p3_task.specs.Slots.{place_after, slot_of, words_of}
 use Rattle.p3_names.specs.Scopes.{scope_seen}
 use Rattle.p3_names.proofs.ScopeLemmas.{slot_of-push}
 

@@ -3,12 +3,12 @@ use Rattle.std.proofs.Common.{◌≡◌, ◌∙◌, ℕ, ◌+◌, ◌<◌, lengt
 use Rattle.std.specs.Prelude.{fold, flat_map, option_map}
 use Rattle.std.proofs.lemmas.List.{take_more, append-nil}
 use Rattle.std.proofs.lemmas.List.Concat.{flat_map-append}
-use Rattle.p3_tree.specs.FirstOffence.{least_word}
-use Rattle.p3_tree.specs.Uses.{Use}
-use Rattle.p3_tree.specs.Offences.{repeated_after, repeated, unless}
-use Rattle.p3_tree.specs.declared.term.Ref.{Ref}
-use Rattle.p3_tree.specs.declared.task.Task.{Task}
-use Rattle.p3_tree.specs.Names.{Name, same_name, has_name}
+use Rattle.p3_task.specs.FirstOffence.{least_word}
+use Rattle.p3_task.specs.Uses.{Use}
+use Rattle.p3_task.specs.Offences.{repeated_after, repeated, unless}
+use Rattle.p3_task.specs.declared.term.Ref.{Ref}
+use Rattle.p3_task.specs.declared.task.Task.{Task}
+use Rattle.p3_task.specs.Names.{Name, same_name, has_name}
 use Rattle.std.specs.Prelude.{not, map, ◌||◌}
 use Rattle.std.proofs.lemmas.List.{map-append}
 use Rattle.p3_names.proofs.ScopeLemmas.{append-assoc}

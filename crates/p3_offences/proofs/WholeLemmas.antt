@@ -1,14 +1,14 @@
 -- What is found over a whole domain or problem is the word of least offset.
 use Rattle.std.proofs.Common.{◌≡◌, ◌∙◌, List, [], ◌++◌, Option, None, refl, sym, ap}
 use Rattle.std.specs.Prelude.{fold, flat_map, option_map}
-use Rattle.p3_tree.specs.FirstOffence.{least_word}
-use Rattle.p3_tree.specs.Offences.{repeated, repeated_values, header_words, action_words, repeated_variables, unknown_words, miscounted, clashing, total_cost_with_parameters, domain_duplicates, problem_duplicates, domain_unknowns, problem_unknowns, domain_miscounts, problem_miscounts, domain_clashes, problem_clashes}
-use Rattle.p3_tree.specs.Uses.{Use, Objects, goal_uses, constraint_uses, metric_uses, header_uses, action_uses, init_uses, domain_uses, problem_uses}
+use Rattle.p3_task.specs.FirstOffence.{least_word}
+use Rattle.p3_task.specs.Offences.{repeated, repeated_values, header_words, action_words, repeated_variables, unknown_words, miscounted, clashing, total_cost_with_parameters, domain_duplicates, problem_duplicates, domain_unknowns, problem_unknowns, domain_miscounts, problem_miscounts, domain_clashes, problem_clashes}
+use Rattle.p3_task.specs.Uses.{Use, Objects, goal_uses, constraint_uses, metric_uses, header_uses, action_uses, init_uses, domain_uses, problem_uses}
 use Rattle.p3_names.specs.Uses.{domain_seen, problem_seen}
-use Rattle.p3_tree.specs.declared.term.Ref.{Ref}
-use Rattle.p3_tree.specs.declared.task.Domain.{Domain}
-use Rattle.p3_tree.specs.declared.task.Problem.{Problem}
-use Rattle.p3_tree.specs.declared.task.Task.{Task}
+use Rattle.p3_task.specs.declared.term.Ref.{Ref}
+use Rattle.p3_task.specs.declared.task.Domain.{Domain}
+use Rattle.p3_task.specs.declared.task.Problem.{Problem}
+use Rattle.p3_task.specs.declared.task.Task.{Task}
 use Rattle.p3_offences.specs.Spots.{spot_of, step, use_step}
 use Rattle.p3_offences.specs.declared.spot.Spot.{Spot}
 use Rattle.p3_offences.specs.declared.spot.FirstOffences.{FirstOffences}

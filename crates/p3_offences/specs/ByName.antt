@@ -1,8 +1,8 @@
 -- The declarations of objects, by name.
 use Rattle.std.specs.Prelude.{◌≡◌, ℕ, Bool, List, [], ◌∷◌, ◌++◌, map, filter, length, nat_lt, Option, Some, None}
 use denote.Ref.{Bor}
-use Rattle.p3_tree.specs.Names.{Name, same_name}
-use Rattle.p3_tree.specs.declared.term.Typed.{Typed}
+use Rattle.p3_task.specs.Names.{Name, same_name}
+use Rattle.p3_task.specs.declared.term.Typed.{Typed}
 use Rattle.p3_names.specs.Objects.{name_of}
 
 -- the declarations that have the name

@@ -1,11 +1,11 @@
 -- What fits a list of types.
 use Rattle.std.specs.Prelude.{◌≡◌, ℕ, Bool, false, List, [], ◌∷◌, flat_map, map, slice_get, slice_index_or, if◌then◌else◌, Option, Some, None}
 use Rattle.std.specs.List.{list_any, list_all}
-use Rattle.p3_tree.specs.Names.{Name, has_name}
-use Rattle.p3_tree.specs.Types.{declared_objects, is_below_some, is_object_of, type_names}
-use Rattle.p3_tree.specs.declared.term.Ref.{Ref}
-use Rattle.p3_tree.specs.declared.term.Typed.{Typed}
-use Rattle.p3_tree.specs.declared.task.Task.{Task}
+use Rattle.p3_task.specs.Names.{Name, has_name}
+use Rattle.p3_task.specs.Types.{declared_objects, is_below_some, is_object_of, type_names}
+use Rattle.p3_task.specs.declared.term.Ref.{Ref}
+use Rattle.p3_task.specs.declared.term.Typed.{Typed}
+use Rattle.p3_task.specs.declared.task.Task.{Task}
 use Rattle.p3_names.specs.Objects.{fits, name_of}
 use Rattle.p3_names.specs.declared.declarations.Declaration.{Declaration}
 use Rattle.p3_offences.specs.ByName.{declared_as, is_repeated, repeated_items}

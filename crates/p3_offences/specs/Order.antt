@@ -6,8 +6,8 @@ use Rattle.p3_base.specs.declared.refusal.Code.TheVariants.{Duplicate, Unknown, 
 use Rattle.p3_base.specs.declared.refusal.Refusal.{Refusal}
 use Rattle.p3_base.specs.declared.refusal.Role.{Role}
 use Rattle.p3_base.specs.declared.refusal.Side.{Side}
-use Rattle.p3_tree.specs.Refusals.Places.{refusal_at}
-use Rattle.p3_tree.specs.Sides.{role_of, InDomain, InProblem}
+use Rattle.p3_task.specs.Refusals.Places.{refusal_at}
+use Rattle.p3_task.specs.Sides.{role_of, InDomain, InProblem}
 use Rattle.p3_offences.specs.declared.spot.Spot.{Spot}
 use Rattle.p3_offences.specs.declared.spot.FirstOffences.{FirstOffences}
 

@@ -1,12 +1,12 @@
 -- The word of least offset, found while a tree is walked.
 use Rattle.std.specs.Prelude.{nat_lt, fold, flat_map, length, if◌then◌else◌, Option, Some, None, List}
 use Rattle.std.specs.Prelude.{is_some}
-use Rattle.p3_tree.specs.Uses.{Scope, Use}
-use Rattle.p3_tree.specs.Offences.{repeated_variables, unknown_words, unknown_term, unless, miscounted, wrong_count, clashing, clashes}
-use Rattle.p3_tree.specs.declared.term.Ref.{Ref}
-use Rattle.p3_tree.specs.declared.term.Term.{Term}
-use Rattle.p3_tree.specs.declared.task.Header.{Header}
-use Rattle.p3_tree.specs.declared.task.Task.{Task}
+use Rattle.p3_task.specs.Uses.{Scope, Use}
+use Rattle.p3_task.specs.Offences.{repeated_variables, unknown_words, unknown_term, unless, miscounted, wrong_count, clashing, clashes}
+use Rattle.p3_task.specs.declared.term.Ref.{Ref}
+use Rattle.p3_task.specs.declared.term.Term.{Term}
+use Rattle.p3_task.specs.declared.task.Header.{Header}
+use Rattle.p3_task.specs.declared.task.Task.{Task}
 use Rattle.p3_offences.specs.declared.spot.Spot.{Spot}
 use Rattle.p3_offences.specs.declared.spot.FirstOffences.{FirstOffences}
 

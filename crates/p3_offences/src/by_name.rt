@@ -3,13 +3,13 @@
 ghost use Rattle.std.specs.Prelude.{◌≡◌, ◌++◌, [], ◌∷◌, bytes_eq, map, IfOk, OnOk};
 ghost use Rattle.std.specs.HashMap.{get};
 ghost use Rattle.std.specs.List.{list_any};
-ghost use Rattle.p3_tree.specs.Types.{declared_objects};
+ghost use Rattle.p3_task.specs.Types.{declared_objects};
 ghost use Rattle.p3_names.specs.Objects.{fits};
 ghost use Rattle.p3_offences.specs.ByName.{AreFiled, Files, FilesUnder, declared_as, is_repeated, repeated_in, repeated_items};
 
 use p3_base::{List, Name, NoMemory};
 use p3_names::{Below, Key, object_key};
-use p3_tree::{Task, Typed};
+use p3_task::{Task, Typed};
 use std::alloc::Global;
 use std::collections::HashMap;
 

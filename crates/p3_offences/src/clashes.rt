@@ -1,10 +1,10 @@
 //! Arguments that do not fit their parameters.
 
 ghost use Rattle.std.specs.Prelude.{◌≡◌, Some, find, fold, option_map, slice_get, IfSome};
-ghost use Rattle.p3_tree.specs.Names.{same_name};
-ghost use Rattle.p3_tree.specs.Types.{type_names};
-ghost use Rattle.p3_tree.specs.Offences.{clashes, term_fits, unless as unless_passing};
-ghost use Rattle.p3_tree.specs.Offences as specs;
+ghost use Rattle.p3_task.specs.Names.{same_name};
+ghost use Rattle.p3_task.specs.Types.{type_names};
+ghost use Rattle.p3_task.specs.Offences.{clashes, term_fits, unless as unless_passing};
+ghost use Rattle.p3_task.specs.Offences as specs;
 ghost use Rattle.p3_names.specs.Scopes.{scope_seen};
 ghost use Rattle.p3_offences.specs.Numbers.{headers_of, parameter_at};
 ghost use Rattle.p3_offences.specs.Spots.{step};
@@ -13,7 +13,7 @@ use crate::spot::{Spot, unless};
 use crate::tables::{Declared, Tables};
 use p3_base::Name;
 use p3_names::Scope;
-use p3_tree::{Ref, Term, Typed};
+use p3_task::{Ref, Term, Typed};
 
 /// The variable in scope that has the name.
 fn variable_of<'t>(scope: &Scope<'t>, name: &Name) -> Option<&'t Typed>

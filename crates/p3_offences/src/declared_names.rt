@@ -1,13 +1,13 @@
 //! The names of types and of preferences that a task declares.
 
 ghost use Rattle.std.specs.Prelude.{[], ◌∷◌, ◌++◌, map, flat_map, OnOk, IfOk};
-ghost use Rattle.p3_tree.specs.Offences.{declared_types, kind_names};
+ghost use Rattle.p3_task.specs.Offences.{declared_types, kind_names};
 ghost use Rattle.p3_names.specs.Names.{Adds};
 ghost use Rattle.p3_offences.specs.Tables.{name_of_word};
 
 use p3_base::{Name, NoMemory};
 use p3_names::{Named, Names, Visits, kind_digest, named_key};
-use p3_tree::{Kind, Ref, Task};
+use p3_task::{Kind, Ref, Task};
 use std::alloc::Global;
 
 /// A name more, where there is one.

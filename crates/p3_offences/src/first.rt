@@ -2,9 +2,9 @@
 
 ghost use Rattle.std.specs.Prelude.{◌≡◌, option_map, IfOk};
 ghost use Rattle.std.specs.Option.{option_or};
-ghost use Rattle.p3_tree.specs.FirstOffence;
-ghost use Rattle.p3_tree.specs.Refusals.First.{refusal_of};
-ghost use Rattle.p3_tree.specs.Sides as sides;
+ghost use Rattle.p3_task.specs.FirstOffence;
+ghost use Rattle.p3_task.specs.Refusals.First.{refusal_of};
+ghost use Rattle.p3_task.specs.Sides as sides;
 ghost use Rattle.p3_offences.specs.Order;
 ghost use Rattle.p3_offences.specs.Order.{refusal_at_spot};
 
@@ -13,7 +13,7 @@ use crate::tables::Tables;
 use crate::whole::{domain_found, problem_found};
 use p3_base::{Code, NoMemory, Pos, Refusal, Role, Side, as_number};
 use p3_names::Visits;
-use p3_tree::Task;
+use p3_task::Task;
 use std::alloc::Global;
 
 /// The refusal that stands first.

@@ -3,7 +3,7 @@
 ghost use Rattle.std.specs.Prelude.{◌≡◌, bytes_eq, Some, slice_get, OnOk, IfOk};
 ghost use Rattle.std.specs.List.{list_any};
 ghost use Rattle.std.specs.HashMap.{get};
-ghost use Rattle.p3_tree.specs.Names.{same_name};
+ghost use Rattle.p3_task.specs.Names.{same_name};
 ghost use Rattle.p3_offences.specs.Tables.{AddsFirst, ArePlaced, FindsFirst};
 ghost use Rattle.p3_offences.specs.Tables.{first_named, item_of, looked_at};
 

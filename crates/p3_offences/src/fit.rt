@@ -2,7 +2,7 @@
 
 ghost use Rattle.std.specs.Prelude.{◌≡◌, map, IfOk};
 ghost use Rattle.std.specs.List.{list_all};
-ghost use Rattle.p3_tree.specs.Types.{declared_objects, type_names, is_below_some};
+ghost use Rattle.p3_task.specs.Types.{declared_objects, type_names, is_below_some};
 ghost use Rattle.p3_offences.specs.ByName.{repeated_items};
 ghost use Rattle.p3_offences.specs.Fitting.{HasFitting, found_fits};
 
@@ -10,7 +10,7 @@ use crate::by_name::ByName;
 use crate::repeated::Repeated;
 use p3_base::{Name, NoMemory};
 use p3_names::{Below, Kinds, Names};
-use p3_tree::{Ref, Typed};
+use p3_task::{Ref, Typed};
 use std::alloc::Global;
 
 /// What fits a list of types.

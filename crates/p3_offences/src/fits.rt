@@ -1,7 +1,7 @@
 //! Whether objects and variables fit the parameters of a task's headers.
 
 ghost use Rattle.std.specs.Prelude.{◌≡◌, [], map, All, slice_get, option_map, option_and_then, IfOk};
-ghost use Rattle.p3_tree.specs.Types.{names_of};
+ghost use Rattle.p3_task.specs.Types.{names_of};
 ghost use Rattle.p3_offences.specs.Fitting.{object_fits_at, variable_fits_at};
 ghost use Rattle.p3_offences.specs.Numbers.{headers_of, parameter_at, names_in, AreAllNumbers};
 ghost use Rattle.p3_offences.specs.Numbers as specs;
@@ -12,7 +12,7 @@ use crate::numbers::number_headers;
 use crate::repeated::Repeated;
 use p3_base::{Name, NoMemory};
 use p3_names::{Kinds, TypeLists, parameter_key};
-use p3_tree::{Ref, Task, Typed};
+use p3_task::{Ref, Task, Typed};
 use std::alloc::Global;
 
 /// What fits the parameters of a task's headers. Headers are numbered from 0, those of predicates

@@ -2,9 +2,9 @@
 
 ghost use Rattle.std.specs.Prelude.{◌≡◌, [], ◌∷◌, ◌||◌, not, map, fold, OnOk, IfOk};
 ghost use Rattle.std.specs.List.{list_any};
-ghost use Rattle.p3_tree.specs.Names.{same_names};
-ghost use Rattle.p3_tree.specs.States.{meaning, meanings};
-ghost use Rattle.p3_tree.specs.Offences.{repeated_values};
+ghost use Rattle.p3_task.specs.Names.{same_names};
+ghost use Rattle.p3_task.specs.States.{meaning, meanings};
+ghost use Rattle.p3_task.specs.Offences.{repeated_values};
 ghost use Rattle.p3_offences.specs.Given.{AddsKey, AddsValue, value_in};
 ghost use Rattle.p3_offences.specs.Spots.{step};
 
@@ -12,7 +12,7 @@ use crate::spot::{Spot, unless};
 use indexmap::IndexSet;
 use p3_base::NoMemory;
 use p3_names::{Key, value_key};
-use p3_tree::{Init, Ref, Term};
+use p3_task::{Init, Ref, Term};
 use std::alloc::Global;
 use std::marker::Model;
 

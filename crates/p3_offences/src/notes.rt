@@ -2,10 +2,10 @@
 
 ghost use Rattle.std.specs.Prelude.{◌≡◌, Some, [], ◌∷◌, not, map, fold, flat_map, IfOk, OnOk};
 ghost use Rattle.std.specs.List.{list_any};
-ghost use Rattle.p3_tree.specs.Names.{same_name, has_name};
-ghost use Rattle.p3_tree.specs.Offences.{repeated, unknown_term, unknown_types, wrong_count};
-ghost use Rattle.p3_tree.specs.Offences.{unless as unless_passing, declared_types};
-ghost use Rattle.p3_tree.specs.Uses.{Objects, Variables, AtomUse, FunctionUse, SideUse, NameUse};
+ghost use Rattle.p3_task.specs.Names.{same_name, has_name};
+ghost use Rattle.p3_task.specs.Offences.{repeated, unknown_term, unknown_types, wrong_count};
+ghost use Rattle.p3_task.specs.Offences.{unless as unless_passing, declared_types};
+ghost use Rattle.p3_task.specs.Uses.{Objects, Variables, AtomUse, FunctionUse, SideUse, NameUse};
 ghost use Rattle.p3_names.specs.Scopes.{scope_seen};
 ghost use Rattle.p3_names.specs.Names.{Adds};
 ghost use Rattle.p3_offences.specs.Spots.{step, use_step, header_step};
@@ -17,7 +17,7 @@ use crate::tables::{Declared, Tables};
 use crate::worded::{Worded, word_key};
 use p3_base::{Name, NoMemory};
 use p3_names::{Names, Scope};
-use p3_tree::{Header, Ref, Term, Typed};
+use p3_task::{Header, Ref, Term, Typed};
 use std::alloc::Global;
 
 /// Whether a variable in scope has the name.

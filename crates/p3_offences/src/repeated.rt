@@ -6,7 +6,7 @@ ghost use Rattle.p3_offences.specs.Fitting.{AreInPlace, AreNamesFitting, name_in
 
 use p3_base::{Name, NoMemory};
 use p3_names::{Below, Declaration, Declarations, Key, Names, item_key};
-use p3_tree::Typed;
+use p3_task::Typed;
 use std::alloc::Global;
 
 /// Each declaration with its place as its number.

@@ -1,10 +1,10 @@
 //! The word of least offset.
 
 ghost use Rattle.std.specs.Prelude.{◌≡◌, fold};
-ghost use Rattle.p3_tree.specs.Offences.{unless as unless_passing};
+ghost use Rattle.p3_task.specs.Offences.{unless as unless_passing};
 ghost use Rattle.p3_offences.specs.Spots.{step};
 
-use p3_tree::Ref;
+use p3_task::Ref;
 
 /// A word of a text.
 #[derive(Clone, Copy)]

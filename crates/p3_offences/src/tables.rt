@@ -2,10 +2,10 @@
 
 ghost use Rattle.std.specs.Prelude.{◌≡◌, ◌+◌, ◌≤◌, ◌^◌, length, IfOk};
 ghost use Rattle.std.specs.Result.{MatchResult};
-ghost use Rattle.p3_tree.specs.Names.{has_name};
-ghost use Rattle.p3_tree.specs.Types.{declared_objects};
-ghost use Rattle.p3_tree.specs.Offences.{is_declared, declared_types, header_named};
-ghost use Rattle.p3_tree.specs.PreferenceNames.{preference_names};
+ghost use Rattle.p3_task.specs.Names.{has_name};
+ghost use Rattle.p3_task.specs.Types.{declared_objects};
+ghost use Rattle.p3_task.specs.Offences.{is_declared, declared_types, header_named};
+ghost use Rattle.p3_task.specs.PreferenceNames.{preference_names};
 ghost use Rattle.p3_names.specs.Uses.{domain_seen, problem_seen};
 ghost use Rattle.p3_offences.specs.Tables.{AreCounted, Has, IsNumbered, header_of};
 
@@ -14,7 +14,7 @@ use crate::firsts::Firsts;
 use crate::fits::Fits;
 use p3_base::{Name, NoMemory, TooLarge};
 use p3_names::{Names, Visits};
-use p3_tree::{Header, Task, Typed};
+use p3_task::{Header, Task, Typed};
 use std::alloc::Global;
 
 /// A predicate or a function of a task.

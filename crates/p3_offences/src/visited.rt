@@ -1,8 +1,8 @@
 //! What is found at all that the walk over trees came to.
 
 ghost use Rattle.std.specs.Prelude.{◌≡◌, ◌++◌, [], fold, OnOk, IfOk};
-ghost use Rattle.p3_tree.specs.Names.{total_cost};
-ghost use Rattle.p3_tree.specs.Uses.{scope_of, FunctionUse, Variables};
+ghost use Rattle.p3_task.specs.Names.{total_cost};
+ghost use Rattle.p3_task.specs.Uses.{scope_of, FunctionUse, Variables};
 ghost use Rattle.p3_names.specs.Scopes.{scope_seen};
 ghost use Rattle.p3_names.specs.Uses.{scope_behind, seen_at, uses_at};
 ghost use Rattle.p3_offences.specs.Spots.{use_step};
@@ -12,7 +12,7 @@ use crate::spot::FirstOffences;
 use crate::tables::Tables;
 use p3_base::{List, Name, NoMemory};
 use p3_names::{Scope, Visit, Visits};
-use p3_tree::{Ref, Term, Typed};
+use p3_task::{Ref, Term, Typed};
 use std::alloc::Global;
 
 /// The function of the total cost, at the offset.

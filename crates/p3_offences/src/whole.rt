@@ -1,15 +1,15 @@
 //! The first offences of a whole domain and problem.
 
 ghost use Rattle.std.specs.Prelude.{◌≡◌, [], ◌++◌, map, fold, flat_map, option_map, None, IfOk};
-ghost use Rattle.p3_tree.specs.FirstOffence.{least_word};
-ghost use Rattle.p3_tree.specs.Offences.{repeated, header_words, action_words};
-ghost use Rattle.p3_tree.specs.Offences.{domain_duplicates, problem_duplicates};
-ghost use Rattle.p3_tree.specs.Offences.{domain_unknowns, problem_unknowns};
-ghost use Rattle.p3_tree.specs.Offences.{domain_miscounts, problem_miscounts};
-ghost use Rattle.p3_tree.specs.Offences.{domain_clashes, problem_clashes};
-ghost use Rattle.p3_tree.specs.Offences.{total_cost_with_parameters};
-ghost use Rattle.p3_tree.specs.Uses.{header_uses, init_uses};
-ghost use Rattle.p3_tree.specs.Uses.{domain_uses, problem_uses};
+ghost use Rattle.p3_task.specs.FirstOffence.{least_word};
+ghost use Rattle.p3_task.specs.Offences.{repeated, header_words, action_words};
+ghost use Rattle.p3_task.specs.Offences.{domain_duplicates, problem_duplicates};
+ghost use Rattle.p3_task.specs.Offences.{domain_unknowns, problem_unknowns};
+ghost use Rattle.p3_task.specs.Offences.{domain_miscounts, problem_miscounts};
+ghost use Rattle.p3_task.specs.Offences.{domain_clashes, problem_clashes};
+ghost use Rattle.p3_task.specs.Offences.{total_cost_with_parameters};
+ghost use Rattle.p3_task.specs.Uses.{header_uses, init_uses};
+ghost use Rattle.p3_task.specs.Uses.{domain_uses, problem_uses};
 ghost use Rattle.p3_names.specs.Uses.{domain_seen, problem_seen};
 ghost use Rattle.p3_offences.specs.Spots.{step, use_step, spot_of};
 
@@ -20,7 +20,7 @@ use crate::tables::Tables;
 use crate::visited::visits_noted;
 use p3_base::NoMemory;
 use p3_names::{Scope, Visits};
-use p3_tree::{Domain, Header, Init, Problem};
+use p3_task::{Domain, Header, Init, Problem};
 use std::alloc::Global;
 
 /// What is found in headers.

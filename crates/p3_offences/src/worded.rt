@@ -1,11 +1,11 @@
 //! Things that have a name where they are declared.
 
 ghost use Rattle.std.specs.Prelude.{◌≡◌, map};
-ghost use Rattle.p3_tree.specs.declared.term.Ref.{Ref as Word};
+ghost use Rattle.p3_task.specs.declared.term.Ref.{Ref as Word};
 ghost use Rattle.p3_names.specs.Keys.{start_of};
 
 use p3_names::{Digest, Key};
-use p3_tree::{Action, Header, Ref, Typed};
+use p3_task::{Action, Header, Ref, Typed};
 
 /// What is declared by a word.
 pub(crate) trait Worded {

@@ -4,9 +4,9 @@ use Rattle.std.specs.Option.{option_or, option_map_or}
 use Rattle.p3_base.specs.declared.refusal.Code.TheVariants.{Unbalanced, TooDeep}
 use Rattle.p3_base.specs.declared.refusal.Refusal.{Refusal}
 use Rattle.p3_base.specs.declared.refusal.Role.{Role}
-use Rattle.p3_tree.specs.Refusals.Places.{refusal_at}
-use Rattle.p3_tree.specs.Refusals.Texts.{Inside, Behind, unbalanced_from, too_deep_from}
-use Rattle.p3_tree.specs.Tokens.{Token, Tokens, Open, Close, Word, before}
+use Rattle.p3_task.specs.Refusals.Places.{refusal_at}
+use Rattle.p3_task.specs.Refusals.Texts.{Inside, Behind, unbalanced_from, too_deep_from}
+use Rattle.p3_task.specs.Tokens.{Token, Tokens, Open, Close, Word, before}
 use Rattle.p3_outline.specs.Balances.{or_foreign, deep_at, with_token, depth, at_end, found_by, found_in}
 use Rattle.p3_outline.specs.declared.balance.Scan.{Scan}
 use Rattle.p3_outline.specs.declared.balance.Scan.TheVariants as scan

@@ -7,11 +7,11 @@ use Rattle.p3_lexer.specs.Lexing.{token_of}
 use Rattle.std.specs.Char.{to_ascii_lowercase}
 use Rattle.std.proofs.lemmas.List.{length-map, length-append, length-reverse, length-set, append-nil, set_at}
 use Rattle.std.proofs.Math.Seq.{take-append_seam, drop-append_seam}
-use Rattle.p3_tree.specs.Names.{is_empty}
-use Rattle.p3_tree.specs.Tokens.{Token, Tokens, Open, Close, Word, before, tokens_of}
-use Rattle.p3_tree.specs.Expressions.{Group, Reading, Within, Whole, Stopped, with_part, closed, read_token, whole_of, expression_of, expression_of_text}
-use Rattle.p3_tree.specs.declared.expression.Expression.{Expression}
-use Rattle.p3_tree.specs.declared.expression.Expression.TheVariants as expression
+use Rattle.p3_task.specs.Names.{is_empty}
+use Rattle.p3_task.specs.Tokens.{Token, Tokens, Open, Close, Word, before, tokens_of}
+use Rattle.p3_task.specs.Expressions.{Group, Reading, Within, Whole, Stopped, with_part, closed, read_token, whole_of, expression_of, expression_of_text}
+use Rattle.p3_task.specs.declared.expression.Expression.{Expression}
+use Rattle.p3_task.specs.declared.expression.Expression.TheVariants as expression
 use Rattle.p3_outline.specs.Builds.{Built, is_done, opened, closed_by, with_word, added, with_token}
 use Rattle.p3_outline.specs.Nodes.{expressions_in, slice_of}
 use Rattle.p3_outline.specs.declared.view.Node.{Node}

@@ -7,15 +7,15 @@ use Rattle.p3_lexer.proofs.ClassLemmas.{same_name_sym, differs, none_passed, tes
 use Rattle.p3_base.specs.Words.{is_name}
 use Rattle.p3_base.specs.declared.refusal.Code.TheVariants.{Construct}
 use Rattle.p3_base.specs.declared.refusal.Role.{Role}
-use Rattle.p3_tree.proofs.OnceLemmas.{Some-injective}
-use Rattle.p3_tree.specs.Names.{Name, same_name, has_name, total_cost}
-use Rattle.p3_tree.specs.FirstOffence.{least_word}
-use Rattle.p3_tree.specs.Grammar.Words.{expressions, word_place}
-use Rattle.p3_tree.specs.Refusals.Constructs.{left_out, has_some, word_when, is_word_called, shown_by, is_number_or_list, second_is_number, other_increase, not_a_number, constructs, constructs_of, constructs_all}
-use Rattle.p3_tree.specs.Refusals.Places.{refusal_at, refusal_at_word}
-use Rattle.p3_tree.specs.declared.expression.Expression.{Expression, Group', Row_of-Expression, end_of-Expression, more_of-Expression}
-use Rattle.p3_tree.specs.declared.expression.Expression.TheVariants as expression
-use Rattle.p3_tree.specs.declared.term.Ref.{Ref}
+use Rattle.p3_task.proofs.OnceLemmas.{Some-injective}
+use Rattle.p3_task.specs.Names.{Name, same_name, has_name, total_cost}
+use Rattle.p3_task.specs.FirstOffence.{least_word}
+use Rattle.p3_task.specs.Grammar.Words.{expressions, word_place}
+use Rattle.p3_task.specs.Refusals.Constructs.{left_out, has_some, word_when, is_word_called, shown_by, is_number_or_list, second_is_number, other_increase, not_a_number, constructs, constructs_of, constructs_all}
+use Rattle.p3_task.specs.Refusals.Places.{refusal_at, refusal_at_word}
+use Rattle.p3_task.specs.declared.expression.Expression.{Expression, Group', Row_of-Expression, end_of-Expression, more_of-Expression}
+use Rattle.p3_task.specs.declared.expression.Expression.TheVariants as expression
+use Rattle.p3_task.specs.declared.term.Ref.{Ref}
 use Rattle.p3_outline.specs.declared.constructs.Around.{Around}
 use Rattle.p3_outline.specs.declared.constructs.ConstructFound.{ConstructFound}
 use Rattle.p3_outline.specs.Nodes.{elements}

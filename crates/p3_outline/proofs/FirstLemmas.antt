@@ -6,12 +6,12 @@ use Rattle.p3_base.specs.declared.refusal.Refusal.{Refusal}
 use Rattle.p3_base.specs.declared.refusal.Role.{Role}
 use Rattle.p3_base.specs.declared.refusal.Role.TheVariants as role
 use Rattle.p3_base.specs.declared.refusal.Side.{Side}
-use Rattle.p3_tree.specs.Expressions.{expression_of}
-use Rattle.p3_tree.specs.Sides.{level_limit}
-use Rattle.p3_tree.specs.Tokens.{Token, tokens_of}
-use Rattle.p3_tree.specs.Refusals.Places.{first_some}
-use Rattle.p3_tree.specs.Refusals.Texts.{Inside, construct_in, long_number, refusal_of_bytes, text_refusal, unbalanced_from, too_deep_from}
-use Rattle.p3_tree.specs.declared.expression.Expression.{Expression}
+use Rattle.p3_task.specs.Expressions.{expression_of}
+use Rattle.p3_task.specs.Sides.{level_limit}
+use Rattle.p3_task.specs.Tokens.{Token, tokens_of}
+use Rattle.p3_task.specs.Refusals.Places.{first_some}
+use Rattle.p3_task.specs.Refusals.Texts.{Inside, construct_in, long_number, refusal_of_bytes, text_refusal, unbalanced_from, too_deep_from}
+use Rattle.p3_task.specs.declared.expression.Expression.{Expression}
 use Rattle.p3_places.specs.Searches.{side_of, half_of}
 use Rattle.p3_outline.specs.declared.view.Outline.{Outline}
 use Rattle.p3_outline.specs.Balances.{or_foreign, refusal_of_tokens}

@@ -1,10 +1,10 @@
 -- Nodes and what they stand for.
 use Rattle.std.proofs.Common.{◌≡◌, ◌∙◌, refl, sym, ap, subst, ℕ, zero, suc, ◌-◌, ◌≤◌, ◌<◌, get_or, List, [], ◌∷◌, take, drop, length, arith}
 use mathlib.Core.Former.{Count}
-use Rattle.p3_tree.specs.Grammar.Words.{expressions}
-use Rattle.p3_tree.specs.declared.expression.Expression.{Expression, Row_of-Expression, end_of-Expression, more_of-Expression, items-the_row-Expression, items_hidden-the_row-Expression-0}
-use Rattle.p3_tree.specs.declared.expression.Expression.TheBlock.{hidden-the_row-Expression-0}
-use Rattle.p3_tree.specs.declared.expression.Expression.TheVariants as expression
+use Rattle.p3_task.specs.Grammar.Words.{expressions}
+use Rattle.p3_task.specs.declared.expression.Expression.{Expression, Row_of-Expression, end_of-Expression, more_of-Expression, items-the_row-Expression, items_hidden-the_row-Expression-0}
+use Rattle.p3_task.specs.declared.expression.Expression.TheBlock.{hidden-the_row-Expression-0}
+use Rattle.p3_task.specs.declared.expression.Expression.TheVariants as expression
 use Rattle.p3_outline.specs.declared.view.Node.{Node}
 use Rattle.p3_outline.specs.declared.view.Node.TheVariants as node
 use Rattle.p3_outline.specs.Nodes.{decoded, word_of, expressions_in, expression_in, below_of, first_of, elements, IsList}

@@ -6,15 +6,15 @@ use Rattle.std.specs.Char.{to_ascii_lowercase}
 use Rattle.std.specs.List.{prefix_len}
 use Rattle.std.specs.Str.{bytes_eq, str_to_ascii_lowercase}
 use Rattle.std.proofs.lemmas.Bool.Decides.{nat_tests}
-use Rattle.p3_tree.specs.Names.{Name}
-use Rattle.p3_tree.specs.Decimals.{at_point}
+use Rattle.p3_task.specs.Names.{Name}
+use Rattle.p3_task.specs.Decimals.{at_point}
 use Rattle.std.specs.Option.{option_or}
 use Rattle.p3_base.specs.declared.refusal.Refusal.{Refusal}
 use Rattle.p3_base.specs.declared.refusal.Role.{Role}
 use Rattle.p3_base.specs.declared.refusal.Side.{Side}
-use Rattle.p3_tree.specs.Refusals.Places.{first_some}
-use Rattle.p3_tree.specs.Refusals.Texts.{long_number}
-use Rattle.p3_tree.specs.Tokens.{Token, Open, Close, Word, Tokens, before}
+use Rattle.p3_task.specs.Refusals.Places.{first_some}
+use Rattle.p3_task.specs.Refusals.Texts.{long_number}
+use Rattle.p3_task.specs.Tokens.{Token, Open, Close, Word, Tokens, before}
 use Rattle.p3_lexer.specs.Lexing.{token_of}
 use Rattle.p3_outline.specs.Numbers.{is_no_point}
 

@@ -10,21 +10,21 @@ use Rattle.p3_base.specs.declared.refusal.Code.TheVariants.{Unbalanced, TooDeep,
 use Rattle.p3_base.specs.declared.refusal.Refusal.{Refusal}
 use Rattle.p3_base.specs.declared.refusal.Role.{Role}
 use Rattle.p3_base.specs.declared.refusal.Side.{Side}
-use Rattle.p3_tree.specs.Expressions.{kept, expression_of, spelling, spellings}
-use Rattle.p3_tree.specs.FirstOffence.{least_word}
-use Rattle.p3_tree.specs.Names.{Name, same_name}
-use Rattle.p3_tree.specs.Sides.{Half, InDomain, InProblem, role_of, level_limit}
-use Rattle.p3_tree.specs.Tokens.{Token, Open, Close, Word, Tokens, is_blank, is_of_word, is_comment_after, before, prefixed, with_byte, tokens_from, tokens_of}
-use Rattle.p3_tree.specs.Grammar.Words.{Place, expressions}
-use Rattle.p3_tree.specs.Grammar.Halves.{domain_place, problem_place}
-use Rattle.p3_tree.specs.Refusals.Constructs.{word_when, head_of, first_word, unless_total_cost, other_increase, not_a_number, shown_by, constructs, constructs_of, constructs_all}
-use Rattle.p3_tree.specs.Refusals.Malformed.{IsMalformedAt, IsMalformed}
-use Rattle.p3_tree.specs.Refusals.Places.{refusal_at, refusal_at_word, refusal_at_token, first_some}
-use Rattle.p3_tree.specs.Refusals.Texts.{Before, Inside, Behind, after_token, construct_in, is_too_long, long_number, refusal_of_tokens, refusal_of_bytes, text_refusal, unbalanced_end, unbalanced_from, too_deep_from}
-use Rattle.p3_tree.specs.declared.expression.Expression.{Expression, Group', Row_of-Expression, end_of-Expression, more_of-Expression}
-use Rattle.p3_tree.specs.declared.expression.Expression.TheVariants as expression
-use Rattle.p3_tree.specs.declared.term.Ref.{Ref}
-use Rattle.p3_tree.proofs.ReadingLemmas.{tokens_spell}
+use Rattle.p3_task.specs.Expressions.{kept, expression_of, spelling, spellings}
+use Rattle.p3_task.specs.FirstOffence.{least_word}
+use Rattle.p3_task.specs.Names.{Name, same_name}
+use Rattle.p3_task.specs.Sides.{Half, InDomain, InProblem, role_of, level_limit}
+use Rattle.p3_task.specs.Tokens.{Token, Open, Close, Word, Tokens, is_blank, is_of_word, is_comment_after, before, prefixed, with_byte, tokens_from, tokens_of}
+use Rattle.p3_task.specs.Grammar.Words.{Place, expressions}
+use Rattle.p3_task.specs.Grammar.Halves.{domain_place, problem_place}
+use Rattle.p3_task.specs.Refusals.Constructs.{word_when, head_of, first_word, unless_total_cost, other_increase, not_a_number, shown_by, constructs, constructs_of, constructs_all}
+use Rattle.p3_task.specs.Refusals.Malformed.{IsMalformedAt, IsMalformed}
+use Rattle.p3_task.specs.Refusals.Places.{refusal_at, refusal_at_word, refusal_at_token, first_some}
+use Rattle.p3_task.specs.Refusals.Texts.{Before, Inside, Behind, after_token, construct_in, is_too_long, long_number, refusal_of_tokens, refusal_of_bytes, text_refusal, unbalanced_end, unbalanced_from, too_deep_from}
+use Rattle.p3_task.specs.declared.expression.Expression.{Expression, Group', Row_of-Expression, end_of-Expression, more_of-Expression}
+use Rattle.p3_task.specs.declared.expression.Expression.TheVariants as expression
+use Rattle.p3_task.specs.declared.term.Ref.{Ref}
+use Rattle.p3_task.proofs.ReadingLemmas.{tokens_spell}
 use Rattle.p3_places.specs.Searches.{side_of, half_of}
 use Rattle.p3_outline.specs.First.{IsWithin}
 use Rattle.p3_outline.proofs.SoundLemmas.{same_role}

@@ -5,11 +5,11 @@ use Rattle.std.specs.List.{list_all}
 use Rattle.std.specs.Str.{str_to_ascii_lowercase}
 use Rattle.std.proofs.lemmas.Bool.{and_parts}
 use Rattle.std.proofs.lemmas.List.{length-drop, length-take-le}
-use Rattle.p3_tree.specs.Names.{Name, same_name, has_name, total_cost}
-use Rattle.p3_tree.specs.Refusals.Constructs.{word_when, shown_by}
-use Rattle.p3_tree.specs.declared.expression.Expression.{Expression}
-use Rattle.p3_tree.specs.declared.expression.Expression.TheVariants as expression
-use Rattle.p3_tree.specs.declared.term.Ref.{Ref}
+use Rattle.p3_task.specs.Names.{Name, same_name, has_name, total_cost}
+use Rattle.p3_task.specs.Refusals.Constructs.{word_when, shown_by}
+use Rattle.p3_task.specs.declared.expression.Expression.{Expression}
+use Rattle.p3_task.specs.declared.expression.Expression.TheVariants as expression
+use Rattle.p3_task.specs.declared.term.Ref.{Ref}
 use Rattle.p3_outline.specs.declared.constructs.Around.{Around}
 use Rattle.p3_outline.specs.declared.view.Node.{Node}
 use Rattle.p3_outline.specs.declared.view.Node.TheVariants as node

@@ -7,14 +7,14 @@ use Rattle.p3_base.specs.declared.refusal.Refusal.{Refusal}
 use Rattle.p3_base.specs.declared.refusal.Role.{Role}
 use Rattle.p3_base.specs.declared.refusal.Role.TheVariants as role
 use Rattle.p3_base.specs.declared.refusal.Side.{Side}
-use Rattle.p3_tree.specs.Sides.{role_of, level_limit}
+use Rattle.p3_task.specs.Sides.{role_of, level_limit}
 use Rattle.p3_places.specs.Searches.{side_of, half_of}
-use Rattle.p3_tree.specs.Refusals.Places.{refusal_at}
-use Rattle.p3_tree.specs.Refusals.Texts.{Inside, Behind, unbalanced_from, too_deep_from, refusal_of_bytes, text_refusal}
-use Rattle.p3_tree.specs.Tokens.{Token, Open, Close, Word, tokens_of}
-use Rattle.p3_tree.specs.Expressions.{Group, Reading, Within, Whole, Stopped, read_token, whole_of, expression_of, expression_of_text}
-use Rattle.p3_tree.specs.declared.expression.Expression.{Expression}
-use Rattle.p3_tree.specs.declared.expression.Expression.TheVariants as expression
+use Rattle.p3_task.specs.Refusals.Places.{refusal_at}
+use Rattle.p3_task.specs.Refusals.Texts.{Inside, Behind, unbalanced_from, too_deep_from, refusal_of_bytes, text_refusal}
+use Rattle.p3_task.specs.Tokens.{Token, Open, Close, Word, tokens_of}
+use Rattle.p3_task.specs.Expressions.{Group, Reading, Within, Whole, Stopped, read_token, whole_of, expression_of, expression_of_text}
+use Rattle.p3_task.specs.declared.expression.Expression.{Expression}
+use Rattle.p3_task.specs.declared.expression.Expression.TheVariants as expression
 use Rattle.p3_outline.specs.Balances.{or_foreign, refusal_of_tokens, balance_refusal, outline_refusal}
 use Rattle.p3_outline.proofs.BuildLemmas.{stopped}
 use Rattle.std.proofs.lemmas.Bool.Decides.{nat_tests}

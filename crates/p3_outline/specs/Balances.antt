@@ -4,11 +4,11 @@ use Rattle.std.specs.Option.{option_or}
 use Rattle.p3_base.specs.declared.refusal.Code.TheVariants.{BadByte, Unbalanced, TooDeep}
 use Rattle.p3_base.specs.declared.refusal.Refusal.{Refusal}
 use Rattle.p3_base.specs.declared.refusal.Role.{Role}
-use Rattle.p3_tree.specs.Sides.{level_limit}
-use Rattle.p3_tree.specs.Refusals.Places.{refusal_at, refusal_at_token}
-use Rattle.p3_tree.specs.Refusals.Texts.{Inside, Behind, unbalanced_from, too_deep_from}
+use Rattle.p3_task.specs.Sides.{level_limit}
+use Rattle.p3_task.specs.Refusals.Places.{refusal_at, refusal_at_token}
+use Rattle.p3_task.specs.Refusals.Texts.{Inside, Behind, unbalanced_from, too_deep_from}
 use Rattle.p3_places.specs.Searches.{side_of}
-use Rattle.p3_tree.specs.Tokens.{Token, Tokens, Open, Close, Word, tokens_of}
+use Rattle.p3_task.specs.Tokens.{Token, Tokens, Open, Close, Word, tokens_of}
 use Rattle.p3_outline.specs.declared.balance.Scan.{Scan}
 use Rattle.p3_outline.specs.declared.balance.Scan.TheVariants as scan
 

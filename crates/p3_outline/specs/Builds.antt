@@ -1,7 +1,7 @@
 -- Nodes of a text, built token by token.
 use Rattle.std.specs.Prelude.{ℕ, ◌-◌, nat_lt, Bool, not, ◌&&◌, List, [], ◌∷◌, ◌++◌, length, reverse, set, if◌then◌else◌, Option, Some, None}
-use Rattle.p3_tree.specs.Names.{is_empty}
-use Rattle.p3_tree.specs.Tokens.{Token, Open, Close, Word}
+use Rattle.p3_task.specs.Names.{is_empty}
+use Rattle.p3_task.specs.Tokens.{Token, Open, Close, Word}
 use Rattle.p3_outline.specs.declared.view.Node.{Node}
 use Rattle.p3_outline.specs.declared.view.Node.TheVariants as node
 use Rattle.p3_outline.specs.declared.build.OpenList.{OpenList}

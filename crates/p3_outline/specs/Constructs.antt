@@ -4,11 +4,11 @@ use Rattle.std.specs.List.{list_any}
 use Rattle.std.specs.Option.{option_map_or}
 use Rattle.std.specs.Str.{str_to_ascii_lowercase}
 use Rattle.p3_base.specs.Words.{is_name}
-use Rattle.p3_tree.specs.Names.{Name, same_name, has_name, total_cost}
-use Rattle.p3_tree.specs.Grammar.Words.{word_place}
-use Rattle.p3_tree.specs.Refusals.Constructs.{left_out, has_some, word_when, is_word_called, is_number_or_list, second_is_number, other_increase, not_a_number, shown_by, constructs}
-use Rattle.p3_tree.specs.declared.expression.Expression.{Expression}
-use Rattle.p3_tree.specs.declared.term.Ref.{Ref}
+use Rattle.p3_task.specs.Names.{Name, same_name, has_name, total_cost}
+use Rattle.p3_task.specs.Grammar.Words.{word_place}
+use Rattle.p3_task.specs.Refusals.Constructs.{left_out, has_some, word_when, is_word_called, is_number_or_list, second_is_number, other_increase, not_a_number, shown_by, constructs}
+use Rattle.p3_task.specs.declared.expression.Expression.{Expression}
+use Rattle.p3_task.specs.declared.term.Ref.{Ref}
 use Rattle.p3_outline.specs.declared.constructs.Around.{Around}
 use Rattle.p3_outline.specs.declared.constructs.ConstructFound.{ConstructFound}
 use Rattle.p3_outline.specs.declared.constructs.TextWord.{TextWord}

@@ -1,9 +1,9 @@
 -- What nodes of an outline stand for.
 use Rattle.std.specs.Prelude.{◌≡◌, ℕ, zero, suc, List, [], ◌∷◌, take, drop, length}
 use Rattle.std.specs.Str.{str_to_ascii_lowercase}
-use Rattle.p3_tree.specs.Grammar.Words.{expressions}
-use Rattle.p3_tree.specs.declared.expression.Expression.{Expression, Group'}
-use Rattle.p3_tree.specs.declared.expression.Expression.TheVariants as expression
+use Rattle.p3_task.specs.Grammar.Words.{expressions}
+use Rattle.p3_task.specs.declared.expression.Expression.{Expression, Group'}
+use Rattle.p3_task.specs.declared.expression.Expression.TheVariants as expression
 use Rattle.p3_outline.specs.declared.view.Outline.{Outline}
 use Rattle.p3_outline.specs.declared.view.Node.{Node}
 use Rattle.p3_outline.specs.declared.view.Node.TheVariants as node

@@ -4,11 +4,11 @@ use Rattle.std.specs.Option.{option_map, option_map_or}
 use Rattle.std.specs.Str.{str_to_ascii_lowercase}
 use Rattle.p3_base.specs.declared.refusal.Refusal.{Refusal}
 use Rattle.p3_base.specs.declared.refusal.Role.{Role}
-use Rattle.p3_tree.specs.Refusals.Places.{first_some}
-use Rattle.p3_tree.specs.Refusals.Texts.{long_number}
-use Rattle.p3_tree.specs.Tokens.{tokens_of}
+use Rattle.p3_task.specs.Refusals.Places.{first_some}
+use Rattle.p3_task.specs.Refusals.Texts.{long_number}
+use Rattle.p3_task.specs.Tokens.{tokens_of}
 use Rattle.p3_places.specs.Searches.{side_of}
-use Rattle.p3_tree.specs.Names.{Name}
+use Rattle.p3_task.specs.Names.{Name}
 use Rattle.p3_outline.specs.declared.numbers.AtPoint.{AtPoint}
 
 abbrev pub is_no_point : ℕ → Bool

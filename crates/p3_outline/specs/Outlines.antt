@@ -1,8 +1,8 @@
 -- What an outline is.
 use Rattle.std.specs.Prelude.{◌≡◌, ℕ, List, Some, None}
 use Rattle.p3_base.specs.declared.refusal.Role.{Role}
-use Rattle.p3_tree.specs.Sides.{level_limit}
-use Rattle.p3_tree.specs.Expressions.{expression_of_text}
+use Rattle.p3_task.specs.Sides.{level_limit}
+use Rattle.p3_task.specs.Expressions.{expression_of_text}
 use Rattle.p3_places.specs.Searches.{side_of, Finds}
 use Rattle.p3_outline.specs.Balances.{outline_refusal}
 use Rattle.p3_outline.specs.Nodes.{root_of}

@@ -2,8 +2,8 @@
 
 ghost use Rattle.std.specs.Prelude.{◌≡◌, ◌≤◌, ◌<◌, ◌+◌, ◌^◌, length};
 ghost use Rattle.p3_base.specs.declared.refusal.Side.TheVariants.{Written};
-ghost use Rattle.p3_tree.specs.Refusals.Places.{refusal_at};
-ghost use Rattle.p3_tree.specs.Sides.{byte_limit};
+ghost use Rattle.p3_task.specs.Refusals.Places.{refusal_at};
+ghost use Rattle.p3_task.specs.Sides.{byte_limit};
 ghost use Rattle.p3_lexer.specs.Lexing.{token_of};
 ghost use Rattle.p3_outline.specs.Balances.{deep_at, closed_at, word_at, inside, with_token, depth, at_end, balance_refusal};
 

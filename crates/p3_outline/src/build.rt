@@ -3,10 +3,10 @@
 ghost use Rattle.std.specs.Prelude.{◌≡◌, ◌≤◌, ◌<◌, ◌+◌, ◌∷◌, [], length, IfOk, IfSome, Some, None};
 ghost use Rattle.std.specs.Option.{option_map, option_or};
 ghost use Rattle.p3_base.specs.declared.refusal.Side.TheVariants.{Written};
-ghost use Rattle.p3_tree.specs.Expressions.{expression_of_text};
-ghost use Rattle.p3_tree.specs.Sides.{byte_limit};
-ghost use Rattle.p3_tree.specs.Tokens.{Open};
-ghost use Rattle.p3_tree.specs.Refusals.Texts.{long_number};
+ghost use Rattle.p3_task.specs.Expressions.{expression_of_text};
+ghost use Rattle.p3_task.specs.Sides.{byte_limit};
+ghost use Rattle.p3_task.specs.Tokens.{Open};
+ghost use Rattle.p3_task.specs.Refusals.Texts.{long_number};
 ghost use Rattle.p3_lexer.specs.Lexing.{token_of};
 ghost use Rattle.p3_places.specs.Searches.{side_of};
 ghost use Rattle.p3_places.specs.Walks.{place_of, fault_of, Begins, Passes};

@@ -4,10 +4,10 @@ ghost use Rattle.std.specs.Prelude.{◌≡◌, ◌<◌, ◌^◌, ◌&&◌, lengt
 ghost use Rattle.std.specs.List.{list_all, list_any};
 ghost use Rattle.std.specs.Option.{option_map};
 ghost use Rattle.std.specs.Str.{str_to_ascii_lowercase};
-ghost use Rattle.p3_tree.specs.Names.{has_name};
-ghost use Rattle.p3_tree.specs.Grammar.Words.{word_place};
-ghost use Rattle.p3_tree.specs.Refusals.Constructs.{left_out, is_word_called, word_when, head_of, is_number_or_list, second_is_number, other_increase, not_a_number, constructs};
-ghost use Rattle.p3_tree.specs.Refusals.Texts.{construct_in};
+ghost use Rattle.p3_task.specs.Names.{has_name};
+ghost use Rattle.p3_task.specs.Grammar.Words.{word_place};
+ghost use Rattle.p3_task.specs.Refusals.Constructs.{left_out, is_word_called, word_when, head_of, is_number_or_list, second_is_number, other_increase, not_a_number, constructs};
+ghost use Rattle.p3_task.specs.Refusals.Texts.{construct_in};
 ghost use Rattle.p3_outline.specs.Nodes.{slice_of, expression_of, expressions_of, elements};
 ghost use Rattle.p3_outline.specs.Constructs.{the_word, least_with, declaring, conditions, is_left_out, begins_as_left_out, is_telling_byte, is_telling_length, may_tell, is_plain, is_showing_length, is_showing, may_show, is_dull, is_dull_length, is_dull_node, the_around, with_head, with_no_head, IsQuiet, FindsShown, FindsBelow, FindsIn, head_shown, behind_shown, place_shown};
 

@@ -4,8 +4,8 @@ ghost use Rattle.std.specs.Prelude.{◌≡◌, ◌≢◌, ◌≤◌, length, Som
 ghost use Rattle.std.specs.Option.{option_or};
 ghost use Rattle.p3_base.specs.declared.refusal.Role.TheVariants.{Plan};
 ghost use Rattle.p3_base.specs.declared.refusal.Side.TheVariants.{Written};
-ghost use Rattle.p3_tree.specs.Refusals.Texts.{construct_in, text_refusal};
-ghost use Rattle.p3_tree.specs.Sides.{byte_limit};
+ghost use Rattle.p3_task.specs.Refusals.Texts.{construct_in, text_refusal};
+ghost use Rattle.p3_task.specs.Sides.{byte_limit};
 ghost use Rattle.p3_places.specs.Searches.{side_of, half_of};
 ghost use Rattle.p3_outline.specs.Nodes.{root_of};
 ghost use Rattle.p3_outline.specs.Outlines.{IsOutline};

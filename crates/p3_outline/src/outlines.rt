@@ -3,9 +3,9 @@
 ghost use Rattle.std.specs.Prelude.{◌≡◌, ◌≢◌, ◌≤◌, length, IfOk, IfErr, Some, None};
 ghost use Rattle.p3_base.specs.declared.refusal.Role.TheVariants.{Plan};
 ghost use Rattle.p3_base.specs.declared.refusal.Side.TheVariants.{Written};
-ghost use Rattle.p3_tree.specs.Expressions.{expression_of_text};
-ghost use Rattle.p3_tree.specs.Sides.{level_limit, byte_limit};
-ghost use Rattle.p3_tree.specs.Refusals.Texts.{text_refusal};
+ghost use Rattle.p3_task.specs.Expressions.{expression_of_text};
+ghost use Rattle.p3_task.specs.Sides.{level_limit, byte_limit};
+ghost use Rattle.p3_task.specs.Refusals.Texts.{text_refusal};
 ghost use Rattle.p3_places.specs.Searches.{side_of, half_of};
 ghost use Rattle.p3_outline.specs.Balances.{balance_refusal, outline_refusal};
 ghost use Rattle.p3_outline.specs.Outlines.{IsOutline};

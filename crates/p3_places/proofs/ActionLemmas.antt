@@ -1,11 +1,11 @@
 -- The parts of an action, one after another.
 use Rattle.std.proofs.Common.{◌≡◌, ◌∙◌, refl, ap, ℕ, Bool, true, false, ◌&&◌, if◌then◌else◌, List, [], ◌∷◌, Option, Some, None}
 use Rattle.std.specs.Prelude.{codes}
-use Rattle.p3_tree.specs.Names.{Name, same_name}
-use Rattle.p3_tree.specs.Grammar.Words.{◌>>=◌}
-use Rattle.p3_tree.specs.Grammar.Halves.{Section, sections_named, keyword_parts, action_keywords}
-use Rattle.p3_tree.specs.declared.expression.Expression.{Expression, Group'}
-use Rattle.p3_tree.specs.declared.expression.Expression.TheVariants as expression
+use Rattle.p3_task.specs.Names.{Name, same_name}
+use Rattle.p3_task.specs.Grammar.Words.{◌>>=◌}
+use Rattle.p3_task.specs.Grammar.Halves.{Section, sections_named, keyword_parts, action_keywords}
+use Rattle.p3_task.specs.declared.expression.Expression.{Expression, Group'}
+use Rattle.p3_task.specs.declared.expression.Expression.TheVariants as expression
 use Rattle.p3_places.proofs.Runs.{run}
 use Rattle.p3_places.specs.Places.{part_word, part_once, part_forms}
 use Rattle.p3_places.proofs.Fits.{ends, run_parts, fits}

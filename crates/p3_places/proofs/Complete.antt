@@ -1,11 +1,11 @@
 -- The table is complete.
 use Rattle.std.proofs.Common.{◌≡◌, ◌∙◌, refl, sym, ap, subst, Bool, true, false, IsTrue, not, if◌then◌else◌, List, [], ◌∷◌, ◌++◌, Option, Some, None}
 use Rattle.std.specs.List.{list_all}
-use Rattle.p3_tree.specs.Names.{Name, same_name, total_cost}
+use Rattle.p3_task.specs.Names.{Name, same_name, total_cost}
 use Rattle.std.specs.Prelude.{codes}
 use Rattle.p3_base.specs.Words.{is_name, is_predicate_name, is_function_name}
-use Rattle.p3_tree.specs.PlanTexts.{Mark, Closes, Names}
-use Rattle.p3_tree.specs.Grammar.Words.{◌>>=◌, choose}
+use Rattle.p3_task.specs.PlanTexts.{Mark, Closes, Names}
+use Rattle.p3_task.specs.Grammar.Words.{◌>>=◌, choose}
 use Rattle.p3_lexer.proofs.MarkLemmas.{is_lexed}
 use Rattle.p3_places.proofs.Runs.{steps, ends_in_final, IsComplete}
 use Rattle.p3_places.specs.Places.{grammar_table, on_word, on_open, is_final, after, is_word_of, takes_word, list_of, has_all, rest_word, rest_list, type_slot, behind, may_end, in_list, in_section, head_of, head_word, section_word, once, with_list, num_slot, start, section_forms, part_forms, part_once, formula_head, goal_head, constraint_head, inner_head, num_head, init_head, rest_if, names, terms, many_of, one_of, effect_head, in_domain_section, with_domain_list, domain_once, domain_word, domain_forms, no_part}

@@ -1,7 +1,7 @@
 -- How each state can be completed.
 use Rattle.std.specs.Prelude.{Bool, true, false, not, if◌then◌else◌, List, [], ◌∷◌, ◌++◌, codes}
-use Rattle.p3_tree.specs.Names.{Name, total_cost}
-use Rattle.p3_tree.specs.PlanTexts.{Mark, Opens, Closes, Names}
+use Rattle.p3_task.specs.Names.{Name, total_cost}
+use Rattle.p3_task.specs.PlanTexts.{Mark, Opens, Closes, Names}
 use Rattle.p3_places.specs.Places.{type_slot, has_all}
 use Rattle.p3_places.specs.declared.state.Class.{Class}
 use Rattle.p3_places.specs.declared.state.Class.TheVariants as class

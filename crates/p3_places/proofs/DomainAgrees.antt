@@ -3,23 +3,23 @@ use Rattle.std.proofs.Common.{◌≡◌, ◌∙◌, refl, sym, ap, Bool, true, f
 use Rattle.std.specs.Prelude.{is_some, codes}
 use Rattle.std.specs.List.{list_all}
 use Rattle.p3_base.specs.Words.{is_name, is_predicate_name, is_function_name}
-use Rattle.p3_tree.specs.Names.{same_name, has_name}
-use Rattle.p3_tree.specs.Grammar.Words.{◌>>=◌, name_place, function_place, predicate_place, is_word, expressions}
-use Rattle.p3_tree.specs.Grammar.Words.{Place as Reads}
-use Rattle.p3_tree.specs.Grammar.Lists.{variables_in, variables_place, objects_in, one_type_place, grouped, typed_item}
-use Rattle.p3_tree.specs.Grammar.Goals.{goal_or_empty_place}
-use Rattle.p3_tree.specs.Grammar.Constraints.{constraint_or_empty_place}
-use Rattle.p3_tree.specs.Grammar.Effects.{effect_or_empty_place}
-use Rattle.p3_tree.specs.Grammar.Halves.{Section, NamedSections, sections_named, sections_among, optional, body_at, part_at, requirements, no_constraints, keyword_parts, action_keywords, action_in, all_actions, kind_item, kinds_in, header_in, header_place, predicates_in, functions_in, domain_keywords, domain_place}
-use Rattle.p3_tree.specs.declared.expression.Expression.{Expression, Group'}
-use Rattle.p3_tree.specs.declared.expression.Expression.TheVariants as expression
-use Rattle.p3_tree.specs.declared.effect.Effect.TheVariants as effect
-use Rattle.p3_tree.specs.declared.goal.PreGoal.TheVariants as goal
-use Rattle.p3_tree.specs.declared.task.Action.{Action}
-use Rattle.p3_tree.specs.declared.task.Domain.{Domain}
-use Rattle.p3_tree.specs.declared.task.Header.{Header}
-use Rattle.p3_tree.specs.declared.term.Ref.{Ref}
-use Rattle.p3_tree.specs.declared.term.Typed.{Typed}
+use Rattle.p3_task.specs.Names.{same_name, has_name}
+use Rattle.p3_task.specs.Grammar.Words.{◌>>=◌, name_place, function_place, predicate_place, is_word, expressions}
+use Rattle.p3_task.specs.Grammar.Words.{Place as Reads}
+use Rattle.p3_task.specs.Grammar.Lists.{variables_in, variables_place, objects_in, one_type_place, grouped, typed_item}
+use Rattle.p3_task.specs.Grammar.Goals.{goal_or_empty_place}
+use Rattle.p3_task.specs.Grammar.Constraints.{constraint_or_empty_place}
+use Rattle.p3_task.specs.Grammar.Effects.{effect_or_empty_place}
+use Rattle.p3_task.specs.Grammar.Halves.{Section, NamedSections, sections_named, sections_among, optional, body_at, part_at, requirements, no_constraints, keyword_parts, action_keywords, action_in, all_actions, kind_item, kinds_in, header_in, header_place, predicates_in, functions_in, domain_keywords, domain_place}
+use Rattle.p3_task.specs.declared.expression.Expression.{Expression, Group'}
+use Rattle.p3_task.specs.declared.expression.Expression.TheVariants as expression
+use Rattle.p3_task.specs.declared.effect.Effect.TheVariants as effect
+use Rattle.p3_task.specs.declared.goal.PreGoal.TheVariants as goal
+use Rattle.p3_task.specs.declared.task.Action.{Action}
+use Rattle.p3_task.specs.declared.task.Domain.{Domain}
+use Rattle.p3_task.specs.declared.task.Header.{Header}
+use Rattle.p3_task.specs.declared.term.Ref.{Ref}
+use Rattle.p3_task.specs.declared.term.Typed.{Typed}
 use Rattle.p3_places.proofs.Runs.{run}
 use Rattle.p3_places.specs.Places.{rest_if, no_domain_section, no_part}
 use Rattle.p3_places.proofs.Fits.{ends, run_parts, fits}

@@ -1,8 +1,8 @@
 -- Which sections stand in a domain, and which parts in an action.
 use Rattle.std.specs.Prelude.{Bool, false, ◌&&◌, List, codes, Option}
 use Rattle.std.specs.List.{list_all}
-use Rattle.p3_tree.specs.Grammar.Halves.{Section, sections_named, domain_keywords, action_keywords}
-use Rattle.p3_tree.specs.declared.expression.Expression.{Expression}
+use Rattle.p3_task.specs.Grammar.Halves.{Section, sections_named, domain_keywords, action_keywords}
+use Rattle.p3_task.specs.declared.expression.Expression.{Expression}
 use Rattle.p3_places.specs.Places.{domain_rest}
 use Rattle.p3_places.proofs.Fits.{ends, run_parts, fits, fits_one}
 use Rattle.p3_places.proofs.SectionFits.{allowed, fit_among}

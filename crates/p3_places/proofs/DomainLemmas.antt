@@ -2,11 +2,11 @@
 use Rattle.std.proofs.Common.{◌≡◌, ◌∙◌, refl, sym, ap, ℕ, Bool, true, false, ◌&&◌, if◌then◌else◌, List, [], ◌∷◌, Option, Some, None}
 use Rattle.std.specs.Prelude.{codes}
 use Rattle.p3_base.specs.Words.{is_name}
-use Rattle.p3_tree.specs.Names.{Name, same_name}
-use Rattle.p3_tree.specs.Grammar.Words.{◌>>=◌, expressions, each_at, headed}
-use Rattle.p3_tree.specs.Grammar.Halves.{Section, section_place, section_of, sections_named, domain_keywords}
-use Rattle.p3_tree.specs.declared.expression.Expression.{Expression, Group', Row_of-Expression}
-use Rattle.p3_tree.specs.declared.expression.Expression.TheVariants as expression
+use Rattle.p3_task.specs.Names.{Name, same_name}
+use Rattle.p3_task.specs.Grammar.Words.{◌>>=◌, expressions, each_at, headed}
+use Rattle.p3_task.specs.Grammar.Halves.{Section, section_place, section_of, sections_named, domain_keywords}
+use Rattle.p3_task.specs.declared.expression.Expression.{Expression, Group', Row_of-Expression}
+use Rattle.p3_task.specs.declared.expression.Expression.TheVariants as expression
 use Rattle.p3_places.proofs.Runs.{run, run_row}
 use Rattle.p3_places.specs.Places.{grammar_table, is_final, after, domain_once, domain_word, domain_forms, domain_rest, with_domain_section, part_once, part_word, no_part}
 use Rattle.p3_places.proofs.Fits.{ends, run_parts}

@@ -5,19 +5,19 @@ use Rattle.std.specs.List.{list_all}
 use Rattle.std.specs.Option.{option_or}
 use mathlib.Core.Former.{Count}
 use Rattle.p3_base.specs.Words.{is_predicate_name, is_function_name}
-use Rattle.p3_tree.specs.Names.{Name, same_name, total_cost, is_empty}
-use Rattle.p3_tree.specs.Grammar.Words.{◌>>=◌, ListPart, raws, descend, descend_parts, expressions, only, pair, parts_place, is_decimal, is_word, each_at, all_trees}
-use Rattle.p3_tree.specs.Grammar.Lists.{term_place, variables_place}
-use Rattle.p3_tree.specs.Grammar.Formulas.{formula_place, atom_in, AtomText}
-use Rattle.p3_tree.specs.Grammar.Effects.{EffectAt, Parts, function_value_in, amount_place, total_cost_place, all_form, each_form, when_form, delete_form, increase_form, effect_forms, add_form, effect_in, effect_place, effect_or_empty_place}
-use Rattle.p3_tree.specs.declared.expression.Expression.{Expression, Group', Row_of-Expression, end_of-Expression, more_of-Expression}
-use Rattle.p3_tree.specs.declared.expression.Expression.TheVariants as expression
-use Rattle.p3_tree.specs.declared.effect.Amount.TheVariants as amount
-use Rattle.p3_tree.specs.declared.effect.Effect.{Effect}
-use Rattle.p3_tree.specs.declared.effect.Effect.TheVariants as effect
-use Rattle.p3_tree.specs.declared.effect.Numeral.{Numeral}
-use Rattle.p3_tree.specs.declared.term.Ref.{Ref}
-use Rattle.p3_tree.specs.declared.term.Term.{Term}
+use Rattle.p3_task.specs.Names.{Name, same_name, total_cost, is_empty}
+use Rattle.p3_task.specs.Grammar.Words.{◌>>=◌, ListPart, raws, descend, descend_parts, expressions, only, pair, parts_place, is_decimal, is_word, each_at, all_trees}
+use Rattle.p3_task.specs.Grammar.Lists.{term_place, variables_place}
+use Rattle.p3_task.specs.Grammar.Formulas.{formula_place, atom_in, AtomText}
+use Rattle.p3_task.specs.Grammar.Effects.{EffectAt, Parts, function_value_in, amount_place, total_cost_place, all_form, each_form, when_form, delete_form, increase_form, effect_forms, add_form, effect_in, effect_place, effect_or_empty_place}
+use Rattle.p3_task.specs.declared.expression.Expression.{Expression, Group', Row_of-Expression, end_of-Expression, more_of-Expression}
+use Rattle.p3_task.specs.declared.expression.Expression.TheVariants as expression
+use Rattle.p3_task.specs.declared.effect.Amount.TheVariants as amount
+use Rattle.p3_task.specs.declared.effect.Effect.{Effect}
+use Rattle.p3_task.specs.declared.effect.Effect.TheVariants as effect
+use Rattle.p3_task.specs.declared.effect.Numeral.{Numeral}
+use Rattle.p3_task.specs.declared.term.Ref.{Ref}
+use Rattle.p3_task.specs.declared.term.Term.{Term}
 use Rattle.p3_places.proofs.Runs.{run}
 use Rattle.p3_places.specs.Places.{amount_slot, increase_rest, effect_rests, effect_head, one_of, terms, rest_if}
 use Rattle.p3_places.proofs.Fits.{ends, run_parts, fits, fits_two}

@@ -3,15 +3,15 @@ use Rattle.std.proofs.Common.{◌≡◌, ◌∙◌, refl, sym, ap, subst, ℕ, s
 use Rattle.std.proofs.lemmas.List.{append-nil, map-append}
 use Rattle.std.specs.Prelude.{nat_lt, is_some}
 use Rattle.std.proofs.lemmas.Bool.{lt-ltb}
-use Rattle.p3_tree.specs.Names.{Name}
-use Rattle.p3_tree.specs.Tokens.{Token, Open, Close, Word, tokens_of}
-use Rattle.p3_tree.specs.PlanTexts.{Mark, Opens, Closes, Names, mark_of}
-use Rattle.p3_tree.specs.Expressions.{kept, spelling, spellings, Spells, Group, Reading, Within, Whole, Stopped, with_part, read_token, whole_of, expression_of}
-use Rattle.p3_tree.specs.Grammar.Words.{◌>>=◌, Place, IsText}
-use Rattle.p3_tree.specs.Grammar.Texts.{IsBalanced}
-use Rattle.p3_tree.proofs.ReadingLemmas.{tokens_spell}
-use Rattle.p3_tree.specs.declared.expression.Expression.{Expression, Group', Row_of-Expression, end_of-Expression, more_of-Expression}
-use Rattle.p3_tree.specs.declared.expression.Expression.TheVariants as expression
+use Rattle.p3_task.specs.Names.{Name}
+use Rattle.p3_task.specs.Tokens.{Token, Open, Close, Word, tokens_of}
+use Rattle.p3_task.specs.PlanTexts.{Mark, Opens, Closes, Names, mark_of}
+use Rattle.p3_task.specs.Expressions.{kept, spelling, spellings, Spells, Group, Reading, Within, Whole, Stopped, with_part, read_token, whole_of, expression_of}
+use Rattle.p3_task.specs.Grammar.Words.{◌>>=◌, Place, IsText}
+use Rattle.p3_task.specs.Grammar.Texts.{IsBalanced}
+use Rattle.p3_task.proofs.ReadingLemmas.{tokens_spell}
+use Rattle.p3_task.specs.declared.expression.Expression.{Expression, Group', Row_of-Expression, end_of-Expression, more_of-Expression}
+use Rattle.p3_task.specs.declared.expression.Expression.TheVariants as expression
 use Rattle.p3_places.specs.Machine.{Table, step}
 use Rattle.p3_places.proofs.Runs.{steps, run, run_row, ends_in_final}
 use Rattle.p3_places.proofs.MachineLemmas.{bind_same, bind_assoc, bound, finished, same_some}

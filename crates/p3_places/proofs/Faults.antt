@@ -10,16 +10,16 @@ use Rattle.p3_base.specs.declared.refusal.Role.{Role}
 use Rattle.p3_base.specs.declared.refusal.Role.TheVariants as role
 use Rattle.p3_base.specs.declared.refusal.Side.{Side}
 use Rattle.p3_base.specs.declared.refusal.Side.TheVariants.{Source, Written}
-use Rattle.p3_tree.specs.Sides.{InDomain, InProblem, role_of}
-use Rattle.p3_tree.specs.Tokens.{Token, tokens_of}
-use Rattle.p3_tree.specs.PlanTexts.{Mark, mark_of}
-use Rattle.p3_tree.specs.Refusals.Places.{refusal_at_token}
-use Rattle.p3_tree.specs.Refusals.Malformed.{Begins, IsMalformedAt}
-use Rattle.p3_tree.specs.Grammar.Words.{◌>>=◌, IsText}
-use Rattle.p3_tree.specs.Grammar.Words.{Place as Reads}
-use Rattle.p3_tree.specs.Grammar.Texts.{IsBalanced}
-use Rattle.p3_tree.specs.Grammar.Halves.{domain_place, problem_place}
-use Rattle.p3_tree.specs.declared.expression.Expression.{Expression}
+use Rattle.p3_task.specs.Sides.{InDomain, InProblem, role_of}
+use Rattle.p3_task.specs.Tokens.{Token, tokens_of}
+use Rattle.p3_task.specs.PlanTexts.{Mark, mark_of}
+use Rattle.p3_task.specs.Refusals.Places.{refusal_at_token}
+use Rattle.p3_task.specs.Refusals.Malformed.{Begins, IsMalformedAt}
+use Rattle.p3_task.specs.Grammar.Words.{◌>>=◌, IsText}
+use Rattle.p3_task.specs.Grammar.Words.{Place as Reads}
+use Rattle.p3_task.specs.Grammar.Texts.{IsBalanced}
+use Rattle.p3_task.specs.Grammar.Halves.{domain_place, problem_place}
+use Rattle.p3_task.specs.declared.expression.Expression.{Expression}
 use Rattle.p3_lexer.proofs.MarkLemmas.{is_lexed, laid, laid_from, text_lexed}
 use Rattle.p3_places.specs.Machine.{Table, first_fault}
 use Rattle.p3_places.specs.Places.{grammar_table, start}

@@ -2,22 +2,22 @@
 use Rattle.std.proofs.Common.{◌≡◌, ◌∙◌, refl, sym, ap, subst, ℕ, Bool, true, false, ◌&&◌, ◌||◌, if◌then◌else◌, List, [], ◌∷◌, ◌++◌, map, Option, Some, None}
 use Rattle.std.specs.Prelude.{is_some, not, codes, fold}
 use Rattle.p3_base.specs.Words.{is_name, is_variable}
-use Rattle.p3_tree.specs.Grammar.Lists.{term_place, type_place, either_in, Scan, scanned, all_scanned, grouped, with_type, with_item, is_dash, typed_item, variables_place}
-use Rattle.p3_tree.specs.declared.term.Term.TheVariants.{Var, Const}
+use Rattle.p3_task.specs.Grammar.Lists.{term_place, type_place, either_in, Scan, scanned, all_scanned, grouped, with_type, with_item, is_dash, typed_item, variables_place}
+use Rattle.p3_task.specs.declared.term.Term.TheVariants.{Var, Const}
 use Rattle.p3_places.specs.declared.state.Items.{Items}
 use Rattle.p3_places.specs.declared.state.Items.TheVariants as items
 use Rattle.p3_places.specs.declared.state.Progress.{Progress}
 use Rattle.p3_places.specs.declared.state.Progress.TheVariants as progress
 use Rattle.std.specs.List.{list_all}
 use Rattle.std.specs.Option.{option_or}
-use Rattle.p3_tree.specs.declared.term.Ref.{Ref}
+use Rattle.p3_task.specs.declared.term.Ref.{Ref}
 use Rattle.std.specs.Bool.{one_answer}
 use Rattle.std.proofs.lemmas.Slice.Eq.{bytes_eq-Decides}
 use mathlib.Core.Former.{Count}
-use Rattle.p3_tree.specs.Names.{Name, same_name, is_empty}
-use Rattle.p3_tree.specs.Grammar.Words.{◌>>=◌, Place as Reads, choose, expressions, all_trees, each_at, ListPart, raws, descend_parts, name_place, variable_place}
-use Rattle.p3_tree.specs.declared.expression.Expression.{Expression, Group', Row_of-Expression, end_of-Expression, more_of-Expression}
-use Rattle.p3_tree.specs.declared.expression.Expression.TheVariants as expression
+use Rattle.p3_task.specs.Names.{Name, same_name, is_empty}
+use Rattle.p3_task.specs.Grammar.Words.{◌>>=◌, Place as Reads, choose, expressions, all_trees, each_at, ListPart, raws, descend_parts, name_place, variable_place}
+use Rattle.p3_task.specs.declared.expression.Expression.{Expression, Group', Row_of-Expression, end_of-Expression, more_of-Expression}
+use Rattle.p3_task.specs.declared.expression.Expression.TheVariants as expression
 use Rattle.p3_places.proofs.Runs.{run, run_row}
 use Rattle.p3_places.specs.Places.{grammar_table, on_word, on_open, after, is_final, list_of, takes_word, item_slot, type_slot, may_end}
 use Rattle.p3_places.proofs.Fits.{ends, run_parts, row_fits, fits, fits_one, fits_two}

@@ -2,17 +2,17 @@
 use Rattle.std.proofs.Common.{◌≡◌, ◌∙◌, refl, sym, ap, ℕ, Bool, true, false, ◌&&◌, if◌then◌else◌, List, [], ◌∷◌, Option, Some, None}
 use Rattle.std.specs.Prelude.{is_some}
 use mathlib.Core.Former.{Count}
-use Rattle.p3_tree.specs.Names.{Name}
+use Rattle.p3_task.specs.Names.{Name}
 use Rattle.p3_base.specs.Words.{is_predicate_name}
-use Rattle.p3_tree.specs.Grammar.Words.{◌>>=◌, ListPart, raws, descend_parts, only, pair, each_at, all_trees, choose}
-use Rattle.p3_tree.specs.Grammar.Lists.{term_place, variables_place}
-use Rattle.p3_tree.specs.Grammar.Formulas.{Parts, formula_place, formula_in, formula_forms, equal_form, atom_form, atom_in, AtomText, quantified, trees_of}
-use Rattle.p3_tree.specs.declared.expression.Expression.{Expression, Group', Row_of-Expression, end_of-Expression, more_of-Expression}
-use Rattle.p3_tree.specs.declared.expression.Expression.TheVariants as expression
-use Rattle.p3_tree.specs.declared.formula.Formula.{Formula}
-use Rattle.p3_tree.specs.declared.formula.Formula.TheVariants as formula
-use Rattle.p3_tree.specs.declared.term.Term.{Term}
-use Rattle.p3_tree.specs.declared.term.Ref.{Ref}
+use Rattle.p3_task.specs.Grammar.Words.{◌>>=◌, ListPart, raws, descend_parts, only, pair, each_at, all_trees, choose}
+use Rattle.p3_task.specs.Grammar.Lists.{term_place, variables_place}
+use Rattle.p3_task.specs.Grammar.Formulas.{Parts, formula_place, formula_in, formula_forms, equal_form, atom_form, atom_in, AtomText, quantified, trees_of}
+use Rattle.p3_task.specs.declared.expression.Expression.{Expression, Group', Row_of-Expression, end_of-Expression, more_of-Expression}
+use Rattle.p3_task.specs.declared.expression.Expression.TheVariants as expression
+use Rattle.p3_task.specs.declared.formula.Formula.{Formula}
+use Rattle.p3_task.specs.declared.formula.Formula.TheVariants as formula
+use Rattle.p3_task.specs.declared.term.Term.{Term}
+use Rattle.p3_task.specs.declared.term.Ref.{Ref}
 use Rattle.p3_places.proofs.Runs.{run}
 use Rattle.p3_places.specs.Places.{formula_head, formula_rests, many_of, terms, rest_if}
 use Rattle.p3_places.proofs.Fits.{ends, run_parts, fits, fits_one, fits_two}

@@ -1,20 +1,20 @@
 -- Goals and constraints have trees exactly where the table takes them.
 use Rattle.std.proofs.Common.{◌≡◌, ◌∙◌, refl, sym, ap, Bool, true, false, ◌&&◌, if◌then◌else◌, List, [], ◌∷◌, Option, Some, None}
 use Rattle.std.specs.Prelude.{is_some, codes}
-use Rattle.p3_tree.specs.Names.{Name, is_empty, same_name}
-use Rattle.p3_tree.specs.Grammar.Words.{◌>>=◌, ListPart, raws, parts_place, choose, expressions}
-use Rattle.p3_tree.specs.Grammar.Formulas.{formula_place}
-use Rattle.p3_tree.specs.Grammar.Goals.{goal_place, goal_in, goal_forms, plain_form, preferred, goal_or_empty_place}
-use Rattle.p3_tree.specs.Grammar.Constraints.{modal_place, modal_in, modal_forms, with_one, with_two, at_end_form, inner_place, inner_forms, constraint_in, constraint_place, constraint_or_empty_place, single_form, preference_form}
-use Rattle.p3_tree.specs.declared.expression.Expression.{Expression, Group'}
-use Rattle.p3_tree.specs.declared.expression.Expression.TheVariants as expression
-use Rattle.p3_tree.specs.declared.formula.Formula.{Formula}
-use Rattle.p3_tree.specs.declared.goal.PreGoal.{PreGoal}
-use Rattle.p3_tree.specs.declared.goal.PreGoal.TheVariants as goal
-use Rattle.p3_tree.specs.Modal.{Modal}
+use Rattle.p3_task.specs.Names.{Name, is_empty, same_name}
+use Rattle.p3_task.specs.Grammar.Words.{◌>>=◌, ListPart, raws, parts_place, choose, expressions}
+use Rattle.p3_task.specs.Grammar.Formulas.{formula_place}
+use Rattle.p3_task.specs.Grammar.Goals.{goal_place, goal_in, goal_forms, plain_form, preferred, goal_or_empty_place}
+use Rattle.p3_task.specs.Grammar.Constraints.{modal_place, modal_in, modal_forms, with_one, with_two, at_end_form, inner_place, inner_forms, constraint_in, constraint_place, constraint_or_empty_place, single_form, preference_form}
+use Rattle.p3_task.specs.declared.expression.Expression.{Expression, Group'}
+use Rattle.p3_task.specs.declared.expression.Expression.TheVariants as expression
+use Rattle.p3_task.specs.declared.formula.Formula.{Formula}
+use Rattle.p3_task.specs.declared.goal.PreGoal.{PreGoal}
+use Rattle.p3_task.specs.declared.goal.PreGoal.TheVariants as goal
+use Rattle.p3_task.specs.Modal.{Modal}
 use Rattle.p3_base.specs.declared.operator.Operator.TheVariants as modal
-use Rattle.p3_tree.specs.declared.constraint.Constraint.{Constraint}
-use Rattle.p3_tree.specs.declared.constraint.Constraint.TheVariants as constraint
+use Rattle.p3_task.specs.declared.constraint.Constraint.{Constraint}
+use Rattle.p3_task.specs.declared.constraint.Constraint.TheVariants as constraint
 use Rattle.p3_places.proofs.Runs.{run}
 use Rattle.p3_places.specs.Places.{formula_head, goal_head, goal_rests, modal_head, modal_rests, inner_head, inner_rests, constraint_head, constraint_rests, one_of, two_of}
 use Rattle.p3_places.proofs.Fits.{ends, run_parts, fits, fits_one, fits_two}

@@ -2,17 +2,17 @@
 use Rattle.std.proofs.Common.{◌≡◌, ◌∙◌, refl, sym, ap, Bool, true, false, ◌&&◌, if◌then◌else◌, List, [], ◌∷◌, length, Option, Some, None}
 use Rattle.std.specs.Prelude.{is_some, codes}
 use Rattle.std.specs.List.{list_all}
-use Rattle.p3_tree.specs.Decimals.{is_decimal}
-use Rattle.p3_tree.specs.Names.{Name, same_name, has_name}
-use Rattle.p3_tree.specs.Grammar.Words.{◌>>=◌, only, pair, name_place, numeral_place, digits_value, digits_of, places_of, word_if, is_word, expressions, each_at}
-use Rattle.p3_tree.specs.Grammar.Words.{Place as Reads}
-use Rattle.p3_tree.specs.Grammar.Lists.{object_place, one_type_place}
-use Rattle.p3_tree.specs.Grammar.Halves.{Section, NamedSections, section_place, sections_among, begins_with_colon, at_most_one, or_absent, requirements, titled, half_in, half_at}
-use Rattle.p3_tree.specs.declared.expression.Expression.{Expression, Group'}
-use Rattle.p3_tree.specs.declared.expression.Expression.TheVariants as expression
-use Rattle.p3_tree.specs.declared.effect.Numeral.{Numeral}
-use Rattle.p3_tree.specs.declared.term.Term.TheVariants.{Const}
-use Rattle.p3_tree.specs.declared.term.Ref.{Ref}
+use Rattle.p3_task.specs.Decimals.{is_decimal}
+use Rattle.p3_task.specs.Names.{Name, same_name, has_name}
+use Rattle.p3_task.specs.Grammar.Words.{◌>>=◌, only, pair, name_place, numeral_place, digits_value, digits_of, places_of, word_if, is_word, expressions, each_at}
+use Rattle.p3_task.specs.Grammar.Words.{Place as Reads}
+use Rattle.p3_task.specs.Grammar.Lists.{object_place, one_type_place}
+use Rattle.p3_task.specs.Grammar.Halves.{Section, NamedSections, section_place, sections_among, begins_with_colon, at_most_one, or_absent, requirements, titled, half_in, half_at}
+use Rattle.p3_task.specs.declared.expression.Expression.{Expression, Group'}
+use Rattle.p3_task.specs.declared.expression.Expression.TheVariants as expression
+use Rattle.p3_task.specs.declared.effect.Numeral.{Numeral}
+use Rattle.p3_task.specs.declared.term.Term.TheVariants.{Const}
+use Rattle.p3_task.specs.declared.term.Ref.{Ref}
 use Rattle.p3_places.proofs.Runs.{run}
 use Rattle.p3_places.specs.Places.{grammar_table, head_word, may_be_empty, is_final, rest_if, start}
 use Rattle.p3_places.proofs.Fits.{ends, run_parts, fits, fits_one, fits_two}

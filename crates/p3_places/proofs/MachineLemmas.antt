@@ -1,9 +1,9 @@
 -- Walking by a table.
 use Rattle.std.proofs.Common.{◌&&◌, ◌≡◌, ◌∙◌, refl, sym, ap, subst, Bool, true, false, IsTrue, IsSome, if◌then◌else◌, List, [], ◌∷◌, ◌++◌, map, Option, Some, None}
 use Rattle.std.specs.List.{list_all}
-use Rattle.p3_tree.specs.Tokens.{Token}
-use Rattle.p3_tree.specs.PlanTexts.{Mark, Opens, Closes, Names, mark_of}
-use Rattle.p3_tree.specs.Grammar.Words.{◌>>=◌}
+use Rattle.p3_task.specs.Tokens.{Token}
+use Rattle.p3_task.specs.PlanTexts.{Mark, Opens, Closes, Names, mark_of}
+use Rattle.p3_task.specs.Grammar.Words.{◌>>=◌}
 use Rattle.p3_lexer.proofs.MarkLemmas.{is_lexed}
 use Rattle.p3_places.specs.Machine.{Table, step, first_fault, or_at}
 use Rattle.p3_places.proofs.Runs.{steps, IsComplete, ends_in_final}

@@ -2,16 +2,16 @@
 use Rattle.std.proofs.Common.{◌≡◌, ◌∙◌, refl, sym, ap, Bool, true, false, ◌&&◌, ◌||◌, if◌then◌else◌, List, [], ◌∷◌, map, Option, Some, None}
 use Rattle.std.specs.Prelude.{is_some}
 use Rattle.std.specs.Option.{option_or}
-use Rattle.p3_tree.specs.Decimals.{is_decimal}
-use Rattle.p3_tree.specs.Names.{Name, is_empty, same_name, total_cost}
-use Rattle.p3_tree.specs.Grammar.Words.{◌>>=◌, ListPart, raws, only, name_place, all_trees}
-use Rattle.p3_tree.specs.Grammar.Metrics.{num_place, num_in, num_word, num_forms, total_cost_form, violated_form, minus_form, minus_of}
-use Rattle.p3_tree.specs.declared.expression.Expression.{Expression, Group'}
-use Rattle.p3_tree.specs.declared.expression.Expression.TheVariants as expression
-use Rattle.p3_tree.specs.declared.effect.Numeral.{Numeral}
-use Rattle.p3_tree.specs.declared.metric.Num.{Num}
-use Rattle.p3_tree.specs.declared.metric.Num.TheVariants as num
-use Rattle.p3_tree.specs.declared.term.Ref.{Ref}
+use Rattle.p3_task.specs.Decimals.{is_decimal}
+use Rattle.p3_task.specs.Names.{Name, is_empty, same_name, total_cost}
+use Rattle.p3_task.specs.Grammar.Words.{◌>>=◌, ListPart, raws, only, name_place, all_trees}
+use Rattle.p3_task.specs.Grammar.Metrics.{num_place, num_in, num_word, num_forms, total_cost_form, violated_form, minus_form, minus_of}
+use Rattle.p3_task.specs.declared.expression.Expression.{Expression, Group'}
+use Rattle.p3_task.specs.declared.expression.Expression.TheVariants as expression
+use Rattle.p3_task.specs.declared.effect.Numeral.{Numeral}
+use Rattle.p3_task.specs.declared.metric.Num.{Num}
+use Rattle.p3_task.specs.declared.metric.Num.TheVariants as num
+use Rattle.p3_task.specs.declared.term.Ref.{Ref}
 use Rattle.p3_places.proofs.Runs.{run}
 use Rattle.p3_places.specs.Places.{num_head, num_rests, num_slot, takes_word}
 use Rattle.p3_places.proofs.Fits.{ends, run_parts, fits, fits_one}

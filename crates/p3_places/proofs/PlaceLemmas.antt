@@ -3,15 +3,15 @@ use Rattle.std.proofs.Common.{◌≡◌, ◌∙◌, refl, sym, ap, ℕ, Bool, tr
 use Rattle.std.specs.Prelude.{is_some}
 use mathlib.Core.Former.{Count}
 use Rattle.p3_base.specs.Words.{is_name}
-use Rattle.p3_tree.specs.Names.{Name}
-use Rattle.p3_tree.specs.Grammar.Words.{◌>>=◌, ListPart, raws, descend, descend_parts, pair, parts_place, all_trees}
-use Rattle.p3_tree.specs.Grammar.Words.{Place as Reads}
-use Rattle.p3_tree.specs.Grammar.Lists.{variables_place}
-use Rattle.p3_tree.specs.Grammar.Goals.{preferred}
-use Rattle.p3_tree.specs.declared.expression.Expression.{Expression, Group', Row_of-Expression, end_of-Expression, more_of-Expression}
-use Rattle.p3_tree.specs.declared.expression.Expression.TheVariants as expression
-use Rattle.p3_tree.specs.declared.term.Typed.{Typed}
-use Rattle.p3_tree.specs.declared.term.Ref.{Ref}
+use Rattle.p3_task.specs.Names.{Name}
+use Rattle.p3_task.specs.Grammar.Words.{◌>>=◌, ListPart, raws, descend, descend_parts, pair, parts_place, all_trees}
+use Rattle.p3_task.specs.Grammar.Words.{Place as Reads}
+use Rattle.p3_task.specs.Grammar.Lists.{variables_place}
+use Rattle.p3_task.specs.Grammar.Goals.{preferred}
+use Rattle.p3_task.specs.declared.expression.Expression.{Expression, Group', Row_of-Expression, end_of-Expression, more_of-Expression}
+use Rattle.p3_task.specs.declared.expression.Expression.TheVariants as expression
+use Rattle.p3_task.specs.declared.term.Typed.{Typed}
+use Rattle.p3_task.specs.declared.term.Ref.{Ref}
 use Rattle.p3_places.proofs.Runs.{run}
 use Rattle.p3_places.specs.Places.{list_of, takes_word, in_list}
 use Rattle.p3_places.specs.Places.{quantified as quantified_rest}

@@ -4,20 +4,20 @@ use Rattle.std.specs.Prelude.{is_some, codes}
 use Rattle.std.specs.Option.{option_or}
 use Rattle.p3_base.specs.Words.{is_predicate_name, is_function_name}
 use Rattle.p3_base.specs.declared.refusal.Direction.TheVariants.{Minimize, Maximize}
-use Rattle.p3_tree.specs.Names.{Name, same_name}
-use Rattle.p3_tree.specs.Grammar.Words.{◌>>=◌, parts_place, name_place, function_place, predicate_place, numeral_place, choose, expressions, each_at}
-use Rattle.p3_tree.specs.Grammar.Lists.{object_place, one_type_place, objects_in, grouped, typed_item}
-use Rattle.p3_tree.specs.Grammar.Metrics.{num_place, direction_place, metric_in}
-use Rattle.p3_tree.specs.Grammar.Goals.{goal_or_empty_place}
-use Rattle.p3_tree.specs.Grammar.Constraints.{constraint_or_empty_place}
-use Rattle.p3_tree.specs.Grammar.Halves.{NamedSections, sections_named, problem_keywords, optional, once, body_at, part_at, requirements, no_constraints, initial_in, true_entry, false_entry, value_form, init_forms, init_in, init_place, problem_place}
-use Rattle.p3_tree.specs.declared.expression.Expression.{Expression, Group'}
-use Rattle.p3_tree.specs.declared.expression.Expression.TheVariants as expression
-use Rattle.p3_tree.specs.declared.effect.Numeral.{Numeral}
-use Rattle.p3_tree.specs.declared.task.Init.{Init}
-use Rattle.p3_tree.specs.declared.task.Init.TheVariants as init
-use Rattle.p3_tree.specs.declared.task.Problem.{Problem}
-use Rattle.p3_tree.specs.declared.term.Ref.{Ref}
+use Rattle.p3_task.specs.Names.{Name, same_name}
+use Rattle.p3_task.specs.Grammar.Words.{◌>>=◌, parts_place, name_place, function_place, predicate_place, numeral_place, choose, expressions, each_at}
+use Rattle.p3_task.specs.Grammar.Lists.{object_place, one_type_place, objects_in, grouped, typed_item}
+use Rattle.p3_task.specs.Grammar.Metrics.{num_place, direction_place, metric_in}
+use Rattle.p3_task.specs.Grammar.Goals.{goal_or_empty_place}
+use Rattle.p3_task.specs.Grammar.Constraints.{constraint_or_empty_place}
+use Rattle.p3_task.specs.Grammar.Halves.{NamedSections, sections_named, problem_keywords, optional, once, body_at, part_at, requirements, no_constraints, initial_in, true_entry, false_entry, value_form, init_forms, init_in, init_place, problem_place}
+use Rattle.p3_task.specs.declared.expression.Expression.{Expression, Group'}
+use Rattle.p3_task.specs.declared.expression.Expression.TheVariants as expression
+use Rattle.p3_task.specs.declared.effect.Numeral.{Numeral}
+use Rattle.p3_task.specs.declared.task.Init.{Init}
+use Rattle.p3_task.specs.declared.task.Init.TheVariants as init
+use Rattle.p3_task.specs.declared.task.Problem.{Problem}
+use Rattle.p3_task.specs.declared.term.Ref.{Ref}
 use Rattle.p3_places.proofs.Runs.{run}
 use Rattle.p3_places.specs.Places.{init_head, init_rests, num_slot, names, rest_if, no_section}
 use Rattle.p3_places.proofs.Fits.{ends, run_parts, fits, fits_two}

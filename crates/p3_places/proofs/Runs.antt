@@ -1,11 +1,11 @@
 -- Walks over marks and over expressions by a table, and tables of which each state can be completed.
 use Rattle.std.specs.Prelude.{◌≡◌, Bool, true, IsTrue, if◌then◌else◌, List, [], ◌∷◌, Option, Some, None}
 use Rattle.std.specs.List.{list_all}
-use Rattle.p3_tree.specs.Names.{Name}
-use Rattle.p3_tree.specs.PlanTexts.{Mark}
-use Rattle.p3_tree.specs.Grammar.Words.{◌>>=◌}
-use Rattle.p3_tree.specs.declared.expression.Expression.{Expression, Group', Row_of-Expression, end_of-Expression, more_of-Expression}
-use Rattle.p3_tree.specs.declared.expression.Expression.TheVariants as expression
+use Rattle.p3_task.specs.Names.{Name}
+use Rattle.p3_task.specs.PlanTexts.{Mark}
+use Rattle.p3_task.specs.Grammar.Words.{◌>>=◌}
+use Rattle.p3_task.specs.declared.expression.Expression.{Expression, Group', Row_of-Expression, end_of-Expression, more_of-Expression}
+use Rattle.p3_task.specs.declared.expression.Expression.TheVariants as expression
 use Rattle.p3_lexer.proofs.MarkLemmas.{is_lexed}
 use Rattle.p3_places.specs.Machine.{Table, step}
 

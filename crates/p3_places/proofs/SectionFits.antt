@@ -1,9 +1,9 @@
 -- Which sections stand in a problem.
 use Rattle.std.specs.Prelude.{Bool, true, false, not, ◌&&◌, List, [], ◌∷◌, codes, Option, Some, None}
 use Rattle.std.specs.List.{list_all}
-use Rattle.p3_tree.specs.Names.{Name, has_name}
-use Rattle.p3_tree.specs.Grammar.Halves.{Section, sections_named, problem_keywords}
-use Rattle.p3_tree.specs.declared.expression.Expression.{Expression}
+use Rattle.p3_task.specs.Names.{Name, has_name}
+use Rattle.p3_task.specs.Grammar.Halves.{Section, sections_named, problem_keywords}
+use Rattle.p3_task.specs.declared.expression.Expression.{Expression}
 use Rattle.p3_places.specs.Places.{many_of, one_of, num_slot}
 use Rattle.p3_places.proofs.Fits.{ends, run_parts}
 use Rattle.p3_places.specs.declared.state.Class.TheVariants as class

@@ -3,11 +3,11 @@ use Rattle.std.proofs.Common.{◌≡◌, ◌∙◌, refl, sym, ap, subst, ℕ, B
 use Rattle.std.specs.Prelude.{codes}
 use Rattle.std.specs.List.{list_all}
 use Rattle.std.proofs.lemmas.Slice.Eq.{bytes_eq-Decides}
-use Rattle.p3_tree.specs.Names.{Name, same_name, has_name}
-use Rattle.p3_tree.specs.Grammar.Words.{◌>>=◌, choose, expressions, each_at, headed}
-use Rattle.p3_tree.specs.Grammar.Halves.{Section, section_place, section_of, sections_named, problem_keywords}
-use Rattle.p3_tree.specs.declared.expression.Expression.{Expression, Group', Row_of-Expression}
-use Rattle.p3_tree.specs.declared.expression.Expression.TheVariants as expression
+use Rattle.p3_task.specs.Names.{Name, same_name, has_name}
+use Rattle.p3_task.specs.Grammar.Words.{◌>>=◌, choose, expressions, each_at, headed}
+use Rattle.p3_task.specs.Grammar.Halves.{Section, section_place, section_of, sections_named, problem_keywords}
+use Rattle.p3_task.specs.declared.expression.Expression.{Expression, Group', Row_of-Expression}
+use Rattle.p3_task.specs.declared.expression.Expression.TheVariants as expression
 use Rattle.p3_places.proofs.Runs.{run, run_row}
 use Rattle.p3_places.specs.Places.{grammar_table, on_open, is_final, after, rest_word, rest_list, behind, may_end, once, section_word, section_forms, has_all, with_section}
 use Rattle.p3_places.proofs.Fits.{ends, run_parts}

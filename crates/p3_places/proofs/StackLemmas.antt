@@ -2,7 +2,7 @@
 use Rattle.std.proofs.Common.{◌≡◌, ◌∙◌, refl, sym, ap, subst, ℕ, ◌+◌, Bool, true, false, List, [], ◌∷◌, ◌++◌, length, reverse, set, get_or, Some, arith}
 use Rattle.std.proofs.lemmas.List.{length-append, reverse-append, reverse-reverse, set_at}
 use Rattle.std.proofs.Math.Seq.{get_or-append_seam}
-use Rattle.p3_tree.specs.Grammar.Words.{◌>>=◌}
+use Rattle.p3_task.specs.Grammar.Words.{◌>>=◌}
 use Rattle.p3_places.specs.Walks.{only_if}
 use Rattle.p3_places.specs.declared.state.State.{State}
 

@@ -4,9 +4,9 @@ use Rattle.std.specs.Option.{option_map, option_or}
 use Rattle.p3_base.specs.declared.refusal.Code.TheVariants.{Malformed}
 use Rattle.p3_base.specs.declared.refusal.Refusal.{Refusal}
 use Rattle.p3_base.specs.declared.refusal.Role.{Role}
-use Rattle.p3_tree.specs.Tokens.{Token, Tokens, before}
-use Rattle.p3_tree.specs.PlanTexts.{mark_of}
-use Rattle.p3_tree.specs.Refusals.Places.{refusal_at_token}
+use Rattle.p3_task.specs.Tokens.{Token, Tokens, before}
+use Rattle.p3_task.specs.PlanTexts.{mark_of}
+use Rattle.p3_task.specs.Refusals.Places.{refusal_at_token}
 use Rattle.p3_places.specs.Machine.{first_fault, step, or_at}
 use Rattle.p3_places.specs.Places.{grammar_table}
 use Rattle.p3_places.specs.Walks.{the_stack, only_if, fault_among, fault_left, Passes}

@@ -1,9 +1,9 @@
 -- A table of places: what may stand in a list after what it has so far.
 use Rattle.std.specs.Prelude.{Bool, if◌then◌else◌, List, [], ◌∷◌, Option, Some, None}
-use Rattle.p3_tree.specs.Names.{Name}
-use Rattle.p3_tree.specs.Tokens.{Token}
-use Rattle.p3_tree.specs.PlanTexts.{Mark, Opens, Closes, Names, mark_of}
-use Rattle.p3_tree.specs.Grammar.Words.{◌>>=◌}
+use Rattle.p3_task.specs.Names.{Name}
+use Rattle.p3_task.specs.Tokens.{Token}
+use Rattle.p3_task.specs.PlanTexts.{Mark, Opens, Closes, Names, mark_of}
+use Rattle.p3_task.specs.Grammar.Words.{◌>>=◌}
 
 -- A state is what a list has so far. A word leads on or may not stand there; a list that opens begins in a state of its own;
 -- some states may be closed; and a list that was closed in a state leads its outer list on.

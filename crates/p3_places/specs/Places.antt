@@ -1,10 +1,10 @@
 -- The table of places.
 use Rattle.std.specs.Prelude.{Bool, true, false, ◌&&◌, ◌||◌, if◌then◌else◌, List, [], ◌∷◌, codes, Option, Some, None}
 use Rattle.p3_base.specs.Words.{is_name, is_variable, is_function_name, is_predicate_name}
-use Rattle.p3_tree.specs.Names.{Name, same_name, total_cost}
-use Rattle.p3_tree.specs.Decimals.{is_decimal}
-use Rattle.p3_tree.specs.Grammar.Words.{◌>>=◌, choose}
-use Rattle.p3_tree.specs.Grammar.Halves.{begins_with_colon}
+use Rattle.p3_task.specs.Names.{Name, same_name, total_cost}
+use Rattle.p3_task.specs.Decimals.{is_decimal}
+use Rattle.p3_task.specs.Grammar.Words.{◌>>=◌, choose}
+use Rattle.p3_task.specs.Grammar.Halves.{begins_with_colon}
 use Rattle.p3_places.specs.Machine.{Table}
 use Rattle.p3_places.specs.declared.state.Class.{Class}
 use Rattle.p3_places.specs.declared.state.Class.TheVariants as class

@@ -5,14 +5,14 @@ use Rattle.p3_base.specs.declared.refusal.Role.{Role}
 use Rattle.p3_base.specs.declared.refusal.Role.TheVariants as role
 use Rattle.p3_base.specs.declared.refusal.Side.{Side}
 use Rattle.p3_base.specs.declared.refusal.Side.TheVariants.{Source, Written}
-use Rattle.p3_tree.specs.Sides.{Half, InDomain, InProblem}
-use Rattle.p3_tree.specs.Grammar.Words.{IsText}
-use Rattle.p3_tree.specs.Grammar.Texts.{IsBalanced}
-use Rattle.p3_tree.specs.Grammar.Halves.{domain_place, problem_place}
-use Rattle.p3_tree.specs.Refusals.Malformed.{IsMalformed}
-use Rattle.p3_tree.specs.declared.expression.Expression.{Expression}
-use Rattle.p3_tree.specs.declared.task.Domain.{Domain}
-use Rattle.p3_tree.specs.declared.task.Problem.{Problem}
+use Rattle.p3_task.specs.Sides.{Half, InDomain, InProblem}
+use Rattle.p3_task.specs.Grammar.Words.{IsText}
+use Rattle.p3_task.specs.Grammar.Texts.{IsBalanced}
+use Rattle.p3_task.specs.Grammar.Halves.{domain_place, problem_place}
+use Rattle.p3_task.specs.Refusals.Malformed.{IsMalformed}
+use Rattle.p3_task.specs.declared.expression.Expression.{Expression}
+use Rattle.p3_task.specs.declared.task.Domain.{Domain}
+use Rattle.p3_task.specs.declared.task.Problem.{Problem}
 
 -- ---- the texts of tasks; a plan is none of them
 

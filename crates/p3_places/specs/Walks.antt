@@ -5,8 +5,8 @@ use Rattle.p3_base.specs.declared.refusal.Code.TheVariants.{Malformed}
 use Rattle.p3_base.specs.declared.refusal.Refusal.{Refusal}
 use Rattle.p3_base.specs.declared.refusal.Role.{Role}
 use Rattle.p3_base.specs.declared.refusal.Role.TheVariants as role
-use Rattle.p3_tree.specs.Tokens.{Token, Tokens, before, tokens_of}
-use Rattle.p3_tree.specs.Refusals.Places.{refusal_at_token}
+use Rattle.p3_task.specs.Tokens.{Token, Tokens, before, tokens_of}
+use Rattle.p3_task.specs.Refusals.Places.{refusal_at_token}
 use Rattle.p3_places.specs.Machine.{first_fault}
 use Rattle.p3_places.specs.Places.{grammar_table, start}
 use Rattle.p3_places.specs.declared.state.Place.{Place}

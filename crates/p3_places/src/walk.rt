@@ -4,10 +4,10 @@ ghost use Rattle.std.specs.Prelude.{◌≡◌, ◌≤◌, ◌∷◌, [], length,
 ghost use Rattle.std.specs.Str.{str_to_ascii_lowercase};
 ghost use Rattle.p3_base.specs.declared.refusal.Code.TheVariants.{Malformed};
 ghost use Rattle.p3_base.specs.declared.refusal.Side.TheVariants.{Written};
-ghost use Rattle.p3_tree.specs.PlanTexts as marks;
-ghost use Rattle.p3_tree.specs.Refusals.Places.{refusal_at};
-ghost use Rattle.p3_tree.specs.Sides.{byte_limit};
-ghost use Rattle.p3_tree.specs.Tokens.{Open, Close, Word};
+ghost use Rattle.p3_task.specs.PlanTexts as marks;
+ghost use Rattle.p3_task.specs.Refusals.Places.{refusal_at};
+ghost use Rattle.p3_task.specs.Sides.{byte_limit};
+ghost use Rattle.p3_task.specs.Tokens.{Open, Close, Word};
 ghost use Rattle.p3_places.specs.Machine.{step};
 ghost use Rattle.p3_places.specs.Places.{grammar_table, start};
 ghost use Rattle.p3_places.specs.Walks.{the_stack, only_if, place_of, Begins, Passes};

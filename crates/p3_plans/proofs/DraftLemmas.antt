@@ -10,11 +10,11 @@ use Rattle.std.proofs.lemmas.Grind.{flat_map-append}
 use Rattle.p3_base.specs.declared.refusal.Code.{Code}
 use Rattle.p3_base.specs.declared.refusal.Code.TheVariants.{BadByte, Malformed, TooManySteps}
 use Rattle.p3_base.specs.declared.refusal.Refusal.{Refusal}
-use Rattle.p3_tree.specs.declared.task.Step.{Step}
-use Rattle.p3_tree.specs.Plans.{Plan}
-use Rattle.p3_tree.specs.Tokens.{Token, Open, Close, Word, Tokens, before, tokens_of}
-use Rattle.p3_tree.specs.PlanTexts as texts
-use Rattle.p3_tree.specs.PlanTexts.{Mark, Opens, Closes, Names, mark_of, step_marks, is_plan_word, has_plan_words, word_offence, step_limit, IsPlanText, offence_of, offence_from, first_of_both, end_offence, plan_offence, refused_at}
+use Rattle.p3_task.specs.declared.task.Step.{Step}
+use Rattle.p3_task.specs.Plans.{Plan}
+use Rattle.p3_task.specs.Tokens.{Token, Open, Close, Word, Tokens, before, tokens_of}
+use Rattle.p3_task.specs.PlanTexts as texts
+use Rattle.p3_task.specs.PlanTexts.{Mark, Opens, Closes, Names, mark_of, step_marks, is_plan_word, has_plan_words, word_offence, step_limit, IsPlanText, offence_of, offence_from, first_of_both, end_offence, plan_offence, refused_at}
 use Rattle.p3_plans.specs.Befores.{refusal_by, refusal_of}
 use Rattle.p3_plans.specs.Drafts.{draft_before, added, with_argument, IsAdded, IfRefused, Ends}
 use Rattle.p3_plans.specs.declared.error.PlanFail.{PlanFail}

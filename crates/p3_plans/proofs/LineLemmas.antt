@@ -4,13 +4,13 @@ use Rattle.std.specs.Prelude.{filter_map, flat_map, if◌then◌else◌, nat_lt}
 use Rattle.p3_base.specs.declared.refusal.Code.{Code}
 use Rattle.p3_base.specs.declared.refusal.Code.TheVariants.{Malformed}
 use Rattle.p3_base.specs.declared.refusal.Refusal.{Refusal}
-use Rattle.p3_tree.specs.Names.{Name}
-use Rattle.p3_tree.specs.Plans.{Plan}
-use Rattle.p3_tree.specs.PlanTexts.{Outside, Named, IsPlanText, Mark, Opens, Names, mark_of, plan_offence, refusal, step_marks, word_offence}
-use Rattle.p3_tree.specs.Tokens.{Token, Open, Close, Word, tokens_of}
-use Rattle.p3_tree.specs.Watching.{LineText, OneStep, earlier_by, line_by, line_offence, line_text, second_step, step_in, word_of}
-use Rattle.p3_tree.specs.declared.task.Step.{Step}
-use Rattle.p3_tree.proofs.LineLaws.{one_step_plan}
+use Rattle.p3_task.specs.Names.{Name}
+use Rattle.p3_task.specs.Plans.{Plan}
+use Rattle.p3_task.specs.PlanTexts.{Outside, Named, IsPlanText, Mark, Opens, Names, mark_of, plan_offence, refusal, step_marks, word_offence}
+use Rattle.p3_task.specs.Tokens.{Token, Open, Close, Word, tokens_of}
+use Rattle.p3_task.specs.Watching.{LineText, OneStep, earlier_by, line_by, line_offence, line_text, second_step, step_in, word_of}
+use Rattle.p3_task.specs.declared.task.Step.{Step}
+use Rattle.p3_task.proofs.LineLaws.{one_step_plan}
 use Rattle.p3_plans.specs.Laws.{AreTextsOf, HasPlan, all_of}
 use Rattle.p3_plans.specs.Lines.{IsLineStep}
 use Rattle.p3_plans.specs.Steps.{IsSlice, Left, StepText, nothing, steps_from, unless_offence, with_next}

@@ -7,17 +7,17 @@ use Rattle.std.proofs.lemmas.Bool.Decides.{nat_tests}
 use Rattle.std.proofs.lemmas.List.{append_assoc, append-nil, length-append}
 use Rattle.p3_base.specs.declared.refusal.Code.{Code}
 use Rattle.p3_base.specs.declared.refusal.Refusal.{Refusal}
-use Rattle.p3_tree.specs.declared.task.Step.{Step}
-use Rattle.p3_tree.specs.Names.{Name}
-use Rattle.p3_tree.specs.Plans.{Plan}
-use Rattle.p3_tree.specs.Tokens.{Token, Open, Close, Word, Tokens, tokens_of}
-use Rattle.p3_tree.specs.PlanTexts as texts
-use Rattle.p3_tree.specs.PlanTexts.{Mark, Opens, Closes, Names, mark_of, step_marks, is_plan_word, has_plan_words, step_limit, IsPlanText, offence_of, offence_from, first_of_both, plan_offence}
+use Rattle.p3_task.specs.declared.task.Step.{Step}
+use Rattle.p3_task.specs.Names.{Name}
+use Rattle.p3_task.specs.Plans.{Plan}
+use Rattle.p3_task.specs.Tokens.{Token, Open, Close, Word, Tokens, tokens_of}
+use Rattle.p3_task.specs.PlanTexts as texts
+use Rattle.p3_task.specs.PlanTexts.{Mark, Opens, Closes, Names, mark_of, step_marks, is_plan_word, has_plan_words, step_limit, IsPlanText, offence_of, offence_from, first_of_both, plan_offence}
 use Rattle.p3_plans.specs.Befores.{refusal_by}
 use Rattle.p3_plans.specs.Drafts.{draft_before, added, with_argument}
 use Rattle.p3_plans.specs.Laws.{HasPlan, StepsBeforeOffences}
 use Rattle.p3_plans.specs.Steps.{steps_from}
-use Rattle.p3_tree.specs.Tokens.{tokens_from}
+use Rattle.p3_task.specs.Tokens.{tokens_from}
 use Rattle.p3_plans.specs.declared.draft.Draft.{Draft}
 use Rattle.p3_plans.specs.declared.draft.Draft.TheVariants.{Outside, Begun, Named}
 use Rattle.p3_plans.proofs.DraftLemmas.{IsRead, read_first, read_more, read_refused, read_foreign, read_end, read_whole, behind_more}

@@ -6,11 +6,11 @@ use Rattle.std.specs.Char.{to_ascii_lowercase}
 use Rattle.std.proofs.lemmas.Bool.{and_parts}
 use Rattle.std.proofs.lemmas.Bool.Decides.{nat_tests}
 use Rattle.std.proofs.lemmas.List.Folds.{list_all-append}
-use Rattle.p3_tree.specs.declared.task.Step.{Step}
-use Rattle.p3_tree.specs.Names.{Name}
-use Rattle.p3_tree.specs.Plans.{Plan}
-use Rattle.p3_tree.specs.Tokens.{Token, Open, Close, Word, Tokens, is_of_word, is_blank, is_comment_after, prefixed, with_byte, tokens_from}
-use Rattle.p3_tree.specs.PlanTexts.{Mark, Opens, Closes, Names, mark_of, step_marks, is_plan_word, has_plan_words, IsPlanText}
+use Rattle.p3_task.specs.declared.task.Step.{Step}
+use Rattle.p3_task.specs.Names.{Name}
+use Rattle.p3_task.specs.Plans.{Plan}
+use Rattle.p3_task.specs.Tokens.{Token, Open, Close, Word, Tokens, is_of_word, is_blank, is_comment_after, prefixed, with_byte, tokens_from}
+use Rattle.p3_task.specs.PlanTexts.{Mark, Opens, Closes, Names, mark_of, step_marks, is_plan_word, has_plan_words, IsPlanText}
 use Rattle.p3_base.specs.Words.{is_lowered}
 use Rattle.p3_plans.specs.Layout.{is_written_word, has_written_words}
 use Rattle.p3_plans.specs.Drafts.{Ends}

@@ -6,15 +6,15 @@ use Rattle.p3_base.specs.declared.refusal.Refusal.{Refusal}
 use Rattle.std.specs.Prelude.{codes, if◌then◌else◌, Bool, true, false, bytes_eq, ◌≤◌}
 use Rattle.std.specs.Str.{str_to_ascii_lowercase}
 use Rattle.p3_lexer.specs.Lexing.{token_of, gap_len}
-use Rattle.p3_tree.specs.Tokens.{Token, Open, Close, Word, Tokens, before}
-use Rattle.p3_tree.specs.PlanTexts as texts
-use Rattle.p3_tree.specs.PlanTexts.{offence_of, offence_from, first_of_both}
+use Rattle.p3_task.specs.Tokens.{Token, Open, Close, Word, Tokens, before}
+use Rattle.p3_task.specs.PlanTexts as texts
+use Rattle.p3_task.specs.PlanTexts.{offence_of, offence_from, first_of_both}
 use Rattle.p3_plans.specs.declared.before.Before.{Before}
 use Rattle.p3_plans.specs.declared.before.Before.TheVariants.{Outside, Begun, Named}
 use Rattle.p3_plans.specs.Steps.{Progress, StepText, Left, begin_behind, place_of, with_ended, unless_offence, steps_from, parts, nothing, left, left_by, with_next, stopped_by, Ends, Rests}
 use Rattle.p3_plans.specs.declared.reader.NextStep.{NextStep}
 use Rattle.p3_plans.specs.declared.reader.NextStep.TheVariants as next
-use Rattle.p3_tree.specs.Tokens.{tokens_from}
+use Rattle.p3_task.specs.Tokens.{tokens_from}
 use Rattle.p3_plans.specs.Befores.{the_before, begin_of, refusal_by, refusal_of, Passes}
 
 -- ---- the end

@@ -2,8 +2,8 @@
 use Rattle.std.specs.Prelude.{◌≡◌, ℕ, Option, Some, None, Result, Ok, Err}
 use Rattle.p3_base.specs.declared.refusal.Code.{Code}
 use Rattle.p3_base.specs.declared.refusal.Refusal.{Refusal}
-use Rattle.p3_tree.specs.Tokens.{Token}
-use Rattle.p3_tree.specs.PlanTexts as texts
+use Rattle.p3_task.specs.Tokens.{Token}
+use Rattle.p3_task.specs.PlanTexts as texts
 use Rattle.p3_plans.specs.declared.before.Before.{Before}
 use Rattle.p3_plans.specs.declared.before.Before.TheVariants.{Outside, Begun, Named}
 use Rattle.p3_plans.specs.Steps.{begin_behind}

@@ -1,12 +1,12 @@
 -- Plans that are read in part.
 use Rattle.std.specs.Prelude.{◌≡◌, ℕ, ◌+◌, [], ◌∷◌, ◌++◌, length, codes, Some, None, Result, Ok, Err, ⊤}
 use Rattle.p3_base.specs.declared.refusal.Refusal.{Refusal}
-use Rattle.p3_tree.specs.declared.task.Step.{Step}
-use Rattle.p3_tree.specs.Names.{Name}
-use Rattle.p3_tree.specs.Plans.{Plan}
-use Rattle.p3_tree.specs.Tokens.{Token, Open, Close, Word}
-use Rattle.p3_tree.specs.PlanTexts as texts
-use Rattle.p3_tree.specs.PlanTexts.{Mark, Opens, Names, step_marks, has_plan_words, step_limit, offence_of, end_offence}
+use Rattle.p3_task.specs.declared.task.Step.{Step}
+use Rattle.p3_task.specs.Names.{Name}
+use Rattle.p3_task.specs.Plans.{Plan}
+use Rattle.p3_task.specs.Tokens.{Token, Open, Close, Word}
+use Rattle.p3_task.specs.PlanTexts as texts
+use Rattle.p3_task.specs.PlanTexts.{Mark, Opens, Names, step_marks, has_plan_words, step_limit, offence_of, end_offence}
 use Rattle.p3_plans.specs.Befores.{refusal_of}
 use Rattle.p3_plans.specs.declared.draft.Draft.{Draft}
 use Rattle.p3_plans.specs.declared.draft.Draft.TheVariants.{Outside, Begun, Named}

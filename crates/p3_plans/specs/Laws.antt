@@ -2,8 +2,8 @@
 use Rattle.std.specs.Prelude.{◌≡◌, ◌≤◌, ℕ, length, List, [], ◌∷◌, codes, Some, None}
 use Prim.Native.String.{String}
 use Rattle.p3_base.specs.declared.refusal.Code.TheVariants.{Unbalanced}
-use Rattle.p3_tree.specs.Plans.{Plan}
-use Rattle.p3_tree.specs.PlanTexts.{IsPlanText, refusal, step_limit}
+use Rattle.p3_task.specs.Plans.{Plan}
+use Rattle.p3_task.specs.PlanTexts.{IsPlanText, refusal, step_limit}
 use Rattle.p3_plans.specs.Steps.{StepText, Left, left}
 
 -- the text is of a plan that may be read

@@ -2,10 +2,10 @@
 use Rattle.std.specs.Prelude.{ℕ, Bool, ◌&&◌, List, ◌++◌, codes}
 use Rattle.std.specs.List.{list_all, flat_map}
 use Rattle.p3_base.specs.Words.{is_lowered}
-use Rattle.p3_tree.specs.Names.{Name}
-use Rattle.p3_tree.specs.Plans.{Plan}
-use Rattle.p3_tree.specs.PlanTexts.{is_plan_word}
-use Rattle.p3_tree.specs.declared.task.Step.{Step}
+use Rattle.p3_task.specs.Names.{Name}
+use Rattle.p3_task.specs.Plans.{Plan}
+use Rattle.p3_task.specs.PlanTexts.{is_plan_word}
+use Rattle.p3_task.specs.declared.task.Step.{Step}
 
 abbrev pub argument_layout : Name → List ℕ
 argument_layout name = codes " " ++ name

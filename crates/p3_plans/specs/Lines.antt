@@ -1,9 +1,9 @@
 -- What a line of a plan text has, as the code tells it.
 use Rattle.std.specs.Prelude.{◌≡◌, ℕ, Bool, true, false, List, [], ◌∷◌, take, drop, length, Option}
-use Rattle.p3_tree.specs.PlanTexts.{IsPlanText}
-use Rattle.p3_tree.specs.Tokens.{Token}
-use Rattle.p3_tree.specs.Watching.{LineText, Empty, OneStep, Offends, open_behind, second_step}
-use Rattle.p3_tree.specs.declared.task.Step.{Step}
+use Rattle.p3_task.specs.PlanTexts.{IsPlanText}
+use Rattle.p3_task.specs.Tokens.{Token}
+use Rattle.p3_task.specs.Watching.{LineText, Empty, OneStep, Offends, open_behind, second_step}
+use Rattle.p3_task.specs.declared.task.Step.{Step}
 use Rattle.p3_plans.specs.declared.line.LineStep.{LineStep}
 use Rattle.p3_plans.specs.declared.line.LineStep.TheVariants as line
 

@@ -2,9 +2,9 @@
 use Rattle.std.specs.Prelude.{◌≡◌, ℕ, ◌+◌, ◌-◌, false, List, [], ◌∷◌, take, drop, length, Option, Some, None, ⊤}
 use Rattle.p3_base.specs.declared.refusal.Code.{Code}
 use Rattle.p3_base.specs.declared.refusal.Refusal.{Refusal}
-use Rattle.p3_tree.specs.Tokens.{Token, Open, Close, Word, Tokens, tokens_from}
+use Rattle.p3_task.specs.Tokens.{Token, Open, Close, Word, Tokens, tokens_from}
 use Rattle.p3_lexer.specs.Lexing.{gap_len}
-use Rattle.p3_tree.specs.PlanTexts.{Before, Outside, Begun, Named, behind, offence_of, offence_from}
+use Rattle.p3_task.specs.PlanTexts.{Before, Outside, Begun, Named, behind, offence_of, offence_from}
 use Rattle.p3_plans.specs.declared.reader.NextStep.{NextStep}
 use Rattle.p3_plans.specs.declared.reader.NextStep.TheVariants as next
 

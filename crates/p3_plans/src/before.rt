@@ -3,8 +3,8 @@
 ghost use Rattle.std.specs.Prelude.{◌≡◌, ◌≤◌, ◌≢◌, length, codes};
 ghost use Rattle.std.specs.Str.{str_to_ascii_lowercase};
 ghost use Rattle.p3_lexer.specs.Lexing.{token_of};
-ghost use Rattle.p3_tree.specs.PlanTexts as texts;
-ghost use Rattle.p3_tree.specs.Sides.{plan_byte_limit};
+ghost use Rattle.p3_task.specs.PlanTexts as texts;
+ghost use Rattle.p3_task.specs.Sides.{plan_byte_limit};
 ghost use Rattle.p3_plans.specs.declared.before.Before.TheVariants as before;
 ghost use Rattle.p3_plans.specs.Befores.{Leads, begin_of};
 

@@ -2,8 +2,8 @@
 
 ghost use Rattle.std.specs.Prelude.{◌≡◌, ◌≤◌, ◌++◌, ◌∷◌, ℕ, [], length, IfOk};
 ghost use Rattle.std.specs.Str.{str_to_ascii_lowercase};
-ghost use Rattle.p3_tree.specs.Sides.{plan_byte_limit};
-ghost use Rattle.p3_tree.specs.PlanTexts.{step_limit};
+ghost use Rattle.p3_task.specs.Sides.{plan_byte_limit};
+ghost use Rattle.p3_task.specs.PlanTexts.{step_limit};
 ghost use Rattle.p3_lexer.specs.Lexing.{token_of};
 ghost use Rattle.p3_plans.specs.Befores.{the_before};
 ghost use Rattle.p3_plans.specs.declared.draft.Draft.TheVariants as draft;
@@ -13,7 +13,7 @@ use crate::PlanFail;
 use crate::before::{Before, advanced, refusal};
 use p3_base::{Code, List, Name, NoMemory};
 use p3_lexer::is_close;
-use p3_tree::{Plan, Step};
+use p3_task::{Plan, Step};
 use std::alloc::Global;
 
 /// The steps that are whole, and what is read of a step that is open.

@@ -1,8 +1,8 @@
 //! Laws of the definitions. Each is the contract of a function without a body.
 
 ghost use Rattle.std.specs.Prelude.{◌≡◌, ◌≤◌, ◌↔◌, ℕ, List, length, None};
-ghost use Rattle.p3_tree.specs.Plans.{Plan};
-ghost use Rattle.p3_tree.specs.PlanTexts.{IsPlanText, plan_offence, step_limit};
+ghost use Rattle.p3_task.specs.Plans.{Plan};
+ghost use Rattle.p3_task.specs.PlanTexts.{IsPlanText, plan_offence, step_limit};
 ghost use Rattle.p3_plans.specs.Laws.{AreTextsOf, HasPlan, StepsBeforeOffences, all_of};
 
 /// A text has one plan at most.

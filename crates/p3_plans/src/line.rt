@@ -1,9 +1,9 @@
 //! The step that a line of a plan text has.
 
 ghost use Rattle.std.specs.Prelude.{◌≡◌, ◌≤◌, length, Some};
-ghost use Rattle.p3_tree.specs.Tokens.{tokens_of};
-ghost use Rattle.p3_tree.specs.Watching as watching;
-ghost use Rattle.p3_tree.specs.Sides.{plan_byte_limit};
+ghost use Rattle.p3_task.specs.Tokens.{tokens_of};
+ghost use Rattle.p3_task.specs.Watching as watching;
+ghost use Rattle.p3_task.specs.Sides.{plan_byte_limit};
 ghost use Rattle.p3_plans.specs.Lines.{IsLineStep};
 
 use crate::before::refusal;

@@ -1,8 +1,8 @@
 //! The first offence of a plan text, by itself.
 
 ghost use Rattle.std.specs.Prelude.{◌≡◌, ◌≤◌, length};
-ghost use Rattle.p3_tree.specs.PlanTexts.{plan_offence};
-ghost use Rattle.p3_tree.specs.Sides.{plan_byte_limit};
+ghost use Rattle.p3_task.specs.PlanTexts.{plan_offence};
+ghost use Rattle.p3_task.specs.Sides.{plan_byte_limit};
 
 use crate::reader::{NextStep, PlanReader};
 use p3_base::Refusal;

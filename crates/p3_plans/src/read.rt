@@ -2,8 +2,8 @@
 
 ghost use Rattle.std.specs.Prelude.{◌≡◌, ◌≤◌, length, IfOk, IfErr, IsTrue, Some, None};
 ghost use Rattle.std.specs.List.{list_all};
-ghost use Rattle.p3_tree.specs.PlanTexts.{IsPlanText, plan_offence, step_limit};
-ghost use Rattle.p3_tree.specs.Sides.{plan_byte_limit};
+ghost use Rattle.p3_task.specs.PlanTexts.{IsPlanText, plan_offence, step_limit};
+ghost use Rattle.p3_task.specs.Sides.{plan_byte_limit};
 ghost use Rattle.p3_plans.specs.Drafts.{IfRefused};
 ghost use Rattle.p3_plans.specs.Layout as layout;
 
@@ -12,7 +12,7 @@ use crate::before::refusal;
 use crate::draft::{Draft, add, whole};
 use p3_base::{Code, List};
 use p3_lexer::{Lexer, Next};
-use p3_tree::Plan;
+use p3_task::Plan;
 use std::alloc::Global;
 
 /// The plan of a text.

@@ -3,9 +3,9 @@
 ghost use Rattle.std.specs.Prelude.{◌≡◌, ◌≤◌, ◌<◌, ◌+◌, ◌-◌, ℕ, List, [], ◌∷◌, take, drop, length, None, IfSome};
 ghost use Rattle.p3_lexer.specs.Lexing as lexing;
 ghost use Rattle.p3_lexer.specs.StepWords.{IsPartOf, IsWordAt};
-ghost use Rattle.p3_tree.specs.PlanTexts.{IsPlanText, Outside, end_offence};
-ghost use Rattle.p3_tree.specs.declared.task.Step.{Step};
-ghost use Rattle.p3_tree.specs.Sides.{plan_byte_limit};
+ghost use Rattle.p3_task.specs.PlanTexts.{IsPlanText, Outside, end_offence};
+ghost use Rattle.p3_task.specs.declared.task.Step.{Step};
+ghost use Rattle.p3_task.specs.Sides.{plan_byte_limit};
 ghost use Rattle.p3_plans.specs.Befores.{the_before};
 ghost use Rattle.p3_plans.specs.Steps.{Left, left, parts, nothing, with_next, IsBehindGap, Takes, Rests, Ends, stopped_by};
 
@@ -63,7 +63,7 @@ pub struct PlanReader<'a> {
 
 impl<'a> Model for PlanReader<'a> {
     ghost use Rattle.std.specs.Prelude.{◌≡◌, ◌≤◌, length};
-    ghost use Rattle.p3_tree.specs.Sides.{plan_byte_limit};
+    ghost use Rattle.p3_task.specs.Sides.{plan_byte_limit};
     ghost use Rattle.p3_plans.specs.Steps.{Progress};
 
     ghost Value = { Progress };

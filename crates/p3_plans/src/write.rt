@@ -2,11 +2,11 @@
 
 ghost use Rattle.std.specs.Prelude.{◌≡◌, ◌++◌, IfOk, OnOk, IsTrue};
 ghost use Rattle.std.specs.List.{list_all, flat_map};
-ghost use Rattle.p3_tree.specs.PlanTexts.{IsPlanText};
+ghost use Rattle.p3_task.specs.PlanTexts.{IsPlanText};
 ghost use Rattle.p3_plans.specs.Layout as layout;
 
 use p3_base::{Name, NoMemory};
-use p3_tree::{Plan, Step};
+use p3_task::{Plan, Step};
 use std::alloc::Global;
 
 /// The text of a plan: a line for each step.

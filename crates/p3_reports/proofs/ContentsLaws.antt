@@ -3,15 +3,15 @@ use Rattle.std.proofs.Common.{◌≡◌, ◌∙◌, ◌++◌, ◌^◌, ℕ, leng
 use Rattle.std.specs.Prelude.{ℤ, codes, pos}
 use Rattle.std.specs.Fmt.{decimal, signed_decimal}
 use Rattle.std.proofs.lemmas.List.Folds.{flat_map-map}
-use Rattle.p3_tree.specs.Costs.{cost_places}
-use Rattle.p3_tree.specs.Metrics.{cost, metric_places, value}
-use Rattle.p3_tree.specs.Plans.{Plan}
-use Rattle.p3_tree.specs.PreferenceNames.{ordered_names}
+use Rattle.p3_task.specs.Costs.{cost_places}
+use Rattle.p3_task.specs.Metrics.{cost, metric_places, value}
+use Rattle.p3_task.specs.Plans.{Plan}
+use Rattle.p3_task.specs.PreferenceNames.{ordered_names}
 use Rattle.p3_tree.specs.Reports.Lines.{entry, line}
 use Rattle.p3_tree.specs.Reports.Plans.{embedded_lines, evaluated_lines, generated_lines, lifted_lines, steps_line}
 use Rattle.p3_tree.specs.Reports.Quantities.{shown_quantity}
 use Rattle.p3_tree.specs.Reports.Tasks.{compiled_lines, direction_name, scale_line}
-use Rattle.p3_tree.specs.declared.task.Task.{Task}
+use Rattle.p3_task.specs.declared.task.Task.{Task}
 use Rattle.p3_reports.specs.Contents.{IsCompileReport, IsEmbedReport, IsEvaluateReport, IsGenerateReport, IsLiftReport, IsQuantity, count_of}
 use Rattle.p3_reports.specs.Parts.{count_text, counts_text, quantity_text}
 use Rattle.p3_reports.specs.Reports.{compile_text, embed_text, evaluate_text, generate_text, lift_text}

@@ -5,13 +5,13 @@ use Rattle.std.proofs.lemmas.List.Folds.{flat_map-map}
 use Rattle.p3_base.specs.declared.showing.Reason.{Reason}
 use Rattle.p3_base.specs.declared.showing.Subject.{Subject}
 use Rattle.p3_base.specs.declared.showing.Subject.TheVariants.{Hard, Soft, Pre}
-use Rattle.p3_tree.specs.Explanations.{reasons}
-use Rattle.p3_tree.specs.Plans.{Plan}
+use Rattle.p3_task.specs.Explanations.{reasons}
+use Rattle.p3_task.specs.Plans.{Plan}
 use Rattle.p3_tree.specs.Reports.Explanations.{explained_lines, reason_line, showing_text, subject_text, verdict_line}
 use Rattle.p3_tree.specs.Reports.Lines.{line}
 use Rattle.p3_tree.specs.Reports.Plans.{fault_line}
-use Rattle.p3_tree.specs.Validity.{Fault, first_fault}
-use Rattle.p3_tree.specs.declared.task.Task.{Task}
+use Rattle.p3_task.specs.Validity.{Fault, first_fault}
+use Rattle.p3_task.specs.declared.task.Task.{Task}
 use Rattle.p3_reports.specs.Explained.{IsExplainReport, explain_text, named_in, reason_text, reasons_text, subject_name, subject_named, verdict_text}
 use Rattle.p3_reports.specs.Faults.{fault_named}
 use Rattle.p3_reports.specs.declared.explanation.ExplainReport.{ExplainReport}

@@ -1,6 +1,6 @@
 -- The fault that the code names for one of the definitions is that one.
 use Rattle.std.proofs.Common.{◌≡◌, ap, refl}
-use Rattle.p3_tree.specs.Validity as validity
+use Rattle.p3_task.specs.Validity as validity
 use Rattle.p3_reports.specs.Faults.{fault_named, fault_of, misfit_named, misfit_of}
 
 pub misfit_is : (kind : validity.Misfit) → misfit_of (misfit_named kind) ≡ kind

@@ -1,12 +1,12 @@
 -- That what is found is what the definitions say of tasks and plans.
 use Rattle.std.specs.Prelude.{ℕ, ℤ, pos, ◌≡◌, length, map}
-use Rattle.p3_tree.specs.Costs.{cost_places}
-use Rattle.p3_tree.specs.Limits.{instance_count, step_count}
-use Rattle.p3_tree.specs.Metrics as metrics
-use Rattle.p3_tree.specs.Names.{Name}
-use Rattle.p3_tree.specs.Plans.{Plan}
-use Rattle.p3_tree.specs.PreferenceNames.{ordered_names}
-use Rattle.p3_tree.specs.declared.task.Task.{Task}
+use Rattle.p3_task.specs.Costs.{cost_places}
+use Rattle.p3_task.specs.Limits.{instance_count, step_count}
+use Rattle.p3_task.specs.Metrics as metrics
+use Rattle.p3_task.specs.Names.{Name}
+use Rattle.p3_task.specs.Plans.{Plan}
+use Rattle.p3_task.specs.PreferenceNames.{ordered_names}
+use Rattle.p3_task.specs.declared.task.Task.{Task}
 use Rattle.p3_reports.specs.declared.part.NameCount.{NameCount}
 use Rattle.p3_reports.specs.declared.quantity.Quantity.{Quantity}
 use Rattle.p3_reports.specs.declared.report.CompileReport.{CompileReport}

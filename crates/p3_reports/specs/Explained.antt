@@ -4,14 +4,15 @@ use Rattle.std.specs.Fmt.{decimal}
 use Rattle.p3_base.specs.declared.showing.Reason.{Reason}
 use Rattle.p3_base.specs.declared.showing.Subject.{Subject}
 use Rattle.p3_base.specs.declared.showing.Subject.TheVariants.{Hard, Soft, Pre}
-use Rattle.p3_tree.specs.Explanations.{reasons}
-use Rattle.p3_tree.specs.Names.{Name}
-use Rattle.p3_tree.specs.Plans.{Plan}
-use Rattle.p3_tree.specs.Reports.Explanations.{instance_name, name_in_step, showing_text, shown_name}
+use Rattle.p3_task.specs.Explanations.{reasons}
+use Rattle.p3_task.specs.Names.{Name}
+use Rattle.p3_task.specs.Plans.{Plan}
+use Rattle.p3_task.specs.Explanations.{instance_name}
+use Rattle.p3_tree.specs.Reports.Explanations.{name_in_step, showing_text, shown_name}
 use Rattle.p3_tree.specs.Reports.Lines.{line}
 use Rattle.p3_tree.specs.Reports.Plans.{fault_line}
-use Rattle.p3_tree.specs.Validity.{first_fault}
-use Rattle.p3_tree.specs.declared.task.Task.{Task}
+use Rattle.p3_task.specs.Validity.{first_fault}
+use Rattle.p3_task.specs.declared.task.Task.{Task}
 use Rattle.p3_reports.specs.Faults.{fault_named, fault_of}
 use Rattle.p3_reports.specs.declared.explanation.ExplainReport.{ExplainReport}
 use Rattle.p3_reports.specs.declared.explanation.NamedReason.{NamedReason}

@@ -1,5 +1,5 @@
 -- The faults of plans that the code names, as those of the definitions, and back.
-use Rattle.p3_tree.specs.Validity as validity
+use Rattle.p3_task.specs.Validity as validity
 use Rattle.p3_reports.specs.declared.fault.Fault.{Fault}
 use Rattle.p3_reports.specs.declared.fault.Fault.TheVariants as fault
 use Rattle.p3_reports.specs.declared.fault.Misfit.{Misfit}

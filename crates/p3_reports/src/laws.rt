@@ -2,8 +2,8 @@
 
 ghost use Rattle.std.specs.Prelude.{◌≡◌, List, ℕ, ℤ};
 ghost use Rattle.p3_base.specs.declared.refusal.Refusal.{Refusal};
-ghost use Rattle.p3_tree.specs.Plans.{Plan};
-ghost use Rattle.p3_tree.specs.Validity.{Fault};
+ghost use Rattle.p3_task.specs.Plans.{Plan};
+ghost use Rattle.p3_task.specs.Validity.{Fault};
 ghost use Rattle.p3_tree.specs.Reports.Explanations.{explained_lines};
 ghost use Rattle.p3_tree.specs.Reports.Plans.{
   embedded_lines,
@@ -13,7 +13,7 @@ ghost use Rattle.p3_tree.specs.Reports.Plans.{
 };
 ghost use Rattle.p3_tree.specs.Reports.Refusals.{refusal_line};
 ghost use Rattle.p3_tree.specs.Reports.Tasks.{compiled_lines};
-ghost use Rattle.p3_tree.specs.declared.task.Task.{Task};
+ghost use Rattle.p3_task.specs.declared.task.Task.{Task};
 ghost use Rattle.p3_reports.specs.Explained.{IsExplainReport, explain_text};
 ghost use Rattle.p3_reports.specs.Faults.{fault_named, fault_of};
 ghost use Rattle.p3_reports.specs.Contents.{

@@ -6,7 +6,7 @@ ghost use Rattle.std.specs.Str.{str_to_ascii_lowercase};
 ghost use Rattle.p3_base.specs.Place.{line_of, column_of};
 ghost use Rattle.p3_base.specs.declared.refusal.Side.TheVariants.{Written};
 ghost use Rattle.p3_tree.specs.Reports.Refusals.{shown_at_fault, shown_byte, shown_word};
-ghost use Rattle.p3_tree.specs.Sides.{byte_limit};
+ghost use Rattle.p3_task.specs.Sides.{byte_limit};
 
 use arrayvec::ArrayVec;
 use p3_base::{Code, Refusal, Role, line_column};

@@ -8,7 +8,7 @@ use Rattle.std.proofs.lemmas.List.{append-nil, drop-append-le, drop_all, length-
 use Rattle.std.proofs.lemmas.List.Elements.{All-filter}
 use Rattle.std.proofs.lemmas.List.FromFn.{filter_of_map_range_with_len_more, get_or-range_with_len, length-range_with_len}
 use Rattle.std.proofs.lemmas.Nat.{div-add-mod', div-mul-add, mod_below, mod-mul-add}
-use Rattle.p3_tree.specs.Sides.{step_count_limit}
+use Rattle.p3_task.specs.Sides.{step_count_limit}
 use Rattle.p3_numbers.specs.Choices.{choice_count, choice}
 use Rattle.p3_numbers.specs.Slots.{range_at}
 use Rattle.p3_numbers.specs.declared.goal.NumberedGoal.{NumberedGoal}

@@ -8,23 +8,23 @@ use mathlib.Core.Former.{Count}
 use Rattle.std.proofs.lemmas.Bool.{and_parts}
 use Rattle.std.proofs.lemmas.Bool.Decides.{Decides-eqb}
 use Rattle.std.proofs.lemmas.Slice.Eq.{bytes_eq-Decides}
-use Rattle.p3_tree.specs.Costs as named
-use Rattle.p3_tree.specs.Costs.{cost_places, cost_units, total, given_value, amount_value, increases, effect_cost}
-use Rattle.p3_tree.specs.Folds.{fold_effects}
-use Rattle.p3_tree.specs.Names.{Name, same_name, same_names, has_name}
-use Rattle.p3_tree.specs.States.{meanings}
-use Rattle.p3_tree.specs.declared.effect.Amount.{Amount}
-use Rattle.p3_tree.specs.declared.effect.Amount.TheVariants as amount
-use Rattle.p3_tree.specs.declared.effect.Effect.{Effect, Row_of-Effect, end_of-Effect, more_of-Effect}
-use Rattle.p3_tree.specs.declared.effect.Effect.TheVariants.{Add, Del, All', Each', If', Cost}
-use Rattle.p3_tree.specs.declared.effect.Numeral.{Numeral}
-use Rattle.p3_tree.specs.declared.term.Ref.{Ref}
-use Rattle.p3_tree.specs.declared.term.Term.{Term}
-use Rattle.p3_tree.specs.declared.task.Init.{Init}
-use Rattle.p3_tree.specs.declared.task.Init.TheVariants.{True, False, Value}
-use Rattle.p3_tree.specs.declared.task.Task.{Task}
-use Rattle.p3_tree.proofs.OnceLemmas.{AreOnce, each_once}
-use Rattle.p3_tree.proofs.StateLemmas.{same_names-Decides}
+use Rattle.p3_task.specs.Costs as named
+use Rattle.p3_task.specs.Costs.{cost_places, cost_units, total, given_value, amount_value, increases, effect_cost}
+use Rattle.p3_task.specs.Folds.{fold_effects}
+use Rattle.p3_task.specs.Names.{Name, same_name, same_names, has_name}
+use Rattle.p3_task.specs.States.{meanings}
+use Rattle.p3_task.specs.declared.effect.Amount.{Amount}
+use Rattle.p3_task.specs.declared.effect.Amount.TheVariants as amount
+use Rattle.p3_task.specs.declared.effect.Effect.{Effect, Row_of-Effect, end_of-Effect, more_of-Effect}
+use Rattle.p3_task.specs.declared.effect.Effect.TheVariants.{Add, Del, All', Each', If', Cost}
+use Rattle.p3_task.specs.declared.effect.Numeral.{Numeral}
+use Rattle.p3_task.specs.declared.term.Ref.{Ref}
+use Rattle.p3_task.specs.declared.term.Term.{Term}
+use Rattle.p3_task.specs.declared.task.Init.{Init}
+use Rattle.p3_task.specs.declared.task.Init.TheVariants.{True, False, Value}
+use Rattle.p3_task.specs.declared.task.Task.{Task}
+use Rattle.p3_task.proofs.OnceLemmas.{AreOnce, each_once}
+use Rattle.p3_task.proofs.StateLemmas.{same_names-Decides}
 use Rattle.p3_numbers.specs.Effects.{amount_of, effect_layer, effect_of, is_known_amount, known_effect_layer, is_known_effect, numbered_increases}
 use Rattle.p3_numbers.specs.Places.{Variables, Fills, AreObjects, environment_of, number_in, numbered_terms, is_known_term, are_known_terms}
 use Rattle.p3_numbers.specs.Slots.{Slots, name_at, object_names, values_of}

@@ -9,7 +9,7 @@ use Rattle.std.proofs.lemmas.Slice.Eq.{bytes_eq-Decides}
 use Rattle.std.proofs.lemmas.List.{map-append, take_more}
 use Rattle.std.proofs.lemmas.List.Elements.{filter_map-append}
 use denote.Hole.Carrier.{hidden}
-use Rattle.p3_tree.specs.Costs.{total}
+use Rattle.p3_task.specs.Costs.{total}
 use Rattle.p3_numbers.specs.Effects.{numbered_increases}
 use Rattle.p3_numbers.specs.Slots.{Slots}
 use Rattle.p3_numbers.specs.declared.effect.NumberedAmount.{NumberedAmount}

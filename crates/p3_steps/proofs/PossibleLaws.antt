@@ -5,9 +5,9 @@ use Rattle.std.specs.List.{list_any, list_all}
 use Rattle.std.proofs.lemmas.Bool.{and_parts, and_from, or_parts, or_left, or_right, not_from_false, false≢true, ltb-true, lt-ltb}
 use Rattle.std.proofs.lemmas.List.{get_or_append_left}
 use Rattle.std.proofs.lemmas.List.Folds.{list_all-append, list_all-map}
-use Rattle.p3_tree.proofs.MeaningLemmas.{list_any-map}
+use Rattle.p3_task.proofs.MeaningLemmas.{list_any-map}
 use mathlib.Core.Former.{Count}
-use Rattle.p3_tree.specs.States.{State, has_fact}
+use Rattle.p3_task.specs.States.{State, has_fact}
 use Rattle.p3_numbers.specs.Conditions.{met, met_layer}
 use Rattle.p3_numbers.specs.Folds.{fold_conditions, fold_goals}
 use Rattle.p3_numbers.specs.Goals.{hard_met, hard_layer}

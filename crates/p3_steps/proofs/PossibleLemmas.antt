@@ -3,7 +3,7 @@ use Rattle.std.proofs.Common.{◌≡◌, ◌∙◌, ℕ, Bool, true, false, not,
 use Rattle.std.specs.List.{list_all}
 use Rattle.std.proofs.lemmas.List.Folds.{list_all-map}
 use denote.Hole.Carrier.{hidden}
-use Rattle.p3_tree.proofs.MeaningLemmas.{list_any-map}
+use Rattle.p3_task.proofs.MeaningLemmas.{list_any-map}
 use Rattle.p3_numbers.specs.Folds.{fold_condition, fold_goal}
 use Rattle.p3_numbers.specs.Slots.{Slots}
 use Rattle.p3_numbers.specs.declared.condition.NumberedArgument.{NumberedArgument}

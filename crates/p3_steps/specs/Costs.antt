@@ -3,11 +3,11 @@ use Rattle.std.specs.Prelude.{◌≡◌, ℕ, ◌-◌, ◌*◌, ◌^◌, ◌==�
 use Rattle.std.specs.Option.{option_or}
 use Rattle.std.specs.HashMap.{HashMap, get}
 use denote.Ref.{Bor}
-use Rattle.p3_tree.specs.Costs.{cost_places, effect_cost, total}
-use Rattle.p3_tree.specs.Offences.{WellFormed}
-use Rattle.p3_tree.specs.declared.effect.Effect.{Effect}
-use Rattle.p3_tree.specs.declared.effect.Numeral.{Numeral}
-use Rattle.p3_tree.specs.declared.task.Task.{Task}
+use Rattle.p3_task.specs.Costs.{cost_places, effect_cost, total}
+use Rattle.p3_task.specs.Offences.{WellFormed}
+use Rattle.p3_task.specs.declared.effect.Effect.{Effect}
+use Rattle.p3_task.specs.declared.effect.Numeral.{Numeral}
+use Rattle.p3_task.specs.declared.task.Task.{Task}
 use Rattle.p3_numbers.specs.Effects.{effect_of, is_known_effect, numbered_increases}
 use Rattle.p3_numbers.specs.Places.{Variables, Fills, environment_of}
 use Rattle.p3_numbers.specs.Slots.{Slots, values_of}

@@ -1,7 +1,7 @@
 -- What may be so where some objects are still to be chosen: what no step changes is known as soon as its objects are chosen.
 use Rattle.std.specs.Prelude.{◌≡◌, ◌==◌, ℕ, nat_lt, Bool, true, false, not, ◌&&◌, ◌||◌, List, [], ◌∷◌, ◌++◌, length, flat_map, bytes_eq, if◌then◌else◌}
 use Rattle.std.specs.List.{list_any, list_all}
-use Rattle.p3_tree.specs.States.{State}
+use Rattle.p3_task.specs.States.{State}
 use Rattle.p3_numbers.specs.Conditions.{met}
 use Rattle.p3_numbers.specs.Folds.{fold_condition, fold_goal}
 use Rattle.p3_numbers.specs.Goals.{hard_met}

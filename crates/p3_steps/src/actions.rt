@@ -3,7 +3,7 @@
 ghost use Rattle.std.specs.Prelude.{◌≡◌, ◌+◌, ◌<◌, ◌≤◌, map, IfOk, OnOk};
 ghost use Rattle.std.specs.List.{All};
 ghost use Rattle.std.specs.List.Sorted.{IsStrictlyIncreasing};
-ghost use Rattle.p3_tree.specs.Sides.{step_count_limit};
+ghost use Rattle.p3_task.specs.Sides.{step_count_limit};
 ghost use Rattle.p3_numbers.specs.Choices.{choice_count as count_of};
 ghost use Rattle.p3_expansion.specs.Walks.{Pushes};
 ghost use Rattle.p3_steps.specs.Steps.{

@@ -1,7 +1,7 @@
 //! The choices of an action's arguments that may begin.
 
 ghost use Rattle.std.specs.Prelude.{◌≡◌, ◌<◌, ◌≤◌, ◌*◌, ◌+◌, ◌++◌, [], ◌∷◌, All, drop, flat_map, if◌then◌else◌, length, take, IfOk, IfSome, OnOk};
-ghost use Rattle.p3_tree.specs.Sides.{step_count_limit};
+ghost use Rattle.p3_task.specs.Sides.{step_count_limit};
 ghost use Rattle.p3_numbers.specs.Choices.{choice_count as count_of};
 ghost use Rattle.p3_steps.specs.Candidates.{
   Marks,

@@ -3,7 +3,7 @@
 ghost use Rattle.std.specs.Prelude.{◌≡◌, ◌+◌, ◌≤◌, ◌^◌, flat_map, map, IfOk, OnOk};
 ghost use Rattle.std.specs.Hash.DefaultHasher as sip;
 ghost use Rattle.std.specs.Result.{MatchResult};
-ghost use Rattle.p3_tree.specs.Costs.{total};
+ghost use Rattle.p3_task.specs.Costs.{total};
 ghost use Rattle.p3_numbers.specs.Slots.{value_of as meaning_of, values_of};
 ghost use Rattle.p3_names.specs.Keys.{start_after, told_numbers};
 ghost use Rattle.p3_steps.specs.Costs.{
@@ -19,7 +19,7 @@ ghost use Rattle.p3_steps.specs.Costs.{
 use p3_base::{NoMemory, TooLarge};
 use p3_names::{Digest, Key};
 use p3_numbers::{NumberedArgument, NumberedAmount, NumberedEffect, NumberedValue};
-use p3_tree::Numeral;
+use p3_task::Numeral;
 use std::alloc::Global;
 use std::collections::HashMap;
 

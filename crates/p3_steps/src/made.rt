@@ -1,7 +1,7 @@
 //! One step of a numbered task as a ground step.
 
 ghost use Rattle.std.specs.Prelude.{◌≡◌, ◌+◌, ◌≤◌, IfOk};
-ghost use Rattle.p3_tree.specs.Sides.{step_count_limit};
+ghost use Rattle.p3_task.specs.Sides.{step_count_limit};
 ghost use Rattle.p3_numbers.specs.Choices.{choice as objects_of_choice};
 ghost use Rattle.p3_steps.specs.Steps.{MakesStep, planned_step};
 

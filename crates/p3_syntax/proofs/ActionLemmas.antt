@@ -1,15 +1,15 @@
 -- An action by its parts.
 use Rattle.std.proofs.Common.{◌≡◌, ◌∙◌, refl, subst, List, [], ◌∷◌, Option, Some, None}
 use Rattle.std.specs.Prelude.{IsSome}
-use Rattle.p3_tree.specs.Grammar.Words.{◌>>=◌, headed, is_name, name_place}
-use Rattle.p3_tree.specs.Grammar.Halves.{Section, sections_among, action_keywords, keyword_parts, action_in}
-use Rattle.p3_tree.specs.declared.expression.Expression.{Expression}
-use Rattle.p3_tree.specs.declared.term.Ref.{Ref}
-use Rattle.p3_tree.specs.declared.term.Typed.{Typed}
-use Rattle.p3_tree.specs.declared.task.Part.{Part}
-use Rattle.p3_tree.specs.declared.task.Action.{Action}
-use Rattle.p3_tree.specs.declared.goal.PreGoal.{PreGoal}
-use Rattle.p3_tree.specs.declared.effect.Effect.{Effect}
+use Rattle.p3_task.specs.Grammar.Words.{◌>>=◌, headed, is_name, name_place}
+use Rattle.p3_task.specs.Grammar.Halves.{Section, sections_among, action_keywords, keyword_parts, action_in}
+use Rattle.p3_task.specs.declared.expression.Expression.{Expression}
+use Rattle.p3_task.specs.declared.term.Ref.{Ref}
+use Rattle.p3_task.specs.declared.term.Typed.{Typed}
+use Rattle.p3_task.specs.declared.task.Part.{Part}
+use Rattle.p3_task.specs.declared.task.Action.{Action}
+use Rattle.p3_task.specs.declared.goal.PreGoal.{PreGoal}
+use Rattle.p3_task.specs.declared.effect.Effect.{Effect}
 use Rattle.p3_syntax.specs.declared.tree.actions.ActionBody.{ActionBody}
 use Rattle.p3_syntax.proofs.HeadLemmas.{tested_known}
 use Rattle.p3_syntax.proofs.SectionLemmas.{among_known}

@@ -1,18 +1,18 @@
 -- Constraints of lists.
 use Rattle.std.proofs.Common.{◌≡◌, ◌∙◌, refl, ap, Bool, true, false, List, [], ◌∷◌, Option, Some, None}
 use Rattle.std.specs.Prelude.{codes}
-use Rattle.p3_tree.specs.Grammar.Words.{◌>>=◌, Place, pair, parts_place, expressions, headed, choose}
-use Rattle.p3_tree.specs.Grammar.Lists.{variables_place}
-use Rattle.p3_tree.specs.Grammar.Formulas.{formula_place}
-use Rattle.p3_tree.specs.Grammar.Goals.{preferred}
-use Rattle.p3_tree.specs.Grammar.Constraints.{with_two, constraint_in, inner_forms, inner_place, constraint_place, single_form, each_form, preference_form}
-use Rattle.p3_tree.specs.declared.expression.Expression.{Expression, Group'}
-use Rattle.p3_tree.specs.declared.expression.Expression.TheVariants as expression
-use Rattle.p3_tree.specs.declared.formula.Formula.{Formula}
-use Rattle.p3_tree.specs.Modal.{Modal}
-use Rattle.p3_tree.specs.declared.constraint.Constraint.{Constraint}
-use Rattle.p3_tree.specs.declared.constraint.Constraint.TheVariants as constraint
-use Rattle.p3_tree.specs.declared.term.Ref.{Ref}
+use Rattle.p3_task.specs.Grammar.Words.{◌>>=◌, Place, pair, parts_place, expressions, headed, choose}
+use Rattle.p3_task.specs.Grammar.Lists.{variables_place}
+use Rattle.p3_task.specs.Grammar.Formulas.{formula_place}
+use Rattle.p3_task.specs.Grammar.Goals.{preferred}
+use Rattle.p3_task.specs.Grammar.Constraints.{with_two, constraint_in, inner_forms, inner_place, constraint_place, single_form, each_form, preference_form}
+use Rattle.p3_task.specs.declared.expression.Expression.{Expression, Group'}
+use Rattle.p3_task.specs.declared.expression.Expression.TheVariants as expression
+use Rattle.p3_task.specs.declared.formula.Formula.{Formula}
+use Rattle.p3_task.specs.Modal.{Modal}
+use Rattle.p3_task.specs.declared.constraint.Constraint.{Constraint}
+use Rattle.p3_task.specs.declared.constraint.Constraint.TheVariants as constraint
+use Rattle.p3_task.specs.declared.term.Ref.{Ref}
 use Rattle.p3_syntax.specs.Trees.{listed, constraint_at, constraint_of}
 use Rattle.p3_syntax.specs.Formulas.{two_formulas}
 use Rattle.p3_syntax.proofs.TreeLemmas.{raws_listed, row_listed, headed_listed}

@@ -1,18 +1,18 @@
 -- Types and functions of a domain, item by item.
 use Rattle.std.proofs.Common.{◌≡◌, ◌∙◌, refl, ap, subst, List, codes, Option, Some, None}
 use Rattle.std.specs.Prelude.{IsSome}
-use Rattle.p3_tree.specs.Grammar.Words.{◌>>=◌, name_place, function_place, is_word}
-use Rattle.p3_tree.specs.Grammar.Halves.{Section, header_place, kind_item, half_at, domain_keywords, domain_place}
-use Rattle.p3_tree.specs.Grammar.Halves as halves
-use Rattle.p3_tree.specs.declared.expression.Expression.{Expression}
-use Rattle.p3_tree.specs.declared.term.Ref.{Ref}
-use Rattle.p3_tree.specs.declared.term.Typed.{Typed}
-use Rattle.p3_tree.specs.declared.constraint.Constraint.{Constraint}
-use Rattle.p3_tree.specs.declared.task.Part.{Part}
-use Rattle.p3_tree.specs.declared.task.Kind.{Kind}
-use Rattle.p3_tree.specs.declared.task.Header.{Header}
-use Rattle.p3_tree.specs.declared.task.Action.{Action}
-use Rattle.p3_tree.specs.declared.task.Domain.{Domain}
+use Rattle.p3_task.specs.Grammar.Words.{◌>>=◌, name_place, function_place, is_word}
+use Rattle.p3_task.specs.Grammar.Halves.{Section, header_place, kind_item, half_at, domain_keywords, domain_place}
+use Rattle.p3_task.specs.Grammar.Halves as halves
+use Rattle.p3_task.specs.declared.expression.Expression.{Expression}
+use Rattle.p3_task.specs.declared.term.Ref.{Ref}
+use Rattle.p3_task.specs.declared.term.Typed.{Typed}
+use Rattle.p3_task.specs.declared.constraint.Constraint.{Constraint}
+use Rattle.p3_task.specs.declared.task.Part.{Part}
+use Rattle.p3_task.specs.declared.task.Kind.{Kind}
+use Rattle.p3_task.specs.declared.task.Header.{Header}
+use Rattle.p3_task.specs.declared.task.Action.{Action}
+use Rattle.p3_task.specs.declared.task.Domain.{Domain}
 use Rattle.p3_syntax.specs.declared.tree.domains.Declarations.{Declarations}
 use Rattle.p3_syntax.specs.declared.tree.domains.DomainContents.{DomainContents}
 use Rattle.p3_syntax.proofs.HeadLemmas.{some_first}

@@ -1,14 +1,14 @@
 -- One layer of an effect.
 use Rattle.std.proofs.Common.{◌≡◌, ◌∙◌, refl, ap, ℕ, Bool, true, false, List, [], ◌∷◌, Option, Some, None}
 use Rattle.std.specs.Option.{option_or}
-use Rattle.p3_tree.specs.Grammar.Words.{◌>>=◌, numeral_place, pair, parts_place, expressions, headed}
-use Rattle.p3_tree.specs.Grammar.Formulas.{formula_place}
-use Rattle.p3_tree.specs.Grammar.Effects.{amount_place, function_value_in, effect_place, effect_in, when_form}
-use Rattle.p3_tree.specs.declared.effect.Amount.{Amount}
-use Rattle.p3_tree.specs.declared.effect.Amount.TheVariants as amount
-use Rattle.p3_tree.specs.declared.effect.Effect.TheVariants as effect
-use Rattle.p3_tree.specs.declared.expression.Expression.{Expression, Group'}
-use Rattle.p3_tree.specs.declared.expression.Expression.TheVariants as expression
+use Rattle.p3_task.specs.Grammar.Words.{◌>>=◌, numeral_place, pair, parts_place, expressions, headed}
+use Rattle.p3_task.specs.Grammar.Formulas.{formula_place}
+use Rattle.p3_task.specs.Grammar.Effects.{amount_place, function_value_in, effect_place, effect_in, when_form}
+use Rattle.p3_task.specs.declared.effect.Amount.{Amount}
+use Rattle.p3_task.specs.declared.effect.Amount.TheVariants as amount
+use Rattle.p3_task.specs.declared.effect.Effect.TheVariants as effect
+use Rattle.p3_task.specs.declared.expression.Expression.{Expression, Group'}
+use Rattle.p3_task.specs.declared.expression.Expression.TheVariants as expression
 use Rattle.p3_outline.specs.Nodes.{IsWordOf, IsList}
 use Rattle.p3_syntax.specs.Trees.{listed}
 use Rattle.p3_syntax.specs.Effects.{effect_found, effect_of}

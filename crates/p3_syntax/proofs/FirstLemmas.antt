@@ -7,17 +7,17 @@ use Rattle.p3_base.specs.declared.refusal.Role.{Role}
 use Rattle.p3_base.specs.declared.refusal.Role.TheVariants as role
 use Rattle.p3_base.specs.declared.refusal.Side.{Side}
 use Rattle.p3_base.specs.declared.refusal.Side.TheVariants.{Source, Written}
-use Rattle.p3_tree.specs.PlanTexts.{mark_of}
-use Rattle.p3_tree.specs.Sides.{Half, InDomain, InProblem, level_limit, role_of}
-use Rattle.p3_tree.specs.Tokens.{Token}
-use Rattle.p3_tree.specs.Grammar.Words.{Place, IsText}
-use Rattle.p3_tree.specs.Grammar.Texts.{IsBalanced}
-use Rattle.p3_tree.specs.Grammar.Halves.{domain_place, problem_place}
-use Rattle.p3_tree.specs.Refusals.First.{HalfText, IsFirstOfHalf, IsReadable}
-use Rattle.p3_tree.specs.Refusals.Malformed.{IsMalformedAt, IsMalformed}
-use Rattle.p3_tree.specs.Refusals.Texts.{text_refusal}
-use Rattle.p3_tree.specs.declared.expression.Expression.{Expression}
-use Rattle.p3_tree.proofs.ReadingLemmas.{text_balanced}
+use Rattle.p3_task.specs.PlanTexts.{mark_of}
+use Rattle.p3_task.specs.Sides.{Half, InDomain, InProblem, level_limit, role_of}
+use Rattle.p3_task.specs.Tokens.{Token}
+use Rattle.p3_task.specs.Grammar.Words.{Place, IsText}
+use Rattle.p3_task.specs.Grammar.Texts.{IsBalanced}
+use Rattle.p3_task.specs.Grammar.Halves.{domain_place, problem_place}
+use Rattle.p3_task.specs.Refusals.First.{HalfText, IsFirstOfHalf, IsReadable}
+use Rattle.p3_task.specs.Refusals.Malformed.{IsMalformedAt, IsMalformed}
+use Rattle.p3_task.specs.Refusals.Texts.{text_refusal}
+use Rattle.p3_task.specs.declared.expression.Expression.{Expression}
+use Rattle.p3_task.proofs.ReadingLemmas.{text_balanced}
 use Rattle.p3_places.specs.Searches.{side_of, half_of, HasTree, Finds}
 use Rattle.p3_outline.specs.declared.view.Outline.{Outline}
 use Rattle.p3_outline.specs.Nodes.{root_of}

@@ -1,13 +1,13 @@
 -- Formulas of lists.
 use Rattle.std.proofs.Common.{◌≡◌, ◌∙◌, refl, ap, List, [], ◌∷◌, Option, Some, None}
-use Rattle.p3_tree.specs.Grammar.Words.{◌>>=◌, only, pair, parts_place, expressions, headed, choose}
-use Rattle.p3_tree.specs.Grammar.Lists.{variables_place}
-use Rattle.p3_tree.specs.Grammar.Formulas.{formula_place, formula_in, formula_forms, atom_form, not_form, imply_form, exists_form, forall_form}
-use Rattle.p3_tree.specs.declared.expression.Expression.{Expression, Group'}
-use Rattle.p3_tree.specs.declared.expression.Expression.TheVariants as expression
-use Rattle.p3_tree.specs.declared.formula.Formula.{Formula}
-use Rattle.p3_tree.specs.declared.formula.Formula.TheVariants as formula
-use Rattle.p3_tree.specs.declared.term.Typed.{Typed}
+use Rattle.p3_task.specs.Grammar.Words.{◌>>=◌, only, pair, parts_place, expressions, headed, choose}
+use Rattle.p3_task.specs.Grammar.Lists.{variables_place}
+use Rattle.p3_task.specs.Grammar.Formulas.{formula_place, formula_in, formula_forms, atom_form, not_form, imply_form, exists_form, forall_form}
+use Rattle.p3_task.specs.declared.expression.Expression.{Expression, Group'}
+use Rattle.p3_task.specs.declared.expression.Expression.TheVariants as expression
+use Rattle.p3_task.specs.declared.formula.Formula.{Formula}
+use Rattle.p3_task.specs.declared.formula.Formula.TheVariants as formula
+use Rattle.p3_task.specs.declared.term.Typed.{Typed}
 use Rattle.p3_syntax.specs.Trees.{listed, formula_of}
 use Rattle.p3_syntax.proofs.TreeLemmas.{row_listed, headed_listed}
 

@@ -1,16 +1,16 @@
 -- Preconditions and goals of lists.
 use Rattle.std.proofs.Common.{◌≡◌, ◌∙◌, refl, ap, false, codes, if◌then◌else◌, List, [], ◌∷◌, Option, Some, None}
-use Rattle.p3_tree.specs.Grammar.Words.{◌>>=◌, Place, pair, parts_place, name_place, expressions, headed, choose}
-use Rattle.p3_tree.specs.Grammar.Lists.{variables_place}
-use Rattle.p3_tree.specs.Grammar.Formulas.{formula_place}
-use Rattle.p3_tree.specs.Grammar.Goals.{goal_place, goal_in, goal_forms, plain_form, preferred, both_form, each_form, preference_form}
-use Rattle.p3_tree.specs.Names.{same_name}
-use Rattle.p3_tree.specs.declared.expression.Expression.{Expression, Group'}
-use Rattle.p3_tree.specs.declared.expression.Expression.TheVariants as expression
-use Rattle.p3_tree.specs.declared.formula.Formula.{Formula}
-use Rattle.p3_tree.specs.declared.goal.PreGoal.{PreGoal}
-use Rattle.p3_tree.specs.declared.goal.PreGoal.TheVariants as goal
-use Rattle.p3_tree.specs.declared.term.Ref.{Ref}
+use Rattle.p3_task.specs.Grammar.Words.{◌>>=◌, Place, pair, parts_place, name_place, expressions, headed, choose}
+use Rattle.p3_task.specs.Grammar.Lists.{variables_place}
+use Rattle.p3_task.specs.Grammar.Formulas.{formula_place}
+use Rattle.p3_task.specs.Grammar.Goals.{goal_place, goal_in, goal_forms, plain_form, preferred, both_form, each_form, preference_form}
+use Rattle.p3_task.specs.Names.{same_name}
+use Rattle.p3_task.specs.declared.expression.Expression.{Expression, Group'}
+use Rattle.p3_task.specs.declared.expression.Expression.TheVariants as expression
+use Rattle.p3_task.specs.declared.formula.Formula.{Formula}
+use Rattle.p3_task.specs.declared.goal.PreGoal.{PreGoal}
+use Rattle.p3_task.specs.declared.goal.PreGoal.TheVariants as goal
+use Rattle.p3_task.specs.declared.term.Ref.{Ref}
 use Rattle.p3_syntax.specs.Trees.{listed, formula_of, goal_of}
 use Rattle.p3_syntax.proofs.FormulaLemmas.{formula_of_list}
 use Rattle.p3_syntax.proofs.TreeLemmas.{raws_listed, row_listed, headed_listed}

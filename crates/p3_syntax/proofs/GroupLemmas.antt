@@ -3,10 +3,10 @@ use Rattle.std.proofs.Common.{◌≡◌, ◌∙◌, refl, sym, ap, subst, ℕ, z
 use Rattle.std.specs.Prelude.{IsSome, MatchOption}
 use Rattle.std.proofs.lemmas.List.{append-nil}
 use Rattle.std.proofs.lemmas.List.Folds.{fold_stays}
-use Rattle.p3_tree.specs.Names.{is_empty}
-use Rattle.p3_tree.specs.Grammar.Words.{◌>>=◌, Place, all_trees, each_at}
-use Rattle.p3_tree.specs.Grammar.Lists.{Scan, scanned, all_scanned, with_type, with_item, grouped, is_dash}
-use Rattle.p3_tree.specs.declared.expression.Expression.{Expression}
+use Rattle.p3_task.specs.Names.{is_empty}
+use Rattle.p3_task.specs.Grammar.Words.{◌>>=◌, Place, all_trees, each_at}
+use Rattle.p3_task.specs.Grammar.Lists.{Scan, scanned, all_scanned, with_type, with_item, grouped, is_dash}
+use Rattle.p3_task.specs.declared.expression.Expression.{Expression}
 use Rattle.p3_syntax.specs.Groups.{Item, all_grouped, with_later, item_before, each_item, kind_at, item_at}
 
 abbrev pub front : {A : Type 0} → List A → Option (List A) → Option (List A)

@@ -1,21 +1,21 @@
 -- Lists whose first word is of a class: where they have a tree, the word need not be looked at.
 use Rattle.std.proofs.Common.{◌≡◌, ◌∙◌, refl, sym, ap, subst, Bool, true, false, if◌then◌else◌, List, [], ◌∷◌, Option, Some, None}
 use Rattle.std.specs.Prelude.{IsSome}
-use Rattle.p3_tree.specs.Names.{Name, same_name, total_cost}
-use Rattle.p3_tree.specs.Grammar.Words.{◌>>=◌, each_at, expressions, headed, is_function_name, is_predicate_name, raws, word_if, word_place}
-use Rattle.p3_tree.specs.Grammar.Lists.{term_place, variables_in}
-use Rattle.p3_tree.specs.Grammar.Formulas.{AtomText, atom_in}
-use Rattle.p3_tree.specs.Grammar.Effects.{function_value_in}
-use Rattle.p3_tree.specs.Grammar.Halves.{header_in, header_place, initial_in}
-use Rattle.p3_tree.specs.declared.effect.Amount.TheVariants as amount
-use Rattle.p3_tree.specs.declared.effect.Amount.{Amount}
-use Rattle.p3_tree.specs.declared.expression.Expression.{Expression, Group'}
-use Rattle.p3_tree.specs.declared.expression.Expression.TheVariants as expression
-use Rattle.p3_tree.specs.declared.task.Header.{Header}
-use Rattle.p3_tree.specs.declared.task.Init.{Init}
-use Rattle.p3_tree.specs.declared.term.Ref.{Ref}
-use Rattle.p3_tree.specs.declared.term.Term.{Term}
-use Rattle.p3_tree.specs.declared.term.Typed.{Typed}
+use Rattle.p3_task.specs.Names.{Name, same_name, total_cost}
+use Rattle.p3_task.specs.Grammar.Words.{◌>>=◌, each_at, expressions, headed, is_function_name, is_predicate_name, raws, word_if, word_place}
+use Rattle.p3_task.specs.Grammar.Lists.{term_place, variables_in}
+use Rattle.p3_task.specs.Grammar.Formulas.{AtomText, atom_in}
+use Rattle.p3_task.specs.Grammar.Effects.{function_value_in}
+use Rattle.p3_task.specs.Grammar.Halves.{header_in, header_place, initial_in}
+use Rattle.p3_task.specs.declared.effect.Amount.TheVariants as amount
+use Rattle.p3_task.specs.declared.effect.Amount.{Amount}
+use Rattle.p3_task.specs.declared.expression.Expression.{Expression, Group'}
+use Rattle.p3_task.specs.declared.expression.Expression.TheVariants as expression
+use Rattle.p3_task.specs.declared.task.Header.{Header}
+use Rattle.p3_task.specs.declared.task.Init.{Init}
+use Rattle.p3_task.specs.declared.term.Ref.{Ref}
+use Rattle.p3_task.specs.declared.term.Term.{Term}
+use Rattle.p3_task.specs.declared.term.Typed.{Typed}
 use Rattle.p3_syntax.specs.Trees.{listed, with_head}
 use Rattle.p3_syntax.proofs.TreeLemmas.{raws_listed}
 

@@ -1,8 +1,8 @@
 -- Places that go down a tree, one layer of it.
 use Rattle.std.proofs.Common.{◌≡◌, ◌∙◌, refl, sym, ap, ℕ, List, [], ◌∷◌, Some}
-use Rattle.p3_tree.specs.Grammar.Words.{◌>>=◌, pair, ListPart, descend}
-use Rattle.p3_tree.specs.declared.expression.Expression.{Expression, Group'}
-use Rattle.p3_tree.specs.declared.expression.Expression.TheVariants as expression
+use Rattle.p3_task.specs.Grammar.Words.{◌>>=◌, pair, ListPart, descend}
+use Rattle.p3_task.specs.declared.expression.Expression.{Expression, Group'}
+use Rattle.p3_task.specs.declared.expression.Expression.TheVariants as expression
 use Rattle.p3_outline.specs.Nodes.{IsWordOf, IsList, elements}
 use Rattle.p3_syntax.specs.Trees.{listed}
 use Rattle.p3_syntax.proofs.TreeLemmas.{row_listed}

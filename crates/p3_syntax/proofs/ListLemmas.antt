@@ -1,8 +1,8 @@
 -- Lists of variables and of objects, item by item.
 use Rattle.std.proofs.Common.{◌≡◌, List}
-use Rattle.p3_tree.specs.Grammar.Words.{name_place, variable_place}
-use Rattle.p3_tree.specs.Grammar.Lists.{one_type_place, type_place, typed_item, objects_in, variables_in}
-use Rattle.p3_tree.specs.declared.expression.Expression.{Expression}
+use Rattle.p3_task.specs.Grammar.Words.{name_place, variable_place}
+use Rattle.p3_task.specs.Grammar.Lists.{one_type_place, type_place, typed_item, objects_in, variables_in}
+use Rattle.p3_task.specs.declared.expression.Expression.{Expression}
 use Rattle.p3_syntax.specs.Groups.{all_grouped, each_item, typed_at}
 use Rattle.p3_syntax.proofs.GroupLemmas.{grouped_each}
 

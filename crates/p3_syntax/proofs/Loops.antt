@@ -1,7 +1,7 @@
 -- Loops over the parts of a list.
 use Rattle.std.proofs.Common.{◌≡◌, ℕ, ◌+◌, ◌<◌, Bool, if◌then◌else◌, List, [], ◌∷◌, ◌++◌, length, get_or, drop, map, filter, Option, Some, None, refl, ap, ◌∙◌, append_assoc}
 use Rattle.std.proofs.lemmas.List.{at_drop_more}
-use Rattle.p3_tree.specs.Grammar.Words.{◌>>=◌}
+use Rattle.p3_task.specs.Grammar.Words.{◌>>=◌}
 
 -- what was read before, and what is read after it
 abbrev pub behind : {A : Type 0} → List A → Option (List A) → Option (List A)

@@ -9,12 +9,12 @@ use Rattle.std.proofs.lemmas.Bool.{and_parts}
 use Rattle.std.proofs.lemmas.Bool.Decides.{nat_tests}
 use Rattle.std.proofs.lemmas.List.{at_drop_more, length-map}
 use Rattle.p3_base.specs.Words.{is_digit}
-use Rattle.p3_tree.specs.Names.{Name}
-use Rattle.p3_tree.specs.Decimals.{at_point, are_digits, is_decimal, digits_of, digits_value, places_of}
-use Rattle.p3_tree.specs.Grammar.Words.{◌>>=◌, numeral_place}
-use Rattle.p3_tree.specs.declared.expression.Expression.TheVariants as expression
-use Rattle.p3_tree.specs.declared.effect.Numeral.{Numeral}
-use Rattle.p3_tree.specs.declared.term.Ref.{Ref}
+use Rattle.p3_task.specs.Names.{Name}
+use Rattle.p3_task.specs.Decimals.{at_point, are_digits, is_decimal, digits_of, digits_value, places_of}
+use Rattle.p3_task.specs.Grammar.Words.{◌>>=◌, numeral_place}
+use Rattle.p3_task.specs.declared.expression.Expression.TheVariants as expression
+use Rattle.p3_task.specs.declared.effect.Numeral.{Numeral}
+use Rattle.p3_task.specs.declared.term.Ref.{Ref}
 use Rattle.p3_syntax.specs.declared.tree.numerals.Decimal.{Decimal}
 use Rattle.p3_syntax.specs.Trees.{HasRoom, HasRoomFor, IsDecimalOf, numeral_with, with_digit}
 

@@ -1,18 +1,18 @@
 -- A problem by its contents.
 use Rattle.std.proofs.Common.{◌≡◌, ◌∙◌, refl, ap, subst, List, codes, Option, Some, None}
 use Rattle.std.specs.Prelude.{IsSome}
-use Rattle.p3_tree.specs.Grammar.Words.{◌>>=◌}
-use Rattle.p3_tree.specs.Grammar.Halves.{Section, half_at, problem_keywords, problem_place}
-use Rattle.p3_tree.specs.Grammar.Halves as halves
-use Rattle.p3_tree.specs.declared.expression.Expression.{Expression}
-use Rattle.p3_tree.specs.declared.term.Ref.{Ref}
-use Rattle.p3_tree.specs.declared.term.Typed.{Typed}
-use Rattle.p3_tree.specs.declared.constraint.Constraint.{Constraint}
-use Rattle.p3_tree.specs.declared.goal.PreGoal.{PreGoal}
-use Rattle.p3_tree.specs.declared.metric.Metric.{Metric}
-use Rattle.p3_tree.specs.declared.task.Part.{Part}
-use Rattle.p3_tree.specs.declared.task.Init.{Init}
-use Rattle.p3_tree.specs.declared.task.Problem.{Problem}
+use Rattle.p3_task.specs.Grammar.Words.{◌>>=◌}
+use Rattle.p3_task.specs.Grammar.Halves.{Section, half_at, problem_keywords, problem_place}
+use Rattle.p3_task.specs.Grammar.Halves as halves
+use Rattle.p3_task.specs.declared.expression.Expression.{Expression}
+use Rattle.p3_task.specs.declared.term.Ref.{Ref}
+use Rattle.p3_task.specs.declared.term.Typed.{Typed}
+use Rattle.p3_task.specs.declared.constraint.Constraint.{Constraint}
+use Rattle.p3_task.specs.declared.goal.PreGoal.{PreGoal}
+use Rattle.p3_task.specs.declared.metric.Metric.{Metric}
+use Rattle.p3_task.specs.declared.task.Part.{Part}
+use Rattle.p3_task.specs.declared.task.Init.{Init}
+use Rattle.p3_task.specs.declared.task.Problem.{Problem}
 use Rattle.p3_syntax.specs.declared.tree.problems.Start.{Start}
 use Rattle.p3_syntax.specs.declared.tree.problems.Conditions.{Conditions}
 use Rattle.p3_syntax.specs.declared.tree.problems.Aims.{Aims}

@@ -2,13 +2,13 @@
 use Rattle.std.proofs.Common.{◌≡◌, refl, Bool, true, false, if◌then◌else◌, List, [], ◌∷◌, Option, Some, None, arith}
 use Rattle.std.specs.List.{list_all}
 use Rattle.std.specs.Prelude.{IsSome}
-use Rattle.p3_tree.specs.Names.{Name, has_name}
-use Rattle.p3_tree.specs.Grammar.Words.{◌>>=◌, expressions, only}
-use Rattle.p3_tree.specs.Grammar.Halves.{Section, at_most_one, half_at, sections_among}
-use Rattle.p3_tree.specs.Grammar.Halves as halves
-use Rattle.p3_tree.specs.declared.term.Ref.{Ref}
-use Rattle.p3_tree.specs.declared.expression.Expression.{Expression, Group'}
-use Rattle.p3_tree.specs.declared.expression.Expression.TheVariants as expression
+use Rattle.p3_task.specs.Names.{Name, has_name}
+use Rattle.p3_task.specs.Grammar.Words.{◌>>=◌, expressions, only}
+use Rattle.p3_task.specs.Grammar.Halves.{Section, at_most_one, half_at, sections_among}
+use Rattle.p3_task.specs.Grammar.Halves as halves
+use Rattle.p3_task.specs.declared.term.Ref.{Ref}
+use Rattle.p3_task.specs.declared.expression.Expression.{Expression, Group'}
+use Rattle.p3_task.specs.declared.expression.Expression.TheVariants as expression
 use Rattle.p3_syntax.specs.Sections.{half_in, half_place}
 
 abbrev needed : Option Section → Option Section

@@ -1,19 +1,19 @@
 -- Parts of actions as they are read.
 use Rattle.std.specs.Prelude.{ℕ, List, [], ◌∷◌, map, codes, Option, Some}
-use Rattle.p3_tree.specs.Grammar.Words.{◌>>=◌}
-use Rattle.p3_tree.specs.Grammar.Lists.{variables_place}
-use Rattle.p3_tree.specs.Grammar.Goals.{goal_or_empty_place}
-use Rattle.p3_tree.specs.Grammar.Effects.{effect_or_empty_place}
-use Rattle.p3_tree.specs.Grammar.Halves.{Section, sections_among, optional, body_at, part_at, action_keywords, keyword_parts}
-use Rattle.p3_tree.specs.declared.expression.Expression.{Expression}
-use Rattle.p3_tree.specs.declared.term.Ref.{Ref}
-use Rattle.p3_tree.specs.declared.term.Typed.{Typed}
-use Rattle.p3_tree.specs.declared.task.Action.{Action}
-use Rattle.p3_tree.specs.declared.task.Part.{Part}
-use Rattle.p3_tree.specs.declared.goal.PreGoal.{PreGoal}
-use Rattle.p3_tree.specs.declared.goal.PreGoal.TheVariants as goal
-use Rattle.p3_tree.specs.declared.effect.Effect.{Effect}
-use Rattle.p3_tree.specs.declared.effect.Effect.TheVariants as effect
+use Rattle.p3_task.specs.Grammar.Words.{◌>>=◌}
+use Rattle.p3_task.specs.Grammar.Lists.{variables_place}
+use Rattle.p3_task.specs.Grammar.Goals.{goal_or_empty_place}
+use Rattle.p3_task.specs.Grammar.Effects.{effect_or_empty_place}
+use Rattle.p3_task.specs.Grammar.Halves.{Section, sections_among, optional, body_at, part_at, action_keywords, keyword_parts}
+use Rattle.p3_task.specs.declared.expression.Expression.{Expression}
+use Rattle.p3_task.specs.declared.term.Ref.{Ref}
+use Rattle.p3_task.specs.declared.term.Typed.{Typed}
+use Rattle.p3_task.specs.declared.task.Action.{Action}
+use Rattle.p3_task.specs.declared.task.Part.{Part}
+use Rattle.p3_task.specs.declared.goal.PreGoal.{PreGoal}
+use Rattle.p3_task.specs.declared.goal.PreGoal.TheVariants as goal
+use Rattle.p3_task.specs.declared.effect.Effect.{Effect}
+use Rattle.p3_task.specs.declared.effect.Effect.TheVariants as effect
 use Rattle.p3_outline.specs.declared.view.Parts.{Parts}
 use Rattle.p3_syntax.specs.declared.tree.actions.ActionBody.{ActionBody}
 use Rattle.p3_syntax.specs.declared.tree.actions.ActionPart.{ActionPart}

@@ -1,15 +1,15 @@
 -- What the sections of a domain give.
 use Rattle.std.specs.Prelude.{List, [], map, codes, Option, Some}
-use Rattle.p3_tree.specs.Grammar.Words.{◌>>=◌, each_at, function_place, predicate_place, name_place, is_word}
-use Rattle.p3_tree.specs.Grammar.Lists.{grouped, objects_in}
-use Rattle.p3_tree.specs.Grammar.Halves.{Section, optional, sections_named, all_actions, header_place, kind_item, kinds_in, predicates_in, functions_in}
-use Rattle.p3_tree.specs.declared.expression.Expression.{Expression}
-use Rattle.p3_tree.specs.declared.term.Ref.{Ref}
-use Rattle.p3_tree.specs.declared.term.Typed.{Typed}
-use Rattle.p3_tree.specs.declared.task.Kind.{Kind}
-use Rattle.p3_tree.specs.declared.task.Header.{Header}
-use Rattle.p3_tree.specs.declared.task.Action.{Action}
-use Rattle.p3_tree.specs.declared.task.Domain.{Domain}
+use Rattle.p3_task.specs.Grammar.Words.{◌>>=◌, each_at, function_place, predicate_place, name_place, is_word}
+use Rattle.p3_task.specs.Grammar.Lists.{grouped, objects_in}
+use Rattle.p3_task.specs.Grammar.Halves.{Section, optional, sections_named, all_actions, header_place, kind_item, kinds_in, predicates_in, functions_in}
+use Rattle.p3_task.specs.declared.expression.Expression.{Expression}
+use Rattle.p3_task.specs.declared.term.Ref.{Ref}
+use Rattle.p3_task.specs.declared.term.Typed.{Typed}
+use Rattle.p3_task.specs.declared.task.Kind.{Kind}
+use Rattle.p3_task.specs.declared.task.Header.{Header}
+use Rattle.p3_task.specs.declared.task.Action.{Action}
+use Rattle.p3_task.specs.declared.task.Domain.{Domain}
 use Rattle.p3_syntax.specs.declared.tree.domains.Declarations.{Declarations}
 use Rattle.p3_syntax.specs.declared.tree.domains.DomainContents.{DomainContents}
 use Rattle.p3_syntax.specs.Sections.{requirements_among, constraints_among}

@@ -1,11 +1,11 @@
 -- Effects where an increase may stand, or may not.
 use Rattle.std.specs.Prelude.{Bool, false, List, map, Option, None}
-use Rattle.p3_tree.specs.declared.term.Ref.{Ref}
-use Rattle.p3_tree.specs.Grammar.Words.{ListPart, descend, all_trees, choose}
-use Rattle.p3_tree.specs.Grammar.Formulas.{AtomText}
-use Rattle.p3_tree.specs.Grammar.Effects.{EffectAt, effect_in, effect_forms, add_form}
-use Rattle.p3_tree.specs.declared.expression.Expression.{Expression}
-use Rattle.p3_tree.specs.declared.effect.Effect.{Effect}
+use Rattle.p3_task.specs.declared.term.Ref.{Ref}
+use Rattle.p3_task.specs.Grammar.Words.{ListPart, descend, all_trees, choose}
+use Rattle.p3_task.specs.Grammar.Formulas.{AtomText}
+use Rattle.p3_task.specs.Grammar.Effects.{EffectAt, effect_in, effect_forms, add_form}
+use Rattle.p3_task.specs.declared.expression.Expression.{Expression}
+use Rattle.p3_task.specs.declared.effect.Effect.{Effect}
 use Rattle.p3_outline.specs.declared.view.Parts.{Parts}
 use Rattle.p3_outline.specs.Nodes.{expressions_of}
 use Rattle.p3_syntax.specs.declared.tree.words.TextWord.{TextWord}

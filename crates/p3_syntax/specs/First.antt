@@ -2,8 +2,8 @@
 use Rattle.std.specs.Prelude.{ℕ, List, length, Option, Some, None}
 use Rattle.p3_base.specs.declared.refusal.Refusal.{Refusal}
 use Rattle.p3_base.specs.declared.refusal.Role.{Role}
-use Rattle.p3_tree.specs.Refusals.First.{Text, HalfText, IsReadable, IsRefusedText}
-use Rattle.p3_tree.specs.declared.expression.Expression.{Expression}
+use Rattle.p3_task.specs.Refusals.First.{Text, HalfText, IsReadable, IsRefusedText}
+use Rattle.p3_task.specs.declared.expression.Expression.{Expression}
 use Rattle.p3_places.specs.Searches.{side_of, half_of, HasTree}
 use Rattle.p3_outline.specs.First.{IsWithin}
 use Rattle.p3_outline.specs.Texts.{IfRefused}

@@ -1,10 +1,10 @@
 -- Items with types, before a place makes anything of them.
 use Rattle.std.specs.Prelude.{◌≡◌, ℕ, ◌+◌, List, [], ◌∷◌, ◌++◌, map, take, length, Option, Some, None}
-use Rattle.p3_tree.specs.Grammar.Words.{◌>>=◌, Place, all_trees}
-use Rattle.p3_tree.specs.Grammar.Lists.{grouped, typed_item}
-use Rattle.p3_tree.specs.declared.expression.Expression.{Expression}
-use Rattle.p3_tree.specs.declared.term.Ref.{Ref}
-use Rattle.p3_tree.specs.declared.term.Typed.{Typed}
+use Rattle.p3_task.specs.Grammar.Words.{◌>>=◌, Place, all_trees}
+use Rattle.p3_task.specs.Grammar.Lists.{grouped, typed_item}
+use Rattle.p3_task.specs.declared.expression.Expression.{Expression}
+use Rattle.p3_task.specs.declared.term.Ref.{Ref}
+use Rattle.p3_task.specs.declared.term.Typed.{Typed}
 use Rattle.p3_outline.specs.declared.view.View.{View}
 use Rattle.p3_syntax.specs.declared.tree.groups.Groups.{Groups}
 use Rattle.p3_syntax.specs.declared.tree.groups.TypedItem.{TypedItem}

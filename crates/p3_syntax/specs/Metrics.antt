@@ -1,11 +1,11 @@
 -- Metrics as they are read.
 use Rattle.std.specs.Prelude.{List, Option, None}
-use Rattle.p3_tree.specs.Grammar.Words.{choose}
-use Rattle.p3_tree.specs.Grammar.Metrics.{num_forms, num_place, trees_of, violated_form}
-use Rattle.p3_tree.specs.Grammar.Metrics as metrics
-use Rattle.p3_tree.specs.declared.expression.Expression.{Expression}
-use Rattle.p3_tree.specs.declared.term.Ref.{Ref}
-use Rattle.p3_tree.specs.declared.metric.Num.{Num}
+use Rattle.p3_task.specs.Grammar.Words.{choose}
+use Rattle.p3_task.specs.Grammar.Metrics.{num_forms, num_place, trees_of, violated_form}
+use Rattle.p3_task.specs.Grammar.Metrics as metrics
+use Rattle.p3_task.specs.declared.expression.Expression.{Expression}
+use Rattle.p3_task.specs.declared.term.Ref.{Ref}
+use Rattle.p3_task.specs.declared.metric.Num.{Num}
 use Rattle.p3_outline.specs.declared.view.Parts.{Parts}
 use Rattle.p3_syntax.specs.declared.tree.words.TextWord.{TextWord}
 use Rattle.p3_outline.specs.Nodes.{expressions_of}

@@ -1,20 +1,20 @@
 -- What the sections of a problem give.
 use Rattle.std.specs.Prelude.{List, [], codes, Option, Some, None}
-use Rattle.p3_tree.specs.Grammar.Words.{◌>>=◌, each_at, name_place, predicate_place, function_place}
-use Rattle.p3_tree.specs.Grammar.Lists.{object_place, objects_in}
-use Rattle.p3_tree.specs.Grammar.Goals.{goal_or_empty_place}
-use Rattle.p3_tree.specs.Grammar.Metrics.{metric_in}
-use Rattle.p3_tree.specs.Grammar.Halves.{Section, optional, once, body_at, part_at, initial_in, init_place}
-use Rattle.p3_tree.specs.declared.expression.Expression.{Expression}
-use Rattle.p3_tree.specs.declared.term.Ref.{Ref}
-use Rattle.p3_tree.specs.declared.term.Typed.{Typed}
-use Rattle.p3_tree.specs.declared.goal.PreGoal.{PreGoal}
-use Rattle.p3_tree.specs.declared.metric.Metric.{Metric}
-use Rattle.p3_tree.specs.declared.task.Part.{Part}
-use Rattle.p3_tree.specs.declared.task.Init.{Init}
-use Rattle.p3_tree.specs.declared.task.Init.TheVariants as init
-use Rattle.p3_tree.specs.declared.effect.Numeral.{Numeral}
-use Rattle.p3_tree.specs.declared.task.Problem.{Problem}
+use Rattle.p3_task.specs.Grammar.Words.{◌>>=◌, each_at, name_place, predicate_place, function_place}
+use Rattle.p3_task.specs.Grammar.Lists.{object_place, objects_in}
+use Rattle.p3_task.specs.Grammar.Goals.{goal_or_empty_place}
+use Rattle.p3_task.specs.Grammar.Metrics.{metric_in}
+use Rattle.p3_task.specs.Grammar.Halves.{Section, optional, once, body_at, part_at, initial_in, init_place}
+use Rattle.p3_task.specs.declared.expression.Expression.{Expression}
+use Rattle.p3_task.specs.declared.term.Ref.{Ref}
+use Rattle.p3_task.specs.declared.term.Typed.{Typed}
+use Rattle.p3_task.specs.declared.goal.PreGoal.{PreGoal}
+use Rattle.p3_task.specs.declared.metric.Metric.{Metric}
+use Rattle.p3_task.specs.declared.task.Part.{Part}
+use Rattle.p3_task.specs.declared.task.Init.{Init}
+use Rattle.p3_task.specs.declared.task.Init.TheVariants as init
+use Rattle.p3_task.specs.declared.effect.Numeral.{Numeral}
+use Rattle.p3_task.specs.declared.task.Problem.{Problem}
 use Rattle.p3_syntax.specs.declared.tree.problems.Start.{Start}
 use Rattle.p3_syntax.specs.declared.tree.problems.Conditions.{Conditions}
 use Rattle.p3_syntax.specs.declared.tree.problems.Aims.{Aims}

@@ -1,15 +1,15 @@
 -- Sections as they are read, and whose they are.
 use Rattle.std.specs.Prelude.{List, [], ◌∷◌, map, codes, Option, Some, None}
 use Rattle.std.specs.Option.{option_map}
-use Rattle.p3_tree.specs.Names.{Name}
-use Rattle.p3_tree.specs.Grammar.Words.{◌>>=◌, Place, each_at, only, pair, word_place, parts_place}
-use Rattle.p3_tree.specs.Grammar.Halves.{Section, section_of, section_place, sections_named, at_most_one, optional, part_at, requirements, no_constraints}
-use Rattle.p3_tree.specs.Grammar.Constraints.{constraint_or_empty_place}
-use Rattle.p3_tree.specs.Grammar.Halves as halves
-use Rattle.p3_tree.specs.declared.expression.Expression.{Expression}
-use Rattle.p3_tree.specs.declared.term.Ref.{Ref}
-use Rattle.p3_tree.specs.declared.task.Part.{Part}
-use Rattle.p3_tree.specs.declared.constraint.Constraint.{Constraint}
+use Rattle.p3_task.specs.Names.{Name}
+use Rattle.p3_task.specs.Grammar.Words.{◌>>=◌, Place, each_at, only, pair, word_place, parts_place}
+use Rattle.p3_task.specs.Grammar.Halves.{Section, section_of, section_place, sections_named, at_most_one, optional, part_at, requirements, no_constraints}
+use Rattle.p3_task.specs.Grammar.Constraints.{constraint_or_empty_place}
+use Rattle.p3_task.specs.Grammar.Halves as halves
+use Rattle.p3_task.specs.declared.expression.Expression.{Expression}
+use Rattle.p3_task.specs.declared.term.Ref.{Ref}
+use Rattle.p3_task.specs.declared.task.Part.{Part}
+use Rattle.p3_task.specs.declared.constraint.Constraint.{Constraint}
 use Rattle.p3_syntax.specs.declared.tree.parts.HeadedParts.{HeadedParts}
 use Rattle.p3_syntax.specs.declared.tree.sections.NamedSections.{NamedSections}
 use Rattle.p3_outline.specs.declared.view.Parts.{Parts}

@@ -1,8 +1,8 @@
 -- What is said of the text of a half.
 use Rattle.std.specs.Prelude.{ℕ, List}
-use Rattle.p3_tree.specs.declared.expression.Expression.{Expression}
-use Rattle.p3_tree.specs.Grammar.Words.{Place, IsText}
-use Rattle.p3_tree.specs.Grammar.Texts.{IsBalanced}
+use Rattle.p3_task.specs.declared.expression.Expression.{Expression}
+use Rattle.p3_task.specs.Grammar.Words.{Place, IsText}
+use Rattle.p3_task.specs.Grammar.Texts.{IsBalanced}
 
 -- The text spells an expression that has this tree at the place. A text spells one expression at most,
 -- and a place gives an expression one tree at most.

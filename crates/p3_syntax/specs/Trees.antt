@@ -1,25 +1,25 @@
 -- What words and parts of views stand for.
 use Rattle.std.specs.Prelude.{◌≡◌, ℕ, ◌+◌, ◌-◌, ◌*◌, ◌^◌, ◌<◌, ◌++◌, Bool, true, false, ◌&&◌, if◌then◌else◌, List, [], ◌∷◌, length, map, codes, Option, Some, None}
 use Rattle.std.specs.Str.{str_to_ascii_lowercase}
-use Rattle.p3_tree.specs.Grammar.Words.{◌>>=◌, ListPart, Place, choose}
-use Rattle.p3_tree.specs.Grammar.Formulas.{formula_place, formula_forms, atom_form}
-use Rattle.p3_tree.specs.Grammar.Goals.{goal_place, goal_forms, each_form}
-use Rattle.p3_tree.specs.Grammar.Constraints.{modal_forms, inner_forms, inner_place, constraint_place, single_form}
-use Rattle.p3_tree.specs.Grammar.Constraints as constraint
-use Rattle.p3_tree.specs.declared.formula.Formula.{Formula}
-use Rattle.p3_tree.specs.Modal.{Modal}
-use Rattle.p3_tree.specs.declared.constraint.Constraint.{Constraint}
-use Rattle.p3_tree.specs.declared.goal.PreGoal.{PreGoal}
-use Rattle.p3_tree.specs.declared.goal.PreGoal.TheVariants.{Plain}
+use Rattle.p3_task.specs.Grammar.Words.{◌>>=◌, ListPart, Place, choose}
+use Rattle.p3_task.specs.Grammar.Formulas.{formula_place, formula_forms, atom_form}
+use Rattle.p3_task.specs.Grammar.Goals.{goal_place, goal_forms, each_form}
+use Rattle.p3_task.specs.Grammar.Constraints.{modal_forms, inner_forms, inner_place, constraint_place, single_form}
+use Rattle.p3_task.specs.Grammar.Constraints as constraint
+use Rattle.p3_task.specs.declared.formula.Formula.{Formula}
+use Rattle.p3_task.specs.Modal.{Modal}
+use Rattle.p3_task.specs.declared.constraint.Constraint.{Constraint}
+use Rattle.p3_task.specs.declared.goal.PreGoal.{PreGoal}
+use Rattle.p3_task.specs.declared.goal.PreGoal.TheVariants.{Plain}
 use Rattle.p3_syntax.specs.declared.tree.goals.NamedBody.{NamedBody}
-use Rattle.p3_tree.specs.declared.expression.Expression.{Expression, Word, Group'}
-use Rattle.p3_tree.specs.declared.term.Ref.{Ref}
-use Rattle.p3_tree.specs.declared.effect.Numeral.{Numeral}
+use Rattle.p3_task.specs.declared.expression.Expression.{Expression, Word, Group'}
+use Rattle.p3_task.specs.declared.term.Ref.{Ref}
+use Rattle.p3_task.specs.declared.effect.Numeral.{Numeral}
 use Rattle.p3_outline.specs.declared.view.View.{View}
 use Rattle.p3_outline.specs.declared.view.Parts.{Parts}
 use Rattle.p3_syntax.specs.declared.tree.numerals.Decimal.{Decimal}
-use Rattle.p3_tree.specs.Names.{Name, same_name}
-use Rattle.p3_tree.specs.Decimals.{is_decimal, digits_of, digits_value, places_of}
+use Rattle.p3_task.specs.Names.{Name, same_name}
+use Rattle.p3_task.specs.Decimals.{is_decimal, digits_of, digits_value, places_of}
 use Rattle.p3_syntax.specs.declared.tree.words.TextWord.{TextWord}
 use Rattle.p3_syntax.specs.declared.tree.parts.HeadedParts.{HeadedParts}
 use Rattle.p3_outline.specs.Nodes.{expression_of, expressions_of}

@@ -3,8 +3,8 @@
 ghost use Rattle.std.specs.Prelude.{◌≡◌, ◌≢◌, ◌≤◌, length, IfOk, IfErr};
 ghost use Rattle.p3_base.specs.declared.refusal.Role.TheVariants.{Plan};
 ghost use Rattle.p3_base.specs.declared.refusal.Side.TheVariants.{Written};
-ghost use Rattle.p3_tree.specs.Refusals.First.{IsReadable};
-ghost use Rattle.p3_tree.specs.Sides.{byte_limit};
+ghost use Rattle.p3_task.specs.Refusals.First.{IsReadable};
+ghost use Rattle.p3_task.specs.Sides.{byte_limit};
 ghost use Rattle.p3_places.specs.Searches.{half_of, HasTree};
 ghost use Rattle.p3_outline.specs.Nodes.{root_of};
 ghost use Rattle.p3_outline.specs.Outlines.{IsOutline};

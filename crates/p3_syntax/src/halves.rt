@@ -1,9 +1,9 @@
 //! Reading a half of a task, of the whole grammar.
 
 ghost use Rattle.std.specs.Prelude.{◌≡◌, ◌≤◌, length, IfOk, IfErr};
-ghost use Rattle.p3_tree.specs.Grammar.Halves.{domain_place, problem_place};
-ghost use Rattle.p3_tree.specs.Refusals.First.{HalfText, IsReadable};
-ghost use Rattle.p3_tree.specs.Sides.{InDomain, InProblem, role_of, byte_limit};
+ghost use Rattle.p3_task.specs.Grammar.Halves.{domain_place, problem_place};
+ghost use Rattle.p3_task.specs.Refusals.First.{HalfText, IsReadable};
+ghost use Rattle.p3_task.specs.Sides.{InDomain, InProblem, role_of, byte_limit};
 ghost use Rattle.p3_outline.specs.Nodes.{expression_of};
 ghost use Rattle.p3_syntax.specs.First.{IsFirstOf, StandsIn};
 ghost use Rattle.p3_syntax.specs.Reading.{Gives};
@@ -14,7 +14,7 @@ use crate::tree::domains::domain;
 use crate::tree::problems::problem;
 use p3_base::{NoMemory, Role, Side};
 use p3_outline::ReadFail;
-use p3_tree::{Domain, Problem};
+use p3_task::{Domain, Problem};
 use std::alloc::Global;
 
 fn domain_role(side: Side) -> Role

@@ -2,7 +2,7 @@
 
 ghost use Rattle.std.specs.Prelude.{◌≤◌, length};
 ghost use Rattle.p3_base.specs.declared.refusal.Side.TheVariants.{Source};
-ghost use Rattle.p3_tree.specs.Sides.{byte_limit, plan_byte_limit};
+ghost use Rattle.p3_task.specs.Sides.{byte_limit, plan_byte_limit};
 
 use p3_base::{Code, NoMemory, Pos, Reason, Refusal, Role, Showing, Side, Subject};
 use p3_eval::{FaultKind, PlanFault, TextVerdict, Whole, judge_text};

@@ -1,23 +1,23 @@
 -- The worked cases of what is printed compute.
 use Rattle.std.proofs.Common.{refl}
-use Rattle.p3_tree.specs.FirstOffence.{first_offence}
-use Rattle.p3_tree.specs.PreferenceNames.{named_in_goal, named_in_constraint, ordered_names}
-use Rattle.p3_tree.specs.Refusals.Constructs.{constructs, constructs_of, constructs_all}
-use Rattle.p3_tree.specs.Refusals.Texts.{unbalanced_from, too_deep_from, text_refusal}
-use Rattle.p3_tree.specs.Refusals.Metric.{mentions, operations, nonlinear}
-use Rattle.p3_tree.specs.PlanTexts.{offence_from}
-use Rattle.p3_tree.specs.Refusals.First.{task_refusal}
+use Rattle.p3_task.specs.FirstOffence.{first_offence}
+use Rattle.p3_task.specs.PreferenceNames.{named_in_goal, named_in_constraint, ordered_names}
+use Rattle.p3_task.specs.Refusals.Constructs.{constructs, constructs_of, constructs_all}
+use Rattle.p3_task.specs.Refusals.Texts.{unbalanced_from, too_deep_from, text_refusal}
+use Rattle.p3_task.specs.Refusals.Metric.{mentions, operations, nonlinear}
+use Rattle.p3_task.specs.PlanTexts.{offence_from}
+use Rattle.p3_task.specs.Refusals.First.{task_refusal}
 use Rattle.p3_tree.specs.Reports.Explanations.{explained_lines}
 use Rattle.p3_tree.specs.Reports.Watching.{judged_lines, blocks, watch_lines}
-use Rattle.p3_tree.specs.Watching.{lines_from, line_offence, line_text, answer_to}
+use Rattle.p3_task.specs.Watching.{lines_from, line_offence, line_text, answer_to}
 use Rattle.p3_tree.specs.Worked.Followed.{ExplainedPlans, FollowedPlans, LinesOfTexts}
-use Rattle.p3_tree.specs.Worked.Preferences.{three_places}
-use Rattle.p3_tree.specs.Worked.Steps.{both_changes, once_only}
+use Rattle.p3_task.specs.Worked.Preferences.{three_places}
+use Rattle.p3_task.specs.Worked.Steps.{both_changes, once_only}
 use Rattle.p3_tree.specs.Worked.Touching.{ConditionsOfSteps}
-use Rattle.p3_tree.specs.Worked.Trajectories.{answered, switched}
+use Rattle.p3_task.specs.Worked.Trajectories.{answered, switched}
 use Rattle.p3_tree.specs.Worked.Refusals.{refused, RefusedTexts, RefusedNames, RefusedTasks, NotRefused}
 use Rattle.p3_tree.specs.Worked.Lines.{LinesOfTasks, LinesOfPlans, SamplesForOneAndThree, WordsOfCommands, LinesOfUsage}
-use Rattle.p3_tree.proofs.Computes.{meaning_computes, texts_compute}
+use Rattle.p3_task.proofs.Computes.{meaning_computes, texts_compute}
 
 -- refusals and printed lines
 unfoldable refusals_compute : Unit {0}

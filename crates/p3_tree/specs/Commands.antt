@@ -6,7 +6,7 @@ use Rattle.p3_base.specs.Words.{are_different}
 use Rattle.p3_base.specs.declared.refusal.Role.{Role}
 use Rattle.p3_base.specs.declared.refusal.Role.TheVariants as role
 use Rattle.p3_base.specs.declared.refusal.Side.TheVariants.{Source, Written}
-use Rattle.p3_tree.specs.Sides.{byte_limit, plan_byte_limit}
+use Rattle.p3_task.specs.Sides.{byte_limit, plan_byte_limit}
 use Rattle.p3_tree.specs.declared.command.CommandKind.{CommandKind}
 use Rattle.p3_tree.specs.declared.command.CommandKind.TheVariants.{Compile, Lift, Embed, Evaluate, Generate, CompileFlat, Explain, Watch}
 

@@ -1,14 +1,4 @@
-pub mod Build
-pub mod Decimals
-pub mod FirstExample
 pub mod Followed
-pub mod Limits
 pub mod Lines
-pub mod Offences
-pub mod Preferences
 pub mod Refusals
-pub mod Steps
-pub mod Texts
 pub mod Touching
-pub mod Trajectories
-pub mod Trucks

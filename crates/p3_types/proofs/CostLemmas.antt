@@ -5,7 +5,7 @@ use borrow.Author.Tests.{leb-true}
 use Rattle.std.specs.Prelude.{◌^◌, nat_lt, filter_map, flat_map, unwrap_or}
 use Rattle.p3_base.specs.declared.refusal.Side.{Side}
 use Rattle.p3_base.specs.declared.refusal.Side.TheVariants.{Source, Written}
-use Rattle.p3_tree.specs.Sides.{digit_limit, place_limit}
+use Rattle.p3_task.specs.Sides.{digit_limit, place_limit}
 use Rattle.p3_types.specs.Texts.{is_short, has_short_numbers, metric_numerals}
 use Rattle.std.specs.Bool.{one_answer}
 use Rattle.std.specs.List.{All, list_all, cons_option}
@@ -18,24 +18,24 @@ use Rattle.std.proofs.lemmas.List.Folds.{fold-map, list_all-append}
 use Rattle.std.proofs.lemmas.List.FromFn.{fill_by_all}
 use Rattle.std.proofs.lemmas.List.Sums.{fold-append}
 use Rattle.std.proofs.lemmas.Slice.Eq.{bytes_eq-Decides}
-use Rattle.p3_tree.proofs.MeaningLemmas.{increases-All}
-use Rattle.p3_tree.proofs.OnceLemmas.{AreOnce, each_once}
-use Rattle.p3_tree.specs.Costs.{increases, amount_numeral, value_numeral, amount_numerals, value_numerals, cost_places}
-use Rattle.p3_tree.specs.Limits.{value_of_entry}
-use Rattle.p3_tree.specs.Names.{Name, same_name, has_name}
-use Rattle.p3_tree.specs.declared.effect.Amount.{Amount}
-use Rattle.p3_tree.specs.declared.effect.Effect.{Effect}
-use Rattle.p3_tree.specs.declared.effect.Effect.TheBlock.{hidden-the_row-Effect-1}
-use Rattle.p3_tree.specs.declared.effect.Effect.TheVariants as effect
-use Rattle.p3_tree.specs.declared.effect.Numeral.{Numeral}
-use Rattle.p3_tree.specs.declared.formula.Formula.{Formula}
-use Rattle.p3_tree.specs.declared.task.Action.{Action}
-use Rattle.p3_tree.specs.declared.task.Init.{Init}
-use Rattle.p3_tree.specs.declared.task.Init.TheVariants.{True, False, Value}
-use Rattle.p3_tree.specs.declared.task.Task.{Task}
-use Rattle.p3_tree.specs.declared.term.Ref.{Ref}
-use Rattle.p3_tree.specs.declared.term.Term.{Term}
-use Rattle.p3_tree.specs.declared.term.Typed.{Typed}
+use Rattle.p3_task.proofs.MeaningLemmas.{increases-All}
+use Rattle.p3_task.proofs.OnceLemmas.{AreOnce, each_once}
+use Rattle.p3_task.specs.Costs.{increases, amount_numeral, value_numeral, amount_numerals, value_numerals, cost_places}
+use Rattle.p3_task.specs.Limits.{value_of_entry}
+use Rattle.p3_task.specs.Names.{Name, same_name, has_name}
+use Rattle.p3_task.specs.declared.effect.Amount.{Amount}
+use Rattle.p3_task.specs.declared.effect.Effect.{Effect}
+use Rattle.p3_task.specs.declared.effect.Effect.TheBlock.{hidden-the_row-Effect-1}
+use Rattle.p3_task.specs.declared.effect.Effect.TheVariants as effect
+use Rattle.p3_task.specs.declared.effect.Numeral.{Numeral}
+use Rattle.p3_task.specs.declared.formula.Formula.{Formula}
+use Rattle.p3_task.specs.declared.task.Action.{Action}
+use Rattle.p3_task.specs.declared.task.Init.{Init}
+use Rattle.p3_task.specs.declared.task.Init.TheVariants.{True, False, Value}
+use Rattle.p3_task.specs.declared.task.Task.{Task}
+use Rattle.p3_task.specs.declared.term.Ref.{Ref}
+use Rattle.p3_task.specs.declared.term.Term.{Term}
+use Rattle.p3_task.specs.declared.term.Typed.{Typed}
 use Rattle.p3_numbers.proofs.PlaceLemmas.{found_within, found_name}
 use Rattle.p3_numbers.specs.Places.{number_in}
 use Rattle.p3_numbers.specs.Slots.{name_at}

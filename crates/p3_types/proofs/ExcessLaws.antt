@@ -20,18 +20,18 @@ use Rattle.p3_numbers.specs.Places.{ranges_of, words_of, are_known_types, IsNumb
 use Rattle.p3_numbers.specs.Tasks.{IsNumberedTask, numbered_action}
 use Rattle.p3_numbers.specs.declared.numbers.Numbers.{Numbers}
 use Rattle.p3_numbers.specs.declared.task.NumberedTask.{NumberedTask}
-use Rattle.p3_tree.specs.Constraints.{Instance, domain_instances, problem_instances, instances_of, at_end}
-use Rattle.p3_tree.specs.FirstOffence.{least_word}
-use Rattle.p3_tree.specs.Goals.{StatePref, prefs}
-use Rattle.p3_tree.specs.Limits as named
-use Rattle.p3_tree.specs.Limits.{binding_count}
-use Rattle.p3_tree.specs.Offences.{WellFormed}
-use Rattle.p3_tree.specs.Refusals.Counts.{passes_at, too_many_steps, large_part, large_action_parts, large_domain_parts, large_problem_parts, too_large, preference_word, preference_words, too_many_preferences, size_refusals}
-use Rattle.p3_tree.specs.Refusals.Places.{refusal_at_word, word_at, first_some}
-use Rattle.p3_tree.specs.Sides.{Half, InDomain, InProblem, role_of, size_limit, step_count_limit, instance_limit}
-use Rattle.p3_tree.specs.declared.task.Action.{Action}
-use Rattle.p3_tree.specs.declared.task.Task.{Task}
-use Rattle.p3_tree.specs.declared.term.Ref.{Ref}
+use Rattle.p3_task.specs.Constraints.{Instance, domain_instances, problem_instances, instances_of, at_end}
+use Rattle.p3_task.specs.FirstOffence.{least_word}
+use Rattle.p3_task.specs.Goals.{StatePref, prefs}
+use Rattle.p3_task.specs.Limits as named
+use Rattle.p3_task.specs.Limits.{binding_count}
+use Rattle.p3_task.specs.Offences.{WellFormed}
+use Rattle.p3_task.specs.Refusals.Counts.{passes_at, too_many_steps, large_part, large_action_parts, large_domain_parts, large_problem_parts, too_large, preference_word, preference_words, too_many_preferences, size_refusals}
+use Rattle.p3_task.specs.Refusals.Places.{refusal_at_word, word_at, first_some}
+use Rattle.p3_task.specs.Sides.{Half, InDomain, InProblem, role_of, size_limit, step_count_limit, instance_limit}
+use Rattle.p3_task.specs.declared.task.Action.{Action}
+use Rattle.p3_task.specs.declared.task.Task.{Task}
+use Rattle.p3_task.specs.declared.term.Ref.{Ref}
 use Rattle.p3_types.specs.Cuts.{cut, cut_choices}
 use Rattle.p3_types.specs.Excess.{refused_step, large_at, with_least, noted, noted_action, noted_actions, noted_constraints, large_in_domain, large_in_problem, many_at, problem_offsets, refused_preference, numbered_refusals}
 use Rattle.p3_types.specs.Preferences.{goal_offsets, constraint_offsets}

@@ -9,18 +9,18 @@ use borrow.Author.Tests.{ltb-true, ltb-false}
 use Rattle.std.proofs.Math.Nat.{mul_comm, suc-mul}
 use Rattle.std.proofs.lemmas.List.{drop_more, take_more, take_all, append-nil, length-map, get_or-map}
 use Rattle.std.proofs.lemmas.Nat.{div-mul-add, mod-mul-add, mul-add-lt}
-use Rattle.p3_tree.proofs.OnceLemmas.{Some-injective, AreOnce, each_once, filter_found, map_at, in_map, nil_left, nil_right}
-use Rattle.p3_tree.specs.Bindings.{are_arguments}
-use Rattle.p3_tree.specs.Offences.{WellFormed, domain_duplicates, repeated, repeated_after, unless, action_words}
-use Rattle.p3_tree.specs.Plans.{action_named}
-use Rattle.p3_tree.specs.StepNumbers.{HasNumber}
-use Rattle.p3_tree.specs.declared.task.Action.{Action}
-use Rattle.p3_tree.specs.declared.task.Step.{Step}
-use Rattle.p3_tree.specs.Names.{Name, same_name, has_name}
-use Rattle.p3_tree.specs.Types.{objects, is_object_of}
-use Rattle.p3_tree.specs.declared.task.Task.{Task}
-use Rattle.p3_tree.specs.declared.term.Ref.{Ref}
-use Rattle.p3_tree.specs.declared.term.Typed.{Typed}
+use Rattle.p3_task.proofs.OnceLemmas.{Some-injective, AreOnce, each_once, filter_found, map_at, in_map, nil_left, nil_right}
+use Rattle.p3_task.specs.Bindings.{are_arguments}
+use Rattle.p3_task.specs.Offences.{WellFormed, domain_duplicates, repeated, repeated_after, unless, action_words}
+use Rattle.p3_task.specs.Plans.{action_named}
+use Rattle.p3_task.specs.StepNumbers.{HasNumber}
+use Rattle.p3_task.specs.declared.task.Action.{Action}
+use Rattle.p3_task.specs.declared.task.Step.{Step}
+use Rattle.p3_task.specs.Names.{Name, same_name, has_name}
+use Rattle.p3_task.specs.Types.{objects, is_object_of}
+use Rattle.p3_task.specs.declared.task.Task.{Task}
+use Rattle.p3_task.specs.declared.term.Ref.{Ref}
+use Rattle.p3_task.specs.declared.term.Typed.{Typed}
 use Rattle.p3_numbers.specs.Places.{IsNumbering, has_types, range_of, ranges_of, are_known_types}
 use Rattle.p3_numbers.specs.Slots.{name_at, object_names, range_at}
 use Rattle.p3_numbers.specs.Tasks.{HasNames}

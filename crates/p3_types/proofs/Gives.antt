@@ -6,9 +6,9 @@ use Rattle.std.specs.Option.{option_or}
 use Rattle.std.proofs.lemmas.List.Elements.{All-from_recursion, recursion_from_All, All-filter}
 use Rattle.std.proofs.lemmas.Bool.{cond_both}
 use Rattle.std.proofs.lemmas.Option.{same_Some}
-use Rattle.p3_tree.specs.Names.{Name, same_name}
-use Rattle.p3_tree.specs.Grammar.Words.{◌>>=◌, all_trees, only, pair, word_place, headed, choose}
-use Rattle.p3_tree.specs.declared.expression.Expression.{Expression}
+use Rattle.p3_task.specs.Names.{Name, same_name}
+use Rattle.p3_task.specs.Grammar.Words.{◌>>=◌, all_trees, only, pair, word_place, headed, choose}
+use Rattle.p3_task.specs.declared.expression.Expression.{Expression}
 
 -- a step that may give nothing, and what is true of all that it gives
 pub record Gives {A : Type 0} (P : A → Type 0) (found : Option A) : Type 0 where

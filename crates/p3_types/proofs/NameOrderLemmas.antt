@@ -20,10 +20,10 @@ use Rattle.std.proofs.lemmas.List.Sorted.{All-permutation, Contains-permutation,
 use Rattle.std.proofs.lemmas.Slice.Eq.{bytes_eq-Decides}
 use borrow.Author.Count.{below_more}
 use denote.Ref.{Bor}
-use Rattle.p3_tree.proofs.OnceLemmas.{AreOnce, each_once, Some-injective}
-use Rattle.p3_tree.specs.Names.{Name, same_name, has_name}
-use Rattle.p3_tree.specs.PreferenceNames.{ordered_names}
-use Rattle.p3_tree.specs.declared.task.Task.{Task}
+use Rattle.p3_task.proofs.OnceLemmas.{AreOnce, each_once, Some-injective}
+use Rattle.p3_task.specs.Names.{Name, same_name, has_name}
+use Rattle.p3_task.specs.PreferenceNames.{ordered_names}
+use Rattle.p3_task.specs.declared.task.Task.{Task}
 use Rattle.p3_numbers.specs.Slots.{name_at}
 use Rattle.p3_types.specs.NameOrders.{compare, IsNameOrder, ArePlaced, IsBetween}
 

@@ -2,15 +2,15 @@
 use Rattle.std.proofs.Common.{◌≡◌, ◌∙◌, ℕ, zero, suc, ◌+◌, ◌<◌, ◌≤◌, refl, sym, ap, subst, true, false, List, [], ◌∷◌, length, get_or, Some, arith}
 use Rattle.std.specs.Prelude.{slice_get}
 use Rattle.std.specs.List.{All}
-use Rattle.p3_tree.proofs.OnceLemmas.{Some-injective}
-use Rattle.p3_tree.specs.Bindings.{are_arguments}
-use Rattle.p3_tree.specs.Lifting.{steps}
-use Rattle.p3_tree.specs.Limits.{step_count}
-use Rattle.p3_tree.specs.Names.{Name}
-use Rattle.p3_tree.specs.Offences.{WellFormed}
-use Rattle.p3_tree.specs.declared.task.Action.{Action}
-use Rattle.p3_tree.specs.declared.task.Task.{Task}
-use Rattle.p3_tree.specs.Sides.{step_count_limit}
+use Rattle.p3_task.proofs.OnceLemmas.{Some-injective}
+use Rattle.p3_task.specs.Bindings.{are_arguments}
+use Rattle.p3_task.specs.Lifting.{steps}
+use Rattle.p3_task.specs.Limits.{step_count}
+use Rattle.p3_task.specs.Names.{Name}
+use Rattle.p3_task.specs.Offences.{WellFormed}
+use Rattle.p3_task.specs.declared.task.Action.{Action}
+use Rattle.p3_task.specs.declared.task.Task.{Task}
+use Rattle.p3_task.specs.Sides.{step_count_limit}
 use Rattle.p3_numbers.specs.Places.{ranges_of, are_known_types}
 use Rattle.p3_numbers.specs.Slots.{range_at}
 use Rattle.p3_numbers.specs.Tasks.{IsNumberedTask}

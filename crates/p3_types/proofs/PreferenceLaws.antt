@@ -7,20 +7,20 @@ use Rattle.std.proofs.lemmas.Bool.{and_parts}
 use Rattle.std.proofs.lemmas.List.{length-map, map-append}
 use Rattle.std.proofs.lemmas.List.Folds.{flat_map-map}
 use mathlib.Core.Former.{Count}
-use Rattle.p3_tree.specs.Bindings.{tuples, bind, extended}
-use Rattle.p3_tree.specs.Constraints.{Instance, instances_of, instances_of_all, instances_of_one}
-use Rattle.p3_tree.specs.Folds as tree
-use Rattle.p3_tree.specs.Goals.{StatePref, prefs, prefs_layer}
-use Rattle.p3_tree.specs.Limits.{binding_count}
-use Rattle.p3_tree.specs.Names.{Name}
-use Rattle.p3_tree.specs.States.{Environment}
-use Rattle.p3_tree.specs.Types.{objects}
-use Rattle.p3_tree.specs.declared.constraint.Constraint.{Constraint, Row_of-Constraint, end_of-Constraint, more_of-Constraint}
-use Rattle.p3_tree.specs.declared.constraint.Constraint.TheVariants as constraint
-use Rattle.p3_tree.specs.declared.goal.PreGoal.{PreGoal, Row_of-PreGoal, end_of-PreGoal, more_of-PreGoal}
-use Rattle.p3_tree.specs.declared.goal.PreGoal.TheVariants as goal
-use Rattle.p3_tree.specs.declared.task.Task.{Task}
-use Rattle.p3_tree.specs.declared.term.Typed.{Typed}
+use Rattle.p3_task.specs.Bindings.{tuples, bind, extended}
+use Rattle.p3_task.specs.Constraints.{Instance, instances_of, instances_of_all, instances_of_one}
+use Rattle.p3_task.specs.Folds as tree
+use Rattle.p3_task.specs.Goals.{StatePref, prefs, prefs_layer}
+use Rattle.p3_task.specs.Limits.{binding_count}
+use Rattle.p3_task.specs.Names.{Name}
+use Rattle.p3_task.specs.States.{Environment}
+use Rattle.p3_task.specs.Types.{objects}
+use Rattle.p3_task.specs.declared.constraint.Constraint.{Constraint, Row_of-Constraint, end_of-Constraint, more_of-Constraint}
+use Rattle.p3_task.specs.declared.constraint.Constraint.TheVariants as constraint
+use Rattle.p3_task.specs.declared.goal.PreGoal.{PreGoal, Row_of-PreGoal, end_of-PreGoal, more_of-PreGoal}
+use Rattle.p3_task.specs.declared.goal.PreGoal.TheVariants as goal
+use Rattle.p3_task.specs.declared.task.Task.{Task}
+use Rattle.p3_task.specs.declared.term.Typed.{Typed}
 use Rattle.p3_numbers.proofs.JoinLemmas.{joined}
 use Rattle.p3_numbers.specs.Conditions.{condition_of, is_known_formula}
 use Rattle.p3_numbers.specs.Constraints.{constraint_of, constraint_layer, is_known_constraint, known_constraint_layer}

@@ -4,23 +4,23 @@ use Rattle.std.proofs.Common.{sym, subst, ℕ, Bool, true, false, List, [], ◌�
 use Rattle.std.specs.Prelude.{IfSome}
 use Rattle.std.specs.List.{AllByRecursion}
 use Rattle.p3_base.specs.declared.refusal.Side.{Side}
-use Rattle.p3_tree.specs.Names.{same_name, total_cost, is_empty}
-use Rattle.p3_tree.specs.Costs.{increases, increases_layer, amount_numeral}
-use Rattle.p3_tree.specs.Grammar.Words.{ListPart, raws, each_at, only, pair, parts_place, is_word, name_place, function_place}
-use Rattle.p3_tree.specs.Grammar.Lists.{term_place, variables_place}
-use Rattle.p3_tree.specs.Grammar.Formulas.{atom_in, formula_place}
-use Rattle.p3_tree.specs.Grammar.Effects as effects
-use Rattle.p3_tree.specs.Grammar.Metrics as metrics
-use Rattle.p3_tree.specs.declared.expression.Expression.{Expression}
-use Rattle.p3_tree.specs.declared.term.Ref.{Ref}
-use Rattle.p3_tree.specs.declared.effect.Amount.{Amount}
-use Rattle.p3_tree.specs.declared.effect.Amount.TheVariants as amount
-use Rattle.p3_tree.specs.declared.effect.Effect.{Effect}
-use Rattle.p3_tree.specs.declared.effect.Effect.TheVariants as effect
-use Rattle.p3_tree.specs.declared.metric.Num.{Num}
-use Rattle.p3_tree.specs.declared.metric.Num.TheBlock.{hidden-the_row-Num-0}
-use Rattle.p3_tree.specs.declared.metric.Num.TheVariants as num
-use Rattle.p3_tree.proofs.FoldLemmas.{fold_effect-All, fold_num-Product}
+use Rattle.p3_task.specs.Names.{same_name, total_cost, is_empty}
+use Rattle.p3_task.specs.Costs.{increases, increases_layer, amount_numeral}
+use Rattle.p3_task.specs.Grammar.Words.{ListPart, raws, each_at, only, pair, parts_place, is_word, name_place, function_place}
+use Rattle.p3_task.specs.Grammar.Lists.{term_place, variables_place}
+use Rattle.p3_task.specs.Grammar.Formulas.{atom_in, formula_place}
+use Rattle.p3_task.specs.Grammar.Effects as effects
+use Rattle.p3_task.specs.Grammar.Metrics as metrics
+use Rattle.p3_task.specs.declared.expression.Expression.{Expression}
+use Rattle.p3_task.specs.declared.term.Ref.{Ref}
+use Rattle.p3_task.specs.declared.effect.Amount.{Amount}
+use Rattle.p3_task.specs.declared.effect.Amount.TheVariants as amount
+use Rattle.p3_task.specs.declared.effect.Effect.{Effect}
+use Rattle.p3_task.specs.declared.effect.Effect.TheVariants as effect
+use Rattle.p3_task.specs.declared.metric.Num.{Num}
+use Rattle.p3_task.specs.declared.metric.Num.TheBlock.{hidden-the_row-Num-0}
+use Rattle.p3_task.specs.declared.metric.Num.TheVariants as num
+use Rattle.p3_task.proofs.FoldLemmas.{fold_effect-All, fold_num-Product}
 use Rattle.p3_types.specs.Texts.{num_numerals, num_numerals_layer}
 use Rattle.p3_types.proofs.Gives.{Gives, nothing, just, using, passing, either, whether, choice, each_appended, each_mapped, each_joined, pair_gives, trees_give, headed_gives}
 use Rattle.p3_types.proofs.SpelledNumbers.{IsShort, HasShortWords, HaveShortWords, IsPart, numeral_short, descends, raws_short}

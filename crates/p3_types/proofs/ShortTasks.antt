@@ -5,27 +5,27 @@ use Rattle.std.specs.List.{AllByRecursion}
 use Rattle.std.proofs.lemmas.List.Elements.{All-from_recursion}
 use Rattle.std.proofs.lemmas.List.Sums.{list_all-from_AllPass}
 use Rattle.p3_base.specs.declared.refusal.Side.{Side}
-use Rattle.p3_tree.specs.Names.{Name}
-use Rattle.p3_tree.specs.Sides.{InDomain, InProblem}
-use Rattle.p3_tree.specs.Costs.{increases, amount_numeral, value_numeral, amount_numerals, value_numerals}
-use Rattle.p3_tree.specs.Grammar.Words.{◌>>=◌, Place, each_at, only, word_place, parts_place, name_place, function_place, predicate_place, is_word}
-use Rattle.p3_tree.specs.Grammar.Lists.{object_place, variables_place, objects_in}
-use Rattle.p3_tree.specs.Grammar.Effects.{effect_or_empty_place}
-use Rattle.p3_tree.specs.Grammar.Goals.{goal_or_empty_place}
-use Rattle.p3_tree.specs.Grammar.Constraints.{constraint_or_empty_place}
-use Rattle.p3_tree.specs.Grammar.Metrics.{metric_in}
-use Rattle.p3_tree.specs.Grammar.Halves.{Section, section_of, section_place, sections_named, at_most_one, or_absent, optional, once, sections_among, body_at, part_at, requirements, no_constraints, titled, half_in, half_at, action_keywords, keyword_parts, action_in, all_actions, kinds_in, predicates_in, functions_in, domain_keywords, domain_place, initial_in, true_entry, false_entry, not_form, value_form, init_forms, init_place, problem_keywords, problem_place}
-use Rattle.p3_tree.specs.Refusals.First.{HalfText, IsReadable}
-use Rattle.p3_tree.specs.declared.expression.Expression.{Expression}
-use Rattle.p3_tree.specs.declared.term.Ref.{Ref}
-use Rattle.p3_tree.specs.declared.effect.Effect.TheVariants as effect
-use Rattle.p3_tree.specs.declared.goal.PreGoal.TheVariants as goal
-use Rattle.p3_tree.specs.declared.metric.Metric.{Metric}
-use Rattle.p3_tree.specs.declared.task.Action.{Action}
-use Rattle.p3_tree.specs.declared.task.Init.{Init}
-use Rattle.p3_tree.specs.declared.task.Init.TheVariants as init
-use Rattle.p3_tree.specs.declared.task.Problem.{Problem}
-use Rattle.p3_tree.specs.declared.task.Task.{Task}
+use Rattle.p3_task.specs.Names.{Name}
+use Rattle.p3_task.specs.Sides.{InDomain, InProblem}
+use Rattle.p3_task.specs.Costs.{increases, amount_numeral, value_numeral, amount_numerals, value_numerals}
+use Rattle.p3_task.specs.Grammar.Words.{◌>>=◌, Place, each_at, only, word_place, parts_place, name_place, function_place, predicate_place, is_word}
+use Rattle.p3_task.specs.Grammar.Lists.{object_place, variables_place, objects_in}
+use Rattle.p3_task.specs.Grammar.Effects.{effect_or_empty_place}
+use Rattle.p3_task.specs.Grammar.Goals.{goal_or_empty_place}
+use Rattle.p3_task.specs.Grammar.Constraints.{constraint_or_empty_place}
+use Rattle.p3_task.specs.Grammar.Metrics.{metric_in}
+use Rattle.p3_task.specs.Grammar.Halves.{Section, section_of, section_place, sections_named, at_most_one, or_absent, optional, once, sections_among, body_at, part_at, requirements, no_constraints, titled, half_in, half_at, action_keywords, keyword_parts, action_in, all_actions, kinds_in, predicates_in, functions_in, domain_keywords, domain_place, initial_in, true_entry, false_entry, not_form, value_form, init_forms, init_place, problem_keywords, problem_place}
+use Rattle.p3_task.specs.Refusals.First.{HalfText, IsReadable}
+use Rattle.p3_task.specs.declared.expression.Expression.{Expression}
+use Rattle.p3_task.specs.declared.term.Ref.{Ref}
+use Rattle.p3_task.specs.declared.effect.Effect.TheVariants as effect
+use Rattle.p3_task.specs.declared.goal.PreGoal.TheVariants as goal
+use Rattle.p3_task.specs.declared.metric.Metric.{Metric}
+use Rattle.p3_task.specs.declared.task.Action.{Action}
+use Rattle.p3_task.specs.declared.task.Init.{Init}
+use Rattle.p3_task.specs.declared.task.Init.TheVariants as init
+use Rattle.p3_task.specs.declared.task.Problem.{Problem}
+use Rattle.p3_task.specs.declared.task.Task.{Task}
 use Rattle.p3_types.specs.Texts.{HasTexts, metric_numerals, numerals, is_short, has_short_numbers}
 use Rattle.p3_types.proofs.Gives.{Gives, nothing, just, using, passing, whether, choice, each_filtered, each_mapped, each_appended, each_joined, each_found, only_gives, pair_gives, trees_give, headed_gives}
 use Rattle.p3_types.proofs.SpelledNumbers.{IsShort, HasShortWords, HaveShortWords, words_short, parts_short, numeral_short}

@@ -5,23 +5,23 @@ use Rattle.std.specs.List.{list_all}
 use Rattle.std.proofs.lemmas.Bool.{and_parts}
 use Rattle.std.proofs.lemmas.List.{length-map}
 use mathlib.Core.Former.{Count}
-use Rattle.p3_tree.specs.Folds.{fold_formulas, fold_effects, fold_goals, fold_constraints}
-use Rattle.p3_tree.specs.Limits as named
-use Rattle.p3_tree.specs.Limits.{binding_count}
-use Rattle.p3_tree.specs.Types.{objects}
-use Rattle.p3_tree.specs.declared.constraint.Constraint.{Constraint, Row_of-Constraint, end_of-Constraint, more_of-Constraint}
-use Rattle.p3_tree.specs.declared.constraint.Constraint.TheVariants as constraint
-use Rattle.p3_tree.specs.Modal.{Modal}
+use Rattle.p3_task.specs.Folds.{fold_formulas, fold_effects, fold_goals, fold_constraints}
+use Rattle.p3_task.specs.Limits as named
+use Rattle.p3_task.specs.Limits.{binding_count}
+use Rattle.p3_task.specs.Types.{objects}
+use Rattle.p3_task.specs.declared.constraint.Constraint.{Constraint, Row_of-Constraint, end_of-Constraint, more_of-Constraint}
+use Rattle.p3_task.specs.declared.constraint.Constraint.TheVariants as constraint
+use Rattle.p3_task.specs.Modal.{Modal}
 use Rattle.p3_base.specs.declared.operator.Operator.TheVariants as modal
-use Rattle.p3_tree.specs.declared.effect.Effect.{Effect, Row_of-Effect, end_of-Effect, more_of-Effect}
-use Rattle.p3_tree.specs.declared.effect.Effect.TheVariants as effect
-use Rattle.p3_tree.specs.declared.formula.Formula.{Formula, Row_of-Formula, end_of-Formula, more_of-Formula}
-use Rattle.p3_tree.specs.declared.formula.Formula.TheVariants as formula
-use Rattle.p3_tree.specs.declared.goal.PreGoal.{PreGoal, Row_of-PreGoal, end_of-PreGoal, more_of-PreGoal}
-use Rattle.p3_tree.specs.declared.goal.PreGoal.TheVariants as goal
-use Rattle.p3_tree.specs.declared.task.Task.{Task}
-use Rattle.p3_tree.specs.declared.term.Ref.{Ref}
-use Rattle.p3_tree.specs.declared.term.Typed.{Typed}
+use Rattle.p3_task.specs.declared.effect.Effect.{Effect, Row_of-Effect, end_of-Effect, more_of-Effect}
+use Rattle.p3_task.specs.declared.effect.Effect.TheVariants as effect
+use Rattle.p3_task.specs.declared.formula.Formula.{Formula, Row_of-Formula, end_of-Formula, more_of-Formula}
+use Rattle.p3_task.specs.declared.formula.Formula.TheVariants as formula
+use Rattle.p3_task.specs.declared.goal.PreGoal.{PreGoal, Row_of-PreGoal, end_of-PreGoal, more_of-PreGoal}
+use Rattle.p3_task.specs.declared.goal.PreGoal.TheVariants as goal
+use Rattle.p3_task.specs.declared.task.Task.{Task}
+use Rattle.p3_task.specs.declared.term.Ref.{Ref}
+use Rattle.p3_task.specs.declared.term.Typed.{Typed}
 use Rattle.p3_numbers.specs.Conditions.{condition_of, condition_layer, is_known_formula, known_formula_layer}
 use Rattle.p3_numbers.specs.Constraints.{constraint_of, constraint_layer, modal_of, is_known_modal, is_known_constraint, known_constraint_layer}
 use Rattle.p3_numbers.specs.Effects.{effect_of, effect_layer, amount_of, is_known_amount, is_known_effect, known_effect_layer}

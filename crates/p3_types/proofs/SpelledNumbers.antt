@@ -16,20 +16,20 @@ use Rattle.p3_base.specs.declared.refusal.Refusal.{Refusal}
 use Rattle.p3_base.specs.declared.refusal.Role.{Role}
 use Rattle.p3_base.specs.declared.refusal.Side.{Side}
 use Rattle.p3_base.specs.Words.{is_digit, are_digits}
-use Rattle.p3_tree.specs.Names.{Name}
-use Rattle.p3_tree.specs.Decimals.{at_point, is_decimal, places_of, digits_of, digits_value}
-use Rattle.p3_tree.specs.Sides.{Half, role_of, level_limit, digit_limit, place_limit}
-use Rattle.p3_tree.specs.Tokens.{Token, Open, Close, Word, tokens_of}
-use Rattle.p3_tree.specs.Expressions.{kept, spelling, spellings, expression_of}
-use Rattle.p3_tree.specs.Grammar.Words.{◌>>=◌, ListPart, parts_place, numeral_place, descend, raws, descend_parts, expressions}
-use Rattle.p3_tree.specs.Grammar.Texts.{IsBalanced}
-use Rattle.p3_tree.specs.Refusals.Places.{first_some, refusal_at}
-use Rattle.p3_tree.specs.Refusals.Texts.{Inside, unbalanced_from, too_deep_from, construct_in, has_places_above, is_too_long, long_number, refusal_of_bytes, text_refusal}
-use Rattle.p3_tree.specs.Refusals.First.{HalfText, IsReadable, IsFirstOfHalf}
-use Rattle.p3_tree.specs.declared.expression.Expression.{Expression, Row_of-Expression, end_of-Expression, more_of-Expression}
-use Rattle.p3_tree.specs.declared.expression.Expression.TheVariants as expression
-use Rattle.p3_tree.specs.declared.term.Ref.{Ref}
-use Rattle.p3_tree.specs.declared.effect.Numeral.{Numeral}
+use Rattle.p3_task.specs.Names.{Name}
+use Rattle.p3_task.specs.Decimals.{at_point, is_decimal, places_of, digits_of, digits_value}
+use Rattle.p3_task.specs.Sides.{Half, role_of, level_limit, digit_limit, place_limit}
+use Rattle.p3_task.specs.Tokens.{Token, Open, Close, Word, tokens_of}
+use Rattle.p3_task.specs.Expressions.{kept, spelling, spellings, expression_of}
+use Rattle.p3_task.specs.Grammar.Words.{◌>>=◌, ListPart, parts_place, numeral_place, descend, raws, descend_parts, expressions}
+use Rattle.p3_task.specs.Grammar.Texts.{IsBalanced}
+use Rattle.p3_task.specs.Refusals.Places.{first_some, refusal_at}
+use Rattle.p3_task.specs.Refusals.Texts.{Inside, unbalanced_from, too_deep_from, construct_in, has_places_above, is_too_long, long_number, refusal_of_bytes, text_refusal}
+use Rattle.p3_task.specs.Refusals.First.{HalfText, IsReadable, IsFirstOfHalf}
+use Rattle.p3_task.specs.declared.expression.Expression.{Expression, Row_of-Expression, end_of-Expression, more_of-Expression}
+use Rattle.p3_task.specs.declared.expression.Expression.TheVariants as expression
+use Rattle.p3_task.specs.declared.term.Ref.{Ref}
+use Rattle.p3_task.specs.declared.effect.Numeral.{Numeral}
 use Rattle.p3_types.specs.Texts.{is_short}
 use Rattle.p3_types.proofs.Gives.{Gives, nothing, just, each_mapped}
 

@@ -8,13 +8,13 @@ use Rattle.std.proofs.lemmas.List.Sums.{sum_by-cons, sum_by_push}
 use Rattle.std.proofs.lemmas.Bool.{and_parts, and_from}
 use borrow.Author.Tests.{ltb-true, ltb-false}
 use Rattle.std.proofs.Math.Nat.{mul-div_cancel_left, mul-suc}
-use Rattle.p3_tree.proofs.OnceLemmas.{map_at, Some-injective}
-use Rattle.p3_tree.specs.Bindings.{tuples}
-use Rattle.p3_tree.specs.Lifting.{steps, steps_of}
-use Rattle.p3_tree.specs.Limits.{step_count}
-use Rattle.p3_tree.specs.declared.task.Action.{Action}
-use Rattle.p3_tree.specs.declared.task.Task.{Task}
-use Rattle.p3_tree.specs.declared.term.Typed.{Typed}
+use Rattle.p3_task.proofs.OnceLemmas.{map_at, Some-injective}
+use Rattle.p3_task.specs.Bindings.{tuples}
+use Rattle.p3_task.specs.Lifting.{steps, steps_of}
+use Rattle.p3_task.specs.Limits.{step_count}
+use Rattle.p3_task.specs.declared.task.Action.{Action}
+use Rattle.p3_task.specs.declared.task.Task.{Task}
+use Rattle.p3_task.specs.declared.term.Typed.{Typed}
 use Rattle.p3_numbers.proofs.BindingLemmas.{tuples_mean}
 use Rattle.p3_numbers.specs.Places.{IsNumbering, ranges_of, are_known_types}
 use Rattle.p3_numbers.specs.Slots.{range_at, object_names, tuples_of}

@@ -5,12 +5,12 @@ use Rattle.std.specs.List.{list_all}
 use Rattle.std.proofs.lemmas.Bool.{and_parts, and_from}
 use Rattle.std.proofs.lemmas.List.{get_or-map, length-map, take_all}
 use Rattle.std.proofs.lemmas.List.Sums.{sum_by_more, sum_by-take-le}
-use Rattle.p3_tree.specs.Lifting.{steps}
-use Rattle.p3_tree.specs.Limits.{step_count}
-use Rattle.p3_tree.specs.Offences.{WellFormed}
-use Rattle.p3_tree.specs.declared.task.Action.{Action}
-use Rattle.p3_tree.specs.declared.task.Task.{Task}
-use Rattle.p3_tree.specs.Sides.{step_count_limit}
+use Rattle.p3_task.specs.Lifting.{steps}
+use Rattle.p3_task.specs.Limits.{step_count}
+use Rattle.p3_task.specs.Offences.{WellFormed}
+use Rattle.p3_task.specs.declared.task.Action.{Action}
+use Rattle.p3_task.specs.declared.task.Task.{Task}
+use Rattle.p3_task.specs.Sides.{step_count_limit}
 use Rattle.p3_numbers.proofs.KnownLaws.{task-known}
 use Rattle.p3_numbers.specs.Known.{is_known_action}
 use Rattle.p3_numbers.specs.Places.{ranges_of, are_known_types}

@@ -2,18 +2,18 @@
 use Rattle.std.proofs.Common.{◌≡◌, refl, IsTrue, ap, ◌∙◌, [], Option, Some, None, ◌<◌, ℕ, List, length}
 use Rattle.std.specs.Prelude.{is_none, option_map, slice_index_or}
 use Rattle.std.proofs.lemmas.List.{get_or-map}
-use Rattle.p3_tree.proofs.OffenceLemmas.{well_formed_where_no_offence}
-use Rattle.p3_tree.specs.FirstOffence.{first_offence}
-use Rattle.p3_tree.specs.Names.{Name}
-use Rattle.p3_tree.specs.Offences.{WellFormed}
-use Rattle.p3_tree.specs.declared.task.Task.{Task}
+use Rattle.p3_task.proofs.OffenceLemmas.{well_formed_where_no_offence}
+use Rattle.p3_task.specs.FirstOffence.{first_offence}
+use Rattle.p3_task.specs.Names.{Name}
+use Rattle.p3_task.specs.Offences.{WellFormed}
+use Rattle.p3_task.specs.declared.task.Task.{Task}
 use Rattle.p3_numbers.specs.Known.{Covers}
 use Rattle.p3_numbers.specs.Places.{IsNumbering}
 use Rattle.p3_numbers.specs.Slots.{name_at}
 use Rattle.p3_numbers.specs.Tasks.{HasNames, IsNumberedTask}
 use Rattle.p3_numbers.specs.declared.task.NumberedTask.{NumberedTask}
 use Rattle.p3_base.specs.declared.refusal.Side.{Side}
-use Rattle.p3_tree.specs.Refusals.First.{refusal_of}
+use Rattle.p3_task.specs.Refusals.First.{refusal_of}
 use Rattle.p3_types.specs.Checks.{offence_refusal}
 use Rattle.p3_types.specs.Tables.{task_over, is_well_formed, greatest_value_of, greatest_values}
 

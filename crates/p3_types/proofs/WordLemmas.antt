@@ -5,9 +5,9 @@ use Rattle.p3_lexer.specs.Lexing.{Progress, with_next, left}
 use Rattle.p3_lexer.specs.StepWords.{words_left}
 use Rattle.p3_lexer.specs.declared.lexer.Next.{Next}
 use Rattle.p3_lexer.proofs.StepWords.{passed, words_behind}
-use Rattle.p3_tree.specs.Names.{Name}
-use Rattle.p3_tree.specs.PlanTexts.{IsPlanText}
-use Rattle.p3_tree.specs.declared.task.Step.{Step}
+use Rattle.p3_task.specs.Names.{Name}
+use Rattle.p3_task.specs.PlanTexts.{IsPlanText}
+use Rattle.p3_task.specs.declared.task.Step.{Step}
 
 -- what comes behind the first token of a step's text, where the lexer began at its start
 module _ (text : List ℕ) (start later : Progress) (open_token : Next) (starts : start ≡ record { source = text; at = 0 }) (passes : left start ≡ with_next open_token (left later)) where

@@ -2,9 +2,9 @@
 use Rattle.std.specs.Prelude.{◌≡◌, Option, Some, option_map}
 use Rattle.p3_base.specs.declared.refusal.Refusal.{Refusal}
 use Rattle.p3_base.specs.declared.refusal.Side.{Side}
-use Rattle.p3_tree.specs.FirstOffence.{first_offence}
-use Rattle.p3_tree.specs.Refusals.First.{refusal_of}
-use Rattle.p3_tree.specs.declared.task.Task.{Task}
+use Rattle.p3_task.specs.FirstOffence.{first_offence}
+use Rattle.p3_task.specs.Refusals.First.{refusal_of}
+use Rattle.p3_task.specs.declared.task.Task.{Task}
 use Rattle.p3_types.specs.declared.error.CheckFail.{CheckFail}
 use Rattle.p3_types.specs.declared.error.CheckFail.TheVariants.{Refused, NoMemory}
 

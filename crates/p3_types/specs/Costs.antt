@@ -2,12 +2,12 @@
 use Rattle.std.specs.Prelude.{ℕ, ◌-◌, ◌*◌, ◌^◌, ◌==◌, max, List, map, fold, if◌then◌else◌, Option}
 use Rattle.std.specs.List.{range_with_len}
 use Rattle.std.specs.Option.{option_map_or}
-use Rattle.p3_tree.specs.Costs.{increases, amount_numeral, value_numeral}
-use Rattle.p3_tree.specs.declared.effect.Amount.{Amount}
-use Rattle.p3_tree.specs.declared.effect.Effect.{Effect}
-use Rattle.p3_tree.specs.declared.effect.Numeral.{Numeral}
-use Rattle.p3_tree.specs.declared.task.Action.{Action}
-use Rattle.p3_tree.specs.declared.task.Init.{Init}
+use Rattle.p3_task.specs.Costs.{increases, amount_numeral, value_numeral}
+use Rattle.p3_task.specs.declared.effect.Amount.{Amount}
+use Rattle.p3_task.specs.declared.effect.Effect.{Effect}
+use Rattle.p3_task.specs.declared.effect.Numeral.{Numeral}
+use Rattle.p3_task.specs.declared.task.Action.{Action}
+use Rattle.p3_task.specs.declared.task.Init.{Init}
 use Rattle.p3_numbers.specs.declared.task.NumberedValue.{NumberedValue}
 
 -- the greatest of the numbers that the items give, 0 where there is no item

@@ -8,10 +8,10 @@ use Rattle.p3_numbers.specs.declared.goal.NumberedGoal.{NumberedGoal}
 use Rattle.p3_numbers.specs.declared.numbers.Numbers.{Numbers}
 use Rattle.p3_numbers.specs.declared.task.NumberedAction.{NumberedAction}
 use Rattle.p3_numbers.specs.declared.task.NumberedTask.{NumberedTask}
-use Rattle.p3_tree.specs.Refusals.Places.{refusal_at_word, word_at}
-use Rattle.p3_tree.specs.Sides.{Half, InDomain, InProblem, role_of, size_limit, step_count_limit, instance_limit}
-use Rattle.p3_tree.specs.declared.task.Action.{Action}
-use Rattle.p3_tree.specs.declared.task.Task.{Task}
+use Rattle.p3_task.specs.Refusals.Places.{refusal_at_word, word_at}
+use Rattle.p3_task.specs.Sides.{Half, InDomain, InProblem, role_of, size_limit, step_count_limit, instance_limit}
+use Rattle.p3_task.specs.declared.task.Action.{Action}
+use Rattle.p3_task.specs.declared.task.Task.{Task}
 use Rattle.p3_types.specs.Cuts.{cut_choices}
 use Rattle.p3_types.specs.Preferences.{goal_offsets, constraint_offsets}
 use Rattle.p3_types.specs.Sizes.{effect_size, goal_size, constraint_size}

@@ -1,13 +1,13 @@
 -- What `find` answers, and how a choice of objects is found by their names.
 use Rattle.std.specs.Prelude.{◌≡◌, ℕ, ◌+◌, ◌*◌, ◌/◌, ◌<◌, ◌≤◌, Bool, true, false, ◌&&◌, List, [], ◌∷◌, ◌++◌, take, drop, length, slice_get, slice_index_or, MatchOption, Option, Some, None}
 use Rattle.std.specs.List.{All}
-use Rattle.p3_tree.specs.Bindings.{are_arguments}
-use Rattle.p3_tree.specs.Names.{Name, has_name}
-use Rattle.p3_tree.specs.Plans.{action_named}
-use Rattle.p3_tree.specs.StepNumbers.{HasNumber}
-use Rattle.p3_tree.specs.declared.task.Action.{Action}
-use Rattle.p3_tree.specs.declared.task.Step.{Step}
-use Rattle.p3_tree.specs.declared.task.Task.{Task}
+use Rattle.p3_task.specs.Bindings.{are_arguments}
+use Rattle.p3_task.specs.Names.{Name, has_name}
+use Rattle.p3_task.specs.Plans.{action_named}
+use Rattle.p3_task.specs.StepNumbers.{HasNumber}
+use Rattle.p3_task.specs.declared.task.Action.{Action}
+use Rattle.p3_task.specs.declared.task.Step.{Step}
+use Rattle.p3_task.specs.declared.task.Task.{Task}
 use Rattle.p3_numbers.specs.Slots.{name_at, object_names, range_at}
 use Rattle.p3_numbers.specs.declared.numbers.Numbers.{Numbers}
 use Rattle.p3_numbers.specs.Choices.{choice_count, choice}

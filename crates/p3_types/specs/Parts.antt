@@ -1,7 +1,7 @@
 -- The parts that a checked task keeps beside its trees.
 use Rattle.std.specs.Prelude.{◌≡◌, ◌<◌, ◌^◌, length}
-use Rattle.p3_tree.specs.Costs.{cost_places}
-use Rattle.p3_tree.specs.declared.task.Task.{Task}
+use Rattle.p3_task.specs.Costs.{cost_places}
+use Rattle.p3_task.specs.declared.task.Task.{Task}
 use Rattle.p3_numbers.specs.Tasks.{IsNumberedTask}
 use Rattle.p3_types.specs.FirstSteps.{counts_of, firsts_from}
 use Rattle.p3_types.specs.NameOrders.{action_names, IsNameOrder}

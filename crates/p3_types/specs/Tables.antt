@@ -1,9 +1,9 @@
 -- What a checked task keeps beside its trees.
 use Rattle.std.specs.Prelude.{ℕ, max, Bool, List, [], map, filter_map, fold, is_none}
-use Rattle.p3_tree.specs.FirstOffence.{first_offence}
-use Rattle.p3_tree.specs.Limits.{value_of_entry}
-use Rattle.p3_tree.specs.Names.{Name}
-use Rattle.p3_tree.specs.declared.task.Task.{Task}
+use Rattle.p3_task.specs.FirstOffence.{first_offence}
+use Rattle.p3_task.specs.Limits.{value_of_entry}
+use Rattle.p3_task.specs.Names.{Name}
+use Rattle.p3_task.specs.declared.task.Task.{Task}
 use Rattle.p3_numbers.specs.Constraints.{constraint_of}
 use Rattle.p3_numbers.specs.Goals.{goal_of}
 use Rattle.p3_numbers.specs.Starts.{start_of, initial_values_of}

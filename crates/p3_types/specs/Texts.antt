@@ -2,16 +2,16 @@
 use Rattle.std.specs.Prelude.{ℕ, ◌≤◌, ◌^◌, nat_lt, nat_le, Bool, ◌&&◌, List, [], ◌∷◌, ◌++◌, flat_map, length, Option, Some, None, unwrap_or}
 use Rattle.std.specs.List.{list_all}
 use Rattle.p3_base.specs.declared.refusal.Side.{Side}
-use Rattle.p3_tree.specs.Costs.{amount_numerals, value_numerals}
-use Rattle.p3_tree.specs.Folds.{fold_num}
-use Rattle.p3_tree.specs.Grammar.Texts.{Reads}
-use Rattle.p3_tree.specs.Refusals.First.{halves, AreReadable}
-use Rattle.p3_tree.specs.Sides.{byte_limit, digit_limit, place_limit}
-use Rattle.p3_tree.specs.declared.effect.Numeral.{Numeral}
-use Rattle.p3_tree.specs.declared.metric.Metric.{Metric}
-use Rattle.p3_tree.specs.declared.metric.Num.{Num}
-use Rattle.p3_tree.specs.declared.metric.Num.TheOpen as num
-use Rattle.p3_tree.specs.declared.task.Task.{Task}
+use Rattle.p3_task.specs.Costs.{amount_numerals, value_numerals}
+use Rattle.p3_task.specs.Folds.{fold_num}
+use Rattle.p3_task.specs.Grammar.Texts.{Reads}
+use Rattle.p3_task.specs.Refusals.First.{halves, AreReadable}
+use Rattle.p3_task.specs.Sides.{byte_limit, digit_limit, place_limit}
+use Rattle.p3_task.specs.declared.effect.Numeral.{Numeral}
+use Rattle.p3_task.specs.declared.metric.Metric.{Metric}
+use Rattle.p3_task.specs.declared.metric.Num.{Num}
+use Rattle.p3_task.specs.declared.metric.Num.TheOpen as num
+use Rattle.p3_task.specs.declared.task.Task.{Task}
 
 -- texts within the side's limits that show no refusal by themselves, and whose task this is
 pub record HasTexts (side : Side) (T : Task) : Type 0 where

@@ -4,9 +4,9 @@ ghost use Rattle.std.specs.Prelude.{◌≡◌, ◌<◌, ◌^◌, length, slice_g
 ghost use Rattle.std.specs.Coded.{Coded-set};
 ghost use Rattle.std.specs.Option.{option_copied};
 ghost use Rattle.std.proofs.Props.{props};
-ghost use Rattle.p3_tree.specs.Costs.{cost_places as places_of_costs};
-ghost use Rattle.p3_tree.specs.Offences.{WellFormed};
-ghost use Rattle.p3_tree.specs.PreferenceNames.{ordered_names};
+ghost use Rattle.p3_task.specs.Costs.{cost_places as places_of_costs};
+ghost use Rattle.p3_task.specs.Offences.{WellFormed};
+ghost use Rattle.p3_task.specs.PreferenceNames.{ordered_names};
 ghost use Rattle.p3_numbers.specs.Known.{Covers};
 ghost use Rattle.p3_numbers.specs.Places.{IsNumbering};
 ghost use Rattle.p3_numbers.specs.Slots.{name_at};
@@ -24,7 +24,7 @@ ghost use Rattle.p3_types.specs.Texts.{HasTexts, has_short_numbers};
 use crate::parts::{CostScale, Orders, CheckedParts};
 use p3_base::{Name, Side};
 use p3_numbers::NumberedTask;
-use p3_tree::Task;
+use p3_task::Task;
 
 /// A well-formed task with its numbers.
 #[derive(Drop)]

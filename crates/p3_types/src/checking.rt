@@ -1,7 +1,7 @@
 //! From the two halves of a task to a checked task.
 
 ghost use Rattle.std.specs.Prelude.{◌≡◌, IfOk, IfErr};
-ghost use Rattle.p3_tree.specs.Offences.{WellFormed};
+ghost use Rattle.p3_task.specs.Offences.{WellFormed};
 ghost use Rattle.p3_types.specs.Checks.{IsFailOf};
 ghost use Rattle.p3_types.specs.Texts.{HasTexts};
 
@@ -9,7 +9,7 @@ use crate::parts::parts_of;
 use crate::{CheckFail, Checked};
 use p3_base::{NoMemory, Side};
 use p3_offences::first_offence;
-use p3_tree::{Domain, Problem, Task};
+use p3_task::{Domain, Problem, Task};
 use std::alloc::Global;
 
 /// The well-formed task, checked.

@@ -2,7 +2,7 @@
 
 ghost use Rattle.std.specs.Prelude.{◌≡◌, ◌<◌, ◌≤◌, max, length, slice_set, slice_index, IfOk};
 ghost use Rattle.std.specs.List.{All};
-ghost use Rattle.p3_tree.specs.Costs.{cost_places as places_of_costs};
+ghost use Rattle.p3_task.specs.Costs.{cost_places as places_of_costs};
 ghost use Rattle.p3_types.specs.Costs.{
   most_of,
   amount_places as places_of_amount,
@@ -15,7 +15,7 @@ ghost use Rattle.p3_types.specs.Costs.{
 
 use p3_base::NoMemory;
 use p3_numbers::NumberedValue;
-use p3_tree::{Action, Amount, Effect, Init, Numeral, Task};
+use p3_task::{Action, Amount, Effect, Init, Numeral, Task};
 use std::alloc::Global;
 
 /// The decimal places of an amount that is a number, 0 for others.

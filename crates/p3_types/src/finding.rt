@@ -3,7 +3,7 @@
 ghost use Rattle.std.specs.Prelude.{◌≡◌, ◌+◌, ◌<◌, ◌^◌, false, map, MatchOption};
 ghost use Rattle.std.specs.List.{All};
 ghost use Rattle.std.specs.Str.{str_to_ascii_lowercase};
-ghost use Rattle.p3_tree.specs.Names.{has_name};
+ghost use Rattle.p3_task.specs.Names.{has_name};
 ghost use Rattle.p3_numbers.specs.Slots.{name_at, range_at};
 ghost use Rattle.p3_numbers.specs.Choices.{choice_count};
 ghost use Rattle.p3_types.specs.Finds.{

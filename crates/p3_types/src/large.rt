@@ -1,14 +1,14 @@
 //! Parts of a task that are too large once they are expanded.
 
 ghost use Rattle.std.specs.Prelude.{◌≡◌};
-ghost use Rattle.p3_tree.specs.Sides.{InDomain, InProblem};
+ghost use Rattle.p3_task.specs.Sides.{InDomain, InProblem};
 ghost use Rattle.p3_types.specs.Excess as excess;
 
 use crate::refused_words::{domain_role, problem_role, refusal_at, size_limit};
 use crate::sizes::{constraint_size, effect_size, goal_size};
 use p3_base::{Code, Refusal, Side};
 use p3_numbers::{NumberedAction, NumberedTask, Numbers};
-use p3_tree::{Action, Task};
+use p3_task::{Action, Task};
 
 /// That of least offset, the first where offsets are equal.
 fn with_least(found: Option<Refusal>, refusal: Refusal) -> Option<Refusal>

@@ -2,7 +2,7 @@
 
 ghost use Rattle.std.specs.Prelude.{IsTrue};
 ghost use Rattle.p3_base.specs.declared.refusal.Side.{Side};
-ghost use Rattle.p3_tree.specs.declared.task.Task.{Task};
+ghost use Rattle.p3_task.specs.declared.task.Task.{Task};
 ghost use Rattle.p3_types.specs.Texts.{HasTexts, has_short_numbers};
 
 /// The numbers of a task that is read from texts are short.

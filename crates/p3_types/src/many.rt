@@ -3,7 +3,7 @@
 ghost use Rattle.std.specs.Prelude.{◌≡◌, slice_get};
 ghost use Rattle.std.specs.Option.{option_map};
 ghost use Rattle.p3_base.specs.declared.refusal.Code.TheVariants.{TooManyPreferences};
-ghost use Rattle.p3_tree.specs.Refusals.Places as places;
+ghost use Rattle.p3_task.specs.Refusals.Places as places;
 ghost use Rattle.p3_types.specs.Excess.{problem_offsets, refused_preference};
 
 use crate::preferences::{constraint_count, constraint_offset, goal_offset, place_behind};

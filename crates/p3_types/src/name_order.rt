@@ -5,12 +5,12 @@ ghost use Rattle.std.specs.Prelude.{slice_get, IfOk, MatchOption};
 ghost use Rattle.std.specs.Cmp.Lexicographic.{slice_cmp};
 ghost use Rattle.std.specs.Ordering.{nat_cmp};
 ghost use Rattle.std.specs.Str.{str_to_ascii_lowercase};
-ghost use Rattle.p3_tree.specs.Names.{has_name};
+ghost use Rattle.p3_task.specs.Names.{has_name};
 ghost use Rattle.p3_numbers.specs.Slots.{name_at};
 ghost use Rattle.p3_types.specs.NameOrders.{IsNameOrder, ArePlaced, compare};
 
 use p3_base::{Name, NoMemory, as_number};
-use p3_tree::Action;
+use p3_task::Action;
 use std::alloc::Global;
 use std::cmp::Ordering;
 

@@ -1,8 +1,8 @@
 //! What a checked task keeps beside its trees.
 
 ghost use Rattle.std.specs.Prelude.{◌≡◌, ◌<◌, ◌≤◌, ◌^◌, length, IfOk};
-ghost use Rattle.p3_tree.specs.Costs.{cost_places as places_of_costs};
-ghost use Rattle.p3_tree.specs.Offences.{WellFormed};
+ghost use Rattle.p3_task.specs.Costs.{cost_places as places_of_costs};
+ghost use Rattle.p3_task.specs.Offences.{WellFormed};
 ghost use Rattle.p3_numbers.specs.Tasks.{IsNumberedTask};
 ghost use Rattle.p3_types.specs.NameOrders.{action_names, IsNameOrder};
 ghost use Rattle.p3_types.specs.Parts.{ArePartsOf};
@@ -14,7 +14,7 @@ use crate::steps::first_steps;
 use p3_base::{Name, NoMemory, as_number};
 use p3_numbering::numbered;
 use p3_numbers::{NumberedTask, Numbers};
-use p3_tree::{Action, Task};
+use p3_task::{Action, Task};
 use std::alloc::Global;
 
 /// Places by rising names.

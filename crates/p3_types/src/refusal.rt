@@ -3,9 +3,9 @@
 ghost use Rattle.std.specs.Prelude.{◌≡◌, IfOk, OnErr};
 ghost use Rattle.std.specs.Result.{MatchResult};
 ghost use Rattle.p3_numbers.specs.Tasks.{IsNumberedTask};
-ghost use Rattle.p3_tree.specs.Offences.{WellFormed};
-ghost use Rattle.p3_tree.specs.Refusals.Counts.{size_refusals};
-ghost use Rattle.p3_tree.specs.Refusals.Places.{first_some};
+ghost use Rattle.p3_task.specs.Offences.{WellFormed};
+ghost use Rattle.p3_task.specs.Refusals.Counts.{size_refusals};
+ghost use Rattle.p3_task.specs.Refusals.Places.{first_some};
 ghost use Rattle.p3_types.specs.Excess.{IsAtLongWord, numbered_refusals};
 
 use crate::large::{large_in_domain, large_in_problem};
@@ -13,7 +13,7 @@ use crate::many::too_many_preferences;
 use crate::step_counts::too_many_steps;
 use p3_base::{NoMemory, Refusal, Side};
 use p3_numbers::NumberedTask;
-use p3_tree::Task;
+use p3_task::Task;
 
 /// The first refusal of the trees side by side.
 pub(crate) fn numbered_refusal(

@@ -2,11 +2,11 @@
 
 ghost use Rattle.std.specs.Prelude.{◌≡◌, ◌≤◌, ◌^◌, length, IfOk, OnErr};
 ghost use Rattle.std.specs.Result.{MatchResult};
-ghost use Rattle.p3_tree.specs.Refusals.Places as places;
-ghost use Rattle.p3_tree.specs.Sides.{InDomain, InProblem, role_of, size_limit as limit_of};
+ghost use Rattle.p3_task.specs.Refusals.Places as places;
+ghost use Rattle.p3_task.specs.Sides.{InDomain, InProblem, role_of, size_limit as limit_of};
 
 use p3_base::{Code, Name, Pos, Refusal, Role, Side, TooLarge, as_number};
-use p3_tree::Ref;
+use p3_task::Ref;
 
 /// The domain of the side.
 pub fn domain_role(side: Side) -> Role

@@ -1,14 +1,14 @@
 //! Too many steps.
 
 ghost use Rattle.std.specs.Prelude.{◌≡◌, IfOk, OnErr};
-ghost use Rattle.p3_tree.specs.Sides.{step_count_limit};
+ghost use Rattle.p3_task.specs.Sides.{step_count_limit};
 ghost use Rattle.p3_types.specs.Excess.{IsAtLongWord, refused_step};
 
 use crate::choices::choice_count;
 use crate::refused_words::{domain_role, refusal_at_name};
 use p3_base::{Code, NoMemory, Refusal, Side};
 use p3_numbers::{NumberedAction, Numbers};
-use p3_tree::Action;
+use p3_task::Action;
 
 /// How many ground steps a task may have.
 const STEP_COUNT_LIMIT: u64 = 20_000_000;

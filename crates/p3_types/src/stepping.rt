@@ -4,11 +4,11 @@ ghost use Rattle.std.specs.Prelude.{◌≡◌, ◌+◌, ◌-◌, ◌<◌, ◌≤
 ghost use Rattle.std.specs.Prelude.{slice_index_or, IfOk};
 ghost use Rattle.p3_base.specs.declared.refusal.Side.TheVariants.{Written};
 ghost use Rattle.p3_lexer.specs.StepWords.{words_left};
-ghost use Rattle.p3_tree.specs.Limits.{step_count as count_of_steps};
-ghost use Rattle.p3_tree.specs.PlanTexts.{IsPlanText};
-ghost use Rattle.p3_tree.specs.Sides.{byte_limit, step_count_limit};
-ghost use Rattle.p3_tree.specs.StepNumbers.{HasNumber};
-ghost use Rattle.p3_tree.specs.declared.task.Step.{Step as PlanStep};
+ghost use Rattle.p3_task.specs.Limits.{step_count as count_of_steps};
+ghost use Rattle.p3_task.specs.PlanTexts.{IsPlanText};
+ghost use Rattle.p3_task.specs.Sides.{byte_limit, step_count_limit};
+ghost use Rattle.p3_task.specs.StepNumbers.{HasNumber};
+ghost use Rattle.p3_task.specs.declared.task.Step.{Step as PlanStep};
 ghost use Rattle.p3_types.specs.Finds.{IsBlockAt, IsFound, IsNumberAt};
 ghost use Rattle.p3_types.specs.FirstSteps.{too_many};
 
@@ -19,7 +19,7 @@ use crate::words::choice_of_words;
 use crate::{Checked, Found};
 use p3_base::{Name, NoMemory};
 use p3_lexer::Lexer;
-use p3_tree::Step;
+use p3_task::Step;
 use std::alloc::Global;
 
 impl Checked {

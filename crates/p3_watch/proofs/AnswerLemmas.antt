@@ -7,13 +7,13 @@ use Rattle.std.proofs.lemmas.List.Elements.{All-contains, All-weaker}
 use Rattle.std.proofs.lemmas.Slice.Zip.{AllZip-long}
 use Rattle.p3_base.specs.declared.refusal.Code.TheVariants.{TooManySteps}
 use Rattle.p3_base.specs.declared.refusal.Refusal.{Refusal}
-use Rattle.p3_tree.specs.Plans.{Plan, last_state, visited}
-use Rattle.p3_tree.specs.PlanTexts.{IsPlanText, refusal, step_limit}
-use Rattle.p3_tree.specs.StepNumbers.{HasNumber}
-use Rattle.p3_tree.specs.Validity.{AtStep, Misfit, misfit}
-use Rattle.p3_tree.specs.Watching.{LineText, Empty, OneStep, Offends, Piece, Refused, answer_by, answer_to, line_text, tried}
-use Rattle.p3_tree.specs.declared.task.Step.{Step}
-use Rattle.p3_tree.specs.declared.task.Task.{Task}
+use Rattle.p3_task.specs.Plans.{Plan, last_state, visited}
+use Rattle.p3_task.specs.PlanTexts.{IsPlanText, refusal, step_limit}
+use Rattle.p3_task.specs.StepNumbers.{HasNumber}
+use Rattle.p3_task.specs.Validity.{AtStep, Misfit, misfit}
+use Rattle.p3_task.specs.Watching.{LineText, Empty, OneStep, Offends, Piece, Refused, answer_by, answer_to, line_text, tried}
+use Rattle.p3_task.specs.declared.task.Step.{Step}
+use Rattle.p3_task.specs.declared.task.Task.{Task}
 use Rattle.p3_plans.specs.Lines.{IsLineStep}
 use Rattle.p3_plans.specs.declared.line.LineStep.TheVariants as step
 use Rattle.p3_plans.specs.declared.reader.PlanStep.{PlanStep}

@@ -6,8 +6,8 @@ use Rattle.p3_base.specs.declared.refusal.Refusal.{Refusal}
 use Rattle.p3_tree.specs.Reports.Plans.{fault_line}
 use Rattle.p3_tree.specs.Reports.Refusals.{refusal_line}
 use Rattle.p3_tree.specs.Reports.Watching.{block, judged_lines, moved}
-use Rattle.p3_tree.specs.Watching.{Blank, Taken, Unfit, Refused}
-use Rattle.p3_tree.specs.declared.task.Task.{Task}
+use Rattle.p3_task.specs.Watching.{Blank, Taken, Unfit, Refused}
+use Rattle.p3_task.specs.declared.task.Task.{Task}
 use Rattle.p3_reports.specs.Faults.{fault_named, fault_of}
 use Rattle.p3_reports.proofs.FaultLemmas.{fault_is}
 use Rattle.p3_run.specs.Runs.{Ran}

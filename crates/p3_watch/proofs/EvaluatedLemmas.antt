@@ -4,15 +4,15 @@ use Rattle.std.proofs.lemmas.List.{append-nil, take-append-drop}
 use Rattle.std.proofs.lemmas.List.Concat.{flat_map-append}
 use Rattle.std.specs.Prelude.{codes, flat_map, pos, slice_get}
 use Rattle.p3_base.specs.Outside.{IsPartlyPut, IsPut}
-use Rattle.p3_tree.specs.Costs.{cost_places}
-use Rattle.p3_tree.specs.Metrics.{cost}
-use Rattle.p3_tree.specs.Names.{Name}
-use Rattle.p3_tree.specs.Plans.{Plan}
+use Rattle.p3_task.specs.Costs.{cost_places}
+use Rattle.p3_task.specs.Metrics.{cost}
+use Rattle.p3_task.specs.Names.{Name}
+use Rattle.p3_task.specs.Plans.{Plan}
 use Rattle.p3_tree.specs.Reports.Lines.{entry, line}
 use Rattle.p3_tree.specs.Reports.Plans.{evaluated_lines, fault_line, metric_line, steps_line}
 use Rattle.p3_tree.specs.Reports.Watching.{judged_by, judged_lines}
-use Rattle.p3_tree.specs.Validity.{Fault, first_fault}
-use Rattle.p3_tree.specs.declared.task.Task.{Task}
+use Rattle.p3_task.specs.Validity.{Fault, first_fault}
+use Rattle.p3_task.specs.declared.task.Task.{Task}
 use Rattle.p3_reports.specs.Contents.{IsMetric, IsQuantity}
 use Rattle.p3_reports.specs.Parts.{quantity_text}
 use Rattle.p3_reports.specs.declared.quantity.Quantity.{Quantity}

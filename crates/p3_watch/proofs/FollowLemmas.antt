@@ -5,8 +5,8 @@ use Rattle.std.proofs.lemmas.List.{append-nil, drop_all}
 use Rattle.std.proofs.lemmas.List.Elements.{All-head, All-tail}
 use Rattle.p3_base.specs.Outside.{IsPartlyPut, IsPut}
 use Rattle.p3_tree.specs.Reports.Watching.{block, blocks, watch_lines}
-use Rattle.p3_tree.specs.Watching.{Piece, answer_to, line_text, lines_from, taken_after}
-use Rattle.p3_tree.specs.declared.task.Task.{Task}
+use Rattle.p3_task.specs.Watching.{Piece, answer_to, line_text, lines_from, taken_after}
+use Rattle.p3_task.specs.declared.task.Task.{Task}
 use Rattle.p3_formula.specs.declared.task.GroundTask.{GroundTask}
 use Rattle.p3_ground.specs.PlansByNumber.{AreNumbers}
 use Rattle.p3_reports.proofs.PutLemmas.{both_put, partly_first, partly_second}

@@ -3,7 +3,7 @@ use Rattle.std.proofs.Common.{◌≡◌, ◌∙◌, ℕ, suc, ◌+◌, ◌<◌, 
 use Rattle.std.specs.Prelude.{nat_lt, not, position, Some, None}
 use Rattle.std.proofs.lemmas.List.Sums.{prefix_len-le-length}
 use Rattle.p3_base.specs.Place.{is_line_feed}
-use Rattle.p3_tree.specs.Watching.{Piece, lines_from, piece_before}
+use Rattle.p3_task.specs.Watching.{Piece, lines_from, piece_before}
 use Rattle.p3_watch.specs.Lines.{line_len}
 
 -- the pieces are one of so many bytes, and those behind it

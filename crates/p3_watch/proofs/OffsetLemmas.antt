@@ -5,9 +5,9 @@ use Rattle.std.specs.Char.{to_ascii_lowercase}
 use Rattle.p3_base.specs.declared.refusal.Code.{Code}
 use Rattle.p3_base.specs.declared.refusal.Code.TheVariants.{Malformed}
 use Rattle.p3_base.specs.declared.refusal.Refusal.{Refusal}
-use Rattle.p3_tree.specs.PlanTexts.{Before, Outside, Begun, Named, behind, first_of_both, foreign_offence, offence_from, offence_of, plan_offence, refusal}
-use Rattle.p3_tree.specs.Tokens.{Token, Open, Close, Word, Tokens, before, is_blank, is_comment_after, is_of_word, prefixed, tokens_from, tokens_of, with_byte}
-use Rattle.p3_tree.specs.Watching.{LineText, Empty, OneStep, Offends, earlier_by, line_by, line_offence, line_text, open_behind, second_step, step_in}
+use Rattle.p3_task.specs.PlanTexts.{Before, Outside, Begun, Named, behind, first_of_both, foreign_offence, offence_from, offence_of, plan_offence, refusal}
+use Rattle.p3_task.specs.Tokens.{Token, Open, Close, Word, Tokens, before, is_blank, is_comment_after, is_of_word, prefixed, tokens_from, tokens_of, with_byte}
+use Rattle.p3_task.specs.Watching.{LineText, Empty, OneStep, Offends, earlier_by, line_by, line_offence, line_text, open_behind, second_step, step_in}
 
 -- ---- tokens
 

@@ -1,10 +1,10 @@
 -- How far a text is followed.
 use Rattle.std.specs.Prelude.{◌≡◌, ℕ, List, ◌++◌, drop, Option}
 use Rattle.p3_base.specs.Outside.{IsPut}
-use Rattle.p3_tree.specs.Plans.{Plan}
+use Rattle.p3_task.specs.Plans.{Plan}
 use Rattle.p3_tree.specs.Reports.Watching.{blocks, watch_lines}
-use Rattle.p3_tree.specs.Watching.{lines_from}
-use Rattle.p3_tree.specs.declared.task.Task.{Task}
+use Rattle.p3_task.specs.Watching.{lines_from}
+use Rattle.p3_task.specs.declared.task.Task.{Task}
 use Rattle.p3_ground.specs.PlansByNumber.{AreNumbers}
 use Rattle.p3_run.specs.Runs.{Ran}
 

@@ -1,12 +1,12 @@
 -- What is answered to a line of a plan that is followed.
 use Rattle.std.specs.Prelude.{◌≡◌, ℕ, ◌+◌, ◌≤◌, List, length, Option, None, Some}
 use Rattle.std.specs.List.{All, Contains}
-use Rattle.p3_tree.specs.Plans.{Plan}
-use Rattle.p3_tree.specs.Validity.{AtStep}
-use Rattle.p3_tree.specs.StepNumbers.{HasNumber}
-use Rattle.p3_tree.specs.Watching.{Answer, Blank, Taken, Unfit, Refused, LineText, Offends, Empty, OneStep, Piece, answer_by, answer_to, line_text, taken_after}
-use Rattle.p3_tree.specs.declared.task.Step.{Step}
-use Rattle.p3_tree.specs.declared.task.Task.{Task}
+use Rattle.p3_task.specs.Plans.{Plan}
+use Rattle.p3_task.specs.Validity.{AtStep}
+use Rattle.p3_task.specs.StepNumbers.{HasNumber}
+use Rattle.p3_task.specs.Watching.{Answer, Blank, Taken, Unfit, Refused, LineText, Offends, Empty, OneStep, Piece, answer_by, answer_to, line_text, taken_after}
+use Rattle.p3_task.specs.declared.task.Step.{Step}
+use Rattle.p3_task.specs.declared.task.Task.{Task}
 use Rattle.p3_types.specs.declared.finding.Found.{Found}
 use Rattle.p3_types.specs.declared.finding.Found.TheVariants.{Number, UnknownAction, Arguments}
 use Rattle.p3_formula.specs.declared.task.GroundTask.{GroundTask}

@@ -4,7 +4,7 @@ ghost use Rattle.std.specs.Prelude.{◌≤◌, OnErr, OnOk, length};
 ghost use Rattle.p3_base.specs.Outside.{IsPartlyPut, IsPut, Rose};
 ghost use Rattle.p3_tree.specs.Reports.Refusals.{refusal_line};
 ghost use Rattle.p3_tree.specs.Reports.Watching.{block, moved};
-ghost use Rattle.p3_tree.specs.Sides.{plan_byte_limit};
+ghost use Rattle.p3_task.specs.Sides.{plan_byte_limit};
 ghost use Rattle.p3_watch.specs.Lines.{IsInLine, IsToldThere};
 ghost use Rattle.p3_watch.specs.Watching.{OfAnswer};
 

@@ -2,7 +2,7 @@
 
 ghost use Rattle.std.specs.Prelude.{◌≡◌, ◌≤◌, None, OnErr, OnOk};
 ghost use Rattle.p3_base.specs.Outside.{IsPartlyPut, IsPut, Rose};
-ghost use Rattle.p3_tree.specs.Refusals.First.{task_refusal};
+ghost use Rattle.p3_task.specs.Refusals.First.{task_refusal};
 ghost use Rattle.p3_tree.specs.Reports.Plans.{evaluated_lines};
 ghost use Rattle.p3_tree.specs.Reports.Watching.{judged_lines};
 ghost use Rattle.p3_eval.specs.Runs.{BelongTogether, OfRun};

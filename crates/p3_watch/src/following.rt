@@ -3,10 +3,10 @@
 ghost use Rattle.std.specs.Prelude.{◌≡◌, ◌≤◌, [], ◌++◌, length, IfOk, OnOk};
 ghost use Rattle.std.specs.List.{cons_option};
 ghost use Rattle.p3_base.specs.Outside.{IsPartlyPut, Rose, with_put};
-ghost use Rattle.p3_tree.specs.Limits.{step_count};
+ghost use Rattle.p3_task.specs.Limits.{step_count};
 ghost use Rattle.p3_tree.specs.Reports.Watching.{watch_lines};
-ghost use Rattle.p3_tree.specs.Sides.{plan_byte_limit, step_count_limit};
-ghost use Rattle.p3_tree.specs.Watching.{line_text, lines_of};
+ghost use Rattle.p3_task.specs.Sides.{plan_byte_limit, step_count_limit};
+ghost use Rattle.p3_task.specs.Watching.{line_text, lines_of};
 ghost use Rattle.p3_watch.specs.Watching.{
   AreLinesAsked,
   AreLinesNumbered,

@@ -1,9 +1,9 @@
 //! What is found of a run, as reports and lines want it.
 
 ghost use Rattle.std.specs.Prelude.{◌≡◌, None, pos};
-ghost use Rattle.p3_tree.specs.Costs.{cost_places as places_of_costs};
-ghost use Rattle.p3_tree.specs.Metrics.{cost, metric_places as places_of};
-ghost use Rattle.p3_tree.specs.Refusals.First.{task_refusal};
+ghost use Rattle.p3_task.specs.Costs.{cost_places as places_of_costs};
+ghost use Rattle.p3_task.specs.Metrics.{cost, metric_places as places_of};
+ghost use Rattle.p3_task.specs.Refusals.First.{task_refusal};
 ghost use Rattle.p3_reports.specs.Faults.{fault_named};
 ghost use Rattle.p3_reports.specs.Contents.{IsQuantity};
 ghost use Rattle.p3_eval.specs.Judged.{fault_in};

@@ -2,11 +2,11 @@
 
 ghost use Rattle.std.specs.Prelude.{◌≡◌, ◌≤◌, [], ◌∷◌, None, length, IfOk, IsTrue};
 ghost use Rattle.p3_base.specs.declared.refusal.Code.TheVariants.{TooManySteps};
-ghost use Rattle.p3_tree.specs.Limits.{step_count};
-ghost use Rattle.p3_tree.specs.PlanTexts.{IsPlanText, refusal};
-ghost use Rattle.p3_tree.specs.Refusals.First.{task_refusal};
-ghost use Rattle.p3_tree.specs.Sides.{plan_byte_limit, step_count_limit};
-ghost use Rattle.p3_tree.specs.declared.task.Step.{Step};
+ghost use Rattle.p3_task.specs.Limits.{step_count};
+ghost use Rattle.p3_task.specs.PlanTexts.{IsPlanText, refusal};
+ghost use Rattle.p3_task.specs.Refusals.First.{task_refusal};
+ghost use Rattle.p3_task.specs.Sides.{plan_byte_limit, step_count_limit};
+ghost use Rattle.p3_task.specs.declared.task.Step.{Step};
 ghost use Rattle.p3_ground.specs.StandsFor.{StandsIn};
 ghost use Rattle.p3_metric.specs.Weighed.{HasWeights};
 ghost use Rattle.p3_run.specs.Runs.{begun};

@@ -10,27 +10,27 @@ use Rattle.std.proofs.lemmas.List.Folds.{list_all-append}
 use Rattle.std.proofs.lemmas.List.Sums.{sum_by-cons}
 use Rattle.std.proofs.lemmas.Slice.Eq.{bytes_eq-Decides}
 use Rattle.p3_base.specs.Words.{are_different}
-use Rattle.p3_tree.specs.Names.{Name, same_name, has_name}
-use Rattle.p3_tree.specs.States as named
-use Rattle.p3_tree.specs.States.{has_fact, start, initial_fact, same_fact}
-use Rattle.p3_tree.specs.Costs.{increases, total}
-use Rattle.p3_tree.specs.Plans as plans
-use Rattle.p3_tree.specs.Plans.{Plan, action_named, arguments, step_cost, fits, state_after, steps_fit, visited, last_state}
-use Rattle.p3_tree.specs.Bindings.{are_arguments}
-use Rattle.p3_tree.specs.Goals.{hard_holds}
-use Rattle.p3_tree.specs.Constraints.{hard_list}
-use Rattle.p3_tree.specs.Validity.{Valid, is_valid, is_met, goal_holds}
-use Rattle.p3_tree.proofs.Computes.{trees_compute}
-use Rattle.p3_tree.proofs.MeaningLemmas.{hard_modals-Both, increases-All}
-use Rattle.p3_tree.proofs.PlanLemmas.{fit_from, state_from, steps_fit-walk, last_state-walk}
-use Rattle.p3_tree.specs.declared.effect.Effect.{Effect}
-use Rattle.p3_tree.specs.declared.effect.Effect.TheVariants as effect
-use Rattle.p3_tree.specs.declared.effect.Amount.{Amount}
-use Rattle.p3_tree.specs.declared.effect.Amount.TheVariants as amount
-use Rattle.p3_tree.specs.declared.effect.Numeral.{Numeral}
-use Rattle.p3_tree.specs.declared.task.Action.{Action}
-use Rattle.p3_tree.specs.declared.task.Step.{Step}
-use Rattle.p3_tree.specs.declared.task.Task.{Task}
+use Rattle.p3_task.specs.Names.{Name, same_name, has_name}
+use Rattle.p3_task.specs.States as named
+use Rattle.p3_task.specs.States.{has_fact, start, initial_fact, same_fact}
+use Rattle.p3_task.specs.Costs.{increases, total}
+use Rattle.p3_task.specs.Plans as plans
+use Rattle.p3_task.specs.Plans.{Plan, action_named, arguments, step_cost, fits, state_after, steps_fit, visited, last_state}
+use Rattle.p3_task.specs.Bindings.{are_arguments}
+use Rattle.p3_task.specs.Goals.{hard_holds}
+use Rattle.p3_task.specs.Constraints.{hard_list}
+use Rattle.p3_task.specs.Validity.{Valid, is_valid, is_met, goal_holds}
+use Rattle.p3_task.proofs.Computes.{trees_compute}
+use Rattle.p3_task.proofs.MeaningLemmas.{hard_modals-Both, increases-All}
+use Rattle.p3_task.proofs.PlanLemmas.{fit_from, state_from, steps_fit-walk, last_state-walk}
+use Rattle.p3_task.specs.declared.effect.Effect.{Effect}
+use Rattle.p3_task.specs.declared.effect.Effect.TheVariants as effect
+use Rattle.p3_task.specs.declared.effect.Amount.{Amount}
+use Rattle.p3_task.specs.declared.effect.Amount.TheVariants as amount
+use Rattle.p3_task.specs.declared.effect.Numeral.{Numeral}
+use Rattle.p3_task.specs.declared.task.Action.{Action}
+use Rattle.p3_task.specs.declared.task.Step.{Step}
+use Rattle.p3_task.specs.declared.task.Task.{Task}
 use Rattle.p3_formula.specs.Forms.{State, is_set, truth}
 use Rattle.p3_formula.proofs.NextLaws.{length-after}
 use Rattle.p3_formula.specs.Targets as target
@@ -40,13 +40,13 @@ use Rattle.p3_formula.specs.declared.form.Form.{Form}
 use Rattle.p3_formula.specs.declared.form.Form.TheVariants as form
 use Rattle.p3_formula.specs.declared.target.Target.{Target}
 use Rattle.p3_formula.specs.declared.target.TargetAction.{TargetAction}
-use Rattle.p3_tree.specs.Costs.{effect_cost, amount_value, cost_places, amount_numeral, value_numeral, amount_numerals, value_numerals, initial_cost, given_value}
-use Rattle.p3_tree.specs.Metrics.{cost, value, quantity}
+use Rattle.p3_task.specs.Costs.{effect_cost, amount_value, cost_places, amount_numeral, value_numeral, amount_numerals, value_numerals, initial_cost, given_value}
+use Rattle.p3_task.specs.Metrics.{cost, value, quantity}
 use Rattle.p3_writer.specs.TaskOf as written
 use Rattle.p3_writer.specs.TaskOf.{task_of, trees_of, word, literal, under, change_of, increase_of, true_entry}
 use Rattle.p3_writer.specs.Written.{bare, names_in}
-use Rattle.p3_tree.proofs.OnceLemmas.{AreOnce, once_behind}
-use Rattle.p3_tree.proofs.OnceLemmas.{Some-injective, find_found}
+use Rattle.p3_task.proofs.OnceLemmas.{AreOnce, once_behind}
+use Rattle.p3_task.proofs.OnceLemmas.{Some-injective, find_found}
 use Rattle.p3_writer.proofs.WrittenForms as forms
 use Rattle.p3_writer.proofs.WrittenForms.{atom, IsSame}
 use Rattle.p3_writer.proofs.WrittenSteps.{next_same}

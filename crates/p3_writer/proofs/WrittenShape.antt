@@ -7,24 +7,24 @@ use Rattle.std.proofs.lemmas.Option.{slice_get-get_or}
 use Rattle.std.proofs.lemmas.Slice.Eq.{bytes_eq-Decides}
 use mathlib.Core.Former.{Count}
 use Rattle.p3_base.specs.Words.{are_different, total_cost}
-use Rattle.p3_tree.specs.Names.{Name, same_name, has_name, is_empty}
-use Rattle.p3_tree.specs.Uses.{Use, Objects, formula_uses, effect_uses, goal_uses, constraint_uses, num_uses, header_uses, action_uses, init_uses, domain_uses, problem_uses}
-use Rattle.p3_tree.specs.Offences.{WellFormed, unless, repeated_after, repeated, repeated_variables, repeated_values, header_words, action_words, header_named, unknown_words, miscounted, clashing, domain_duplicates, problem_duplicates, domain_unknowns, problem_unknowns, domain_miscounts, problem_miscounts, domain_clashes, problem_clashes}
-use Rattle.p3_tree.specs.Lifting.{Plain, IsVariableFree, is_plain, is_variable_free, prefers, is_formula_variable_free, is_effect_variable_free, is_goal_variable_free, is_action_variable_free}
-use Rattle.p3_tree.proofs.Computes.{trees_compute}
-use Rattle.p3_tree.proofs.ShapeLemmas.{formula_uses-And, formula_uses-Or, effect_uses-All, goal_uses-Both, constraint_uses-Both, constrains-Both, prefers-Both, is_formula_variable_free-And, is_formula_variable_free-Or, is_effect_variable_free-All, is_goal_variable_free-Both, is_constraint_variable_free-Both}
-use Rattle.p3_tree.specs.declared.term.Ref.{Ref}
-use Rattle.p3_tree.specs.declared.effect.Effect.{Effect}
-use Rattle.p3_tree.specs.declared.effect.Effect.TheVariants as effect
-use Rattle.p3_tree.specs.declared.effect.Amount.TheVariants as amount
-use Rattle.p3_tree.specs.declared.goal.PreGoal.TheVariants as goal
-use Rattle.p3_tree.specs.declared.constraint.Constraint.TheVariants as constraint
-use Rattle.p3_tree.specs.declared.metric.Num.TheVariants as num
-use Rattle.p3_tree.specs.declared.task.Init.TheVariants as init
-use Rattle.p3_tree.specs.declared.task.Action.{Action}
-use Rattle.p3_tree.specs.declared.task.Header.{Header}
-use Rattle.p3_tree.specs.declared.task.Init.{Init}
-use Rattle.p3_tree.specs.declared.task.Task.{Task}
+use Rattle.p3_task.specs.Names.{Name, same_name, has_name, is_empty}
+use Rattle.p3_task.specs.Uses.{Use, Objects, formula_uses, effect_uses, goal_uses, constraint_uses, num_uses, header_uses, action_uses, init_uses, domain_uses, problem_uses}
+use Rattle.p3_task.specs.Offences.{WellFormed, unless, repeated_after, repeated, repeated_variables, repeated_values, header_words, action_words, header_named, unknown_words, miscounted, clashing, domain_duplicates, problem_duplicates, domain_unknowns, problem_unknowns, domain_miscounts, problem_miscounts, domain_clashes, problem_clashes}
+use Rattle.p3_task.specs.Lifting.{Plain, IsVariableFree, is_plain, is_variable_free, prefers, is_formula_variable_free, is_effect_variable_free, is_goal_variable_free, is_action_variable_free}
+use Rattle.p3_task.proofs.Computes.{trees_compute}
+use Rattle.p3_task.proofs.ShapeLemmas.{formula_uses-And, formula_uses-Or, effect_uses-All, goal_uses-Both, constraint_uses-Both, constrains-Both, prefers-Both, is_formula_variable_free-And, is_formula_variable_free-Or, is_effect_variable_free-All, is_goal_variable_free-Both, is_constraint_variable_free-Both}
+use Rattle.p3_task.specs.declared.term.Ref.{Ref}
+use Rattle.p3_task.specs.declared.effect.Effect.{Effect}
+use Rattle.p3_task.specs.declared.effect.Effect.TheVariants as effect
+use Rattle.p3_task.specs.declared.effect.Amount.TheVariants as amount
+use Rattle.p3_task.specs.declared.goal.PreGoal.TheVariants as goal
+use Rattle.p3_task.specs.declared.constraint.Constraint.TheVariants as constraint
+use Rattle.p3_task.specs.declared.metric.Num.TheVariants as num
+use Rattle.p3_task.specs.declared.task.Init.TheVariants as init
+use Rattle.p3_task.specs.declared.task.Action.{Action}
+use Rattle.p3_task.specs.declared.task.Header.{Header}
+use Rattle.p3_task.specs.declared.task.Init.{Init}
+use Rattle.p3_task.specs.declared.task.Task.{Task}
 use Rattle.p3_formula.specs.Folds.{fold_forms}
 use Rattle.p3_formula.specs.Forms.{has_atoms, within_layer}
 use Rattle.p3_formula.specs.Targets.{IsSized, IsWellNamed, is_sized_action}
@@ -36,9 +36,9 @@ use Rattle.p3_formula.specs.declared.target.TargetAction.{TargetAction}
 use Rattle.p3_writer.specs.TaskOf as written
 use Rattle.p3_writer.specs.TaskOf.{Trees, task_of, trees_of, trees_layer, word, header, literal, under, change_of, increase_of, true_entry}
 use Rattle.p3_writer.specs.Written.{IsWritten}
-use Rattle.p3_tree.proofs.OnceLemmas.{map_at}
-use Rattle.p3_tree.proofs.FineUses.{declares, IsFine, AllFine, fine_append, no_offence, right_count, no_clash}
-use Rattle.p3_tree.proofs.FineUses.{NoObjects, NoVariables, IsAtom, IsCost}
+use Rattle.p3_task.proofs.OnceLemmas.{map_at}
+use Rattle.p3_task.proofs.FineUses.{declares, IsFine, AllFine, fine_append, no_offence, right_count, no_clash}
+use Rattle.p3_task.proofs.FineUses.{NoObjects, NoVariables, IsAtom, IsCost}
 use Rattle.p3_writer.proofs.WrittenForms.{are_below}
 use Rattle.p3_writer.proofs.WrittenSteps.{is_change_below}
 use Rattle.p3_writer.proofs.WrittenPlans.{has_where, no_initial, whole, valid_is, value_is, bare_steps}

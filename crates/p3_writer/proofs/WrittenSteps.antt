@@ -5,24 +5,24 @@ use Rattle.std.specs.List.{list_any, list_all}
 use Rattle.std.specs.Bool.{Decides, one_answer}
 use Rattle.std.proofs.lemmas.Bool.{and_parts, and_right, ltb-true}
 use Rattle.std.proofs.Math.Bool.{and-true, or-false}
-use Rattle.p3_tree.specs.declared.effect.Amount.{Amount}
-use Rattle.p3_tree.specs.declared.effect.Amount.TheVariants as amount
+use Rattle.p3_task.specs.declared.effect.Amount.{Amount}
+use Rattle.p3_task.specs.declared.effect.Amount.TheVariants as amount
 use Rattle.std.proofs.lemmas.Bool.Decides.{Decides-eqb}
 use Rattle.std.proofs.lemmas.List.Folds.{list_any-append}
 use Rattle.std.proofs.lemmas.Option.{slice_get-get_or}
-use Rattle.p3_tree.specs.Names.{Name}
-use Rattle.p3_tree.specs.States as named
-use Rattle.p3_tree.specs.States.{has_fact, same_fact}
-use Rattle.p3_tree.specs.Formulas.{holds}
-use Rattle.p3_tree.specs.Effects.{adds, dels, next}
-use Rattle.p3_tree.proofs.Computes.{trees_compute}
-use Rattle.p3_tree.proofs.MeaningLemmas.{adds-All, dels-All}
-use Rattle.p3_tree.proofs.StateLemmas.{same_fact-Decides, has_fact-next}
-use Rattle.p3_tree.specs.declared.state.Fact.{Fact}
-use Rattle.p3_tree.specs.declared.effect.Effect.{Effect}
-use Rattle.p3_tree.specs.declared.effect.Effect.TheVariants as effect
-use Rattle.p3_tree.specs.declared.formula.Formula.{Formula}
-use Rattle.p3_tree.specs.declared.task.Task.{Task}
+use Rattle.p3_task.specs.Names.{Name}
+use Rattle.p3_task.specs.States as named
+use Rattle.p3_task.specs.States.{has_fact, same_fact}
+use Rattle.p3_task.specs.Formulas.{holds}
+use Rattle.p3_task.specs.Effects.{adds, dels, next}
+use Rattle.p3_task.proofs.Computes.{trees_compute}
+use Rattle.p3_task.proofs.MeaningLemmas.{adds-All, dels-All}
+use Rattle.p3_task.proofs.StateLemmas.{same_fact-Decides, has_fact-next}
+use Rattle.p3_task.specs.declared.state.Fact.{Fact}
+use Rattle.p3_task.specs.declared.effect.Effect.{Effect}
+use Rattle.p3_task.specs.declared.effect.Effect.TheVariants as effect
+use Rattle.p3_task.specs.declared.formula.Formula.{Formula}
+use Rattle.p3_task.specs.declared.task.Task.{Task}
 use Rattle.p3_formula.specs.Forms.{State, truth}
 use Rattle.p3_formula.specs.Next.{after}
 use Rattle.p3_formula.proofs.NextLaws.{is_set-after}
@@ -31,7 +31,7 @@ use Rattle.p3_formula.specs.declared.form.Form.{Form}
 use Rattle.p3_formula.specs.declared.form.Form.TheVariants as form
 use Rattle.p3_formula.proofs.FormLemmas.{truth-True}
 use Rattle.p3_writer.specs.TaskOf.{literal, under, change_of, increase_of}
-use Rattle.p3_tree.proofs.OnceLemmas.{AreOnce}
+use Rattle.p3_task.proofs.OnceLemmas.{AreOnce}
 use Rattle.p3_writer.proofs.WrittenForms.{atom, IsSame, are_below, form_holds}
 
 abbrev pub is_change_below : ℕ → Change → Bool

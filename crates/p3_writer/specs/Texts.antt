@@ -5,13 +5,13 @@ use Rattle.p3_base.specs.Words.{Name, is_lowered, is_name, is_predicate_name}
 use Rattle.p3_formula.specs.Targets.{IsSized, action_names}
 use Rattle.p3_formula.specs.declared.form.Form.{Form}
 use Rattle.p3_formula.specs.declared.target.Target.{Target}
-use Rattle.p3_tree.specs.Erased.{erased_domain, erased_problem}
-use Rattle.p3_tree.specs.Grammar.Halves.{domain_place, problem_place}
-use Rattle.p3_tree.specs.Grammar.Texts.{IsBalanced}
-use Rattle.p3_tree.specs.Grammar.Words.{IsText}
-use Rattle.p3_tree.specs.declared.expression.Expression.{Expression}
-use Rattle.p3_tree.specs.declared.task.Domain.{Domain}
-use Rattle.p3_tree.specs.declared.task.Problem.{Problem}
+use Rattle.p3_task.specs.Erased.{erased_domain, erased_problem}
+use Rattle.p3_task.specs.Grammar.Halves.{domain_place, problem_place}
+use Rattle.p3_task.specs.Grammar.Texts.{IsBalanced}
+use Rattle.p3_task.specs.Grammar.Words.{IsText}
+use Rattle.p3_task.specs.declared.expression.Expression.{Expression}
+use Rattle.p3_task.specs.declared.task.Domain.{Domain}
+use Rattle.p3_task.specs.declared.task.Problem.{Problem}
 
 -- the names are made of lowered bytes of words
 abbrev pub AreSpelled : List Name → Type 0

@@ -1,15 +1,15 @@
 -- What the task of a target is: the law of the writer.
 use Rattle.std.specs.Prelude.{◌≡◌, pos, [], map}
-use Rattle.p3_tree.specs.Plans.{Plan}
-use Rattle.p3_tree.specs.Validity.{Valid, is_valid}
-use Rattle.p3_tree.specs.Offences.{WellFormed}
-use Rattle.p3_tree.specs.Lifting.{Plain, IsVariableFree}
-use Rattle.p3_tree.specs.declared.task.Step.{Step}
+use Rattle.p3_task.specs.Plans.{Plan}
+use Rattle.p3_task.specs.Validity.{Valid, is_valid}
+use Rattle.p3_task.specs.Offences.{WellFormed}
+use Rattle.p3_task.specs.Lifting.{Plain, IsVariableFree}
+use Rattle.p3_task.specs.declared.task.Step.{Step}
 use Rattle.p3_formula.specs.Targets.{TargetPlan, reaches_goal, target_cost}
 use Rattle.p3_formula.specs.declared.target.Target.{Target}
 use Rattle.p3_base.specs.Words.{Name}
-use Rattle.p3_tree.specs.Costs.{cost_places}
-use Rattle.p3_tree.specs.Metrics.{value}
+use Rattle.p3_task.specs.Costs.{cost_places}
+use Rattle.p3_task.specs.Metrics.{value}
 use Rattle.p3_writer.specs.TaskOf.{task_of}
 
 -- the step that does the action of that name

@@ -1,7 +1,7 @@
 //! Laws of the definitions. Each is the contract of a function without a body.
 
 ghost use Rattle.std.specs.List.{All};
-ghost use Rattle.p3_tree.specs.Unconditional.{IsUnconditional};
+ghost use Rattle.p3_task.specs.Unconditional.{IsUnconditional};
 ghost use Rattle.p3_formula.specs.Targets.{IsSized, IsWellNamed};
 ghost use Rattle.p3_formula.specs.Unconditional.{HasNoConditions};
 ghost use Rattle.p3_formula.specs.declared.target.Target.{Target};

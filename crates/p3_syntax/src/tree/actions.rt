@@ -3,7 +3,7 @@
 ghost use Rattle.std.specs.Prelude.{◌≡◌, IsSome, Some, IfOk};
 ghost use Rattle.std.specs.Option.{option_map};
 ghost use Rattle.std.specs.Str.{str_to_ascii_lowercase};
-ghost use Rattle.p3_tree.specs.Grammar.Halves.{action_in};
+ghost use Rattle.p3_task.specs.Grammar.Halves.{action_in};
 ghost use Rattle.p3_outline.specs.Nodes.{expressions_of};
 ghost use Rattle.p3_syntax.specs.Reading.{Gives};
 ghost use Rattle.p3_syntax.specs.Sections.{named_once};
@@ -17,7 +17,7 @@ use crate::tree::sections::is_named;
 use crate::tree::words::{TextWord, copied, word};
 use p3_base::{List, NoMemory};
 use p3_outline::{Parts, View};
-use p3_tree::{Action, Effect, Part, PreGoal, Ref, Typed};
+use p3_task::{Action, Effect, Part, PreGoal, Ref, Typed};
 use std::alloc::Global;
 
 /// A keyword of an action, and the part behind it.

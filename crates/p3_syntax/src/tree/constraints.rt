@@ -1,8 +1,8 @@
 //! Constraints over the visited states.
 
 ghost use Rattle.std.specs.Prelude.{IsSome};
-ghost use Rattle.p3_tree.specs.Grammar.Words.{each_at};
-ghost use Rattle.p3_tree.specs.Grammar.Constraints.{at_end_form, modal_place, single_form, constraint_place, constraint_or_empty_place};
+ghost use Rattle.p3_task.specs.Grammar.Words.{each_at};
+ghost use Rattle.p3_task.specs.Grammar.Constraints.{at_end_form, modal_place, single_form, constraint_place, constraint_or_empty_place};
 ghost use Rattle.p3_outline.specs.Nodes.{expression_of, expressions_of};
 ghost use Rattle.p3_syntax.specs.Reading.{Gives};
 ghost use Rattle.p3_syntax.specs.Trees.{both_constraints, constraint_at, constraint_by, each_constraint, modal_by, soft_constraint};
@@ -15,7 +15,7 @@ use crate::tree::words::TextWord;
 use p3_base::{Boxed, List, NoMemory};
 use p3_lexer::is;
 use p3_outline::{Parts, View};
-use p3_tree::{Constraint, Modal};
+use p3_task::{Constraint, Modal};
 use std::alloc::Global;
 
 fn at_end_form(alloc: Global, behind: Parts<'_, '_>) -> Result<Modal, NoMemory>

@@ -1,8 +1,8 @@
 //! The domain half.
 
 ghost use Rattle.std.specs.Prelude.{◌≡◌, IsSome};
-ghost use Rattle.p3_tree.specs.Grammar.Halves.{domain_place, header_place};
-ghost use Rattle.p3_tree.specs.Grammar.Words.{word_place};
+ghost use Rattle.p3_task.specs.Grammar.Halves.{domain_place, header_place};
+ghost use Rattle.p3_task.specs.Grammar.Words.{word_place};
 ghost use Rattle.p3_outline.specs.Nodes.{expression_of, expressions_of};
 ghost use Rattle.p3_syntax.specs.Reading.{Gives};
 ghost use Rattle.p3_syntax.specs.Groups.{the_item};
@@ -17,7 +17,7 @@ use crate::tree::sections::{at_most_one, constraints, is_named, named_sections};
 use crate::tree::words::{copied, name};
 use p3_base::{List, NoMemory};
 use p3_outline::{Parts, View};
-use p3_tree::{Action, Constraint, Domain, Header, Kind, Part, Ref, Typed};
+use p3_task::{Action, Constraint, Domain, Header, Kind, Part, Ref, Typed};
 use std::alloc::Global;
 
 /// A type with the type above it.

@@ -1,8 +1,8 @@
 //! Effects.
 
 ghost use Rattle.std.specs.Prelude.{IsSome, Some, IfOk, ◌≡◌};
-ghost use Rattle.p3_tree.specs.Grammar.Effects.{function_value_in, amount_place, total_cost_place, each_form, when_form, delete_form, increase_form, effect_place, effect_or_empty_place};
-ghost use Rattle.p3_tree.specs.Grammar.Formulas.{atom_in};
+ghost use Rattle.p3_task.specs.Grammar.Effects.{function_value_in, amount_place, total_cost_place, each_form, when_form, delete_form, increase_form, effect_place, effect_or_empty_place};
+ghost use Rattle.p3_task.specs.Grammar.Formulas.{atom_in};
 ghost use Rattle.p3_outline.specs.Nodes.{expression_of, expressions_of};
 ghost use Rattle.p3_syntax.specs.Reading.{Gives};
 ghost use Rattle.p3_syntax.specs.Trees.{the_word};
@@ -16,7 +16,7 @@ use crate::tree::words::{TextWord, copied, word};
 use p3_base::{Boxed, List, NoMemory};
 use p3_lexer::is;
 use p3_outline::{Parts, View};
-use p3_tree::{Amount, Effect, Ref, Term};
+use p3_task::{Amount, Effect, Ref, Term};
 use std::alloc::Global;
 
 /// The value of a function other than the total cost.

@@ -1,8 +1,8 @@
 //! Formulas.
 
 ghost use Rattle.std.specs.Prelude.{◌≡◌, IsSome};
-ghost use Rattle.p3_tree.specs.Grammar.Words.{each_at};
-ghost use Rattle.p3_tree.specs.Grammar.Formulas.{formula_place, not_form, imply_form, exists_form, forall_form, equal_form};
+ghost use Rattle.p3_task.specs.Grammar.Words.{each_at};
+ghost use Rattle.p3_task.specs.Grammar.Formulas.{formula_place, not_form, imply_form, exists_form, forall_form, equal_form};
 ghost use Rattle.p3_outline.specs.Nodes.{expression_of, expressions_of};
 ghost use Rattle.p3_syntax.specs.Reading.{Gives};
 ghost use Rattle.p3_syntax.specs.Trees.{the_word, form_at, atom_by, formula_by};
@@ -14,7 +14,7 @@ use crate::tree::words::{TextWord, copied};
 use p3_base::{Boxed, List, NoMemory};
 use p3_lexer::is;
 use p3_outline::{Parts, View};
-use p3_tree::Formula;
+use p3_task::Formula;
 use std::alloc::Global;
 
 #[tactic(auto, using(crate::proofs::TreeLemmas::raws_listed))]

@@ -1,8 +1,8 @@
 //! Preconditions and goals.
 
 ghost use Rattle.std.specs.Prelude.{◌≡◌, ◌<◌, Some, length, IfOk, IsSome};
-ghost use Rattle.p3_tree.specs.Grammar.Words.{each_at};
-ghost use Rattle.p3_tree.specs.Grammar.Goals.{goal_place, goal_or_empty_place, preferred};
+ghost use Rattle.p3_task.specs.Grammar.Words.{each_at};
+ghost use Rattle.p3_task.specs.Grammar.Goals.{goal_place, goal_or_empty_place, preferred};
 ghost use Rattle.p3_outline.specs.Nodes.{expression_of, expressions_of};
 ghost use Rattle.p3_syntax.specs.Reading.{Gives};
 ghost use Rattle.p3_syntax.specs.Trees.{each_goal, goal_by, the_named};
@@ -14,7 +14,7 @@ use crate::tree::words::{TextWord, name};
 use p3_base::{Boxed, List, NoMemory};
 use p3_lexer::is;
 use p3_outline::{Parts, View};
-use p3_tree::{PreGoal, Pref, Ref};
+use p3_task::{PreGoal, Pref, Ref};
 use std::alloc::Global;
 
 /// What stands behind the word `preference`.

@@ -1,7 +1,7 @@
 //! Lists of items with types: groups `item+ - type`, and then items without a type.
 
 ghost use Rattle.std.specs.Prelude.{◌≡◌, ◌<◌, length, None, IfSome, IsSome};
-ghost use Rattle.p3_tree.specs.Grammar.Lists.{is_dash};
+ghost use Rattle.p3_task.specs.Grammar.Lists.{is_dash};
 ghost use Rattle.p3_outline.specs.Nodes.{expression_of, expressions_of};
 ghost use Rattle.p3_syntax.specs.Groups.{GivesFirst, GivesNext, all_grouped, groups_left, groups_size, item_before, the_item};
 

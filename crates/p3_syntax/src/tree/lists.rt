@@ -1,8 +1,8 @@
 //! Terms, types, and lists of typed names.
 
 ghost use Rattle.std.specs.Prelude.{◌≡◌, [], length, IfOk, IsSome};
-ghost use Rattle.p3_tree.specs.Grammar.Words.{each_at, name_place, variable_place};
-ghost use Rattle.p3_tree.specs.Grammar.Lists.{term_place, object_place, type_place, one_type_place, variables_in, variables_place, objects_in, either_in};
+ghost use Rattle.p3_task.specs.Grammar.Words.{each_at, name_place, variable_place};
+ghost use Rattle.p3_task.specs.Grammar.Lists.{term_place, object_place, type_place, one_type_place, variables_in, variables_place, objects_in, either_in};
 ghost use Rattle.p3_outline.specs.Nodes.{expression_of, expressions_of};
 ghost use Rattle.p3_syntax.specs.Reading.{Gives};
 ghost use Rattle.p3_syntax.specs.Groups.{the_item, typed_at};
@@ -13,7 +13,7 @@ use crate::tree::words::{copied, name, word};
 use p3_base::{List, NoMemory};
 use p3_lexer::is_name;
 use p3_outline::{Parts, View};
-use p3_tree::{Ref, Term, Typed};
+use p3_task::{Ref, Term, Typed};
 use std::alloc::Global;
 
 /// An object or a variable.

@@ -1,7 +1,7 @@
 //! Metrics.
 
 ghost use Rattle.std.specs.Prelude.{IsSome, Some, ◌≡◌};
-ghost use Rattle.p3_tree.specs.Grammar.Metrics.{num_place, num_word, minus_form, direction_place, metric_in};
+ghost use Rattle.p3_task.specs.Grammar.Metrics.{num_place, num_word, minus_form, direction_place, metric_in};
 ghost use Rattle.p3_syntax.specs.Reading.{Gives};
 ghost use Rattle.p3_outline.specs.Nodes.{expression_of, expressions_of};
 ghost use Rattle.p3_syntax.specs.Metrics.{num_at, num_by, violated_at, nums_at};
@@ -13,7 +13,7 @@ use crate::tree::words::{TextWord, name, word};
 use p3_base::{Boxed, Direction, List, NoMemory};
 use p3_lexer::is;
 use p3_outline::{Parts, View};
-use p3_tree::{Metric, Num};
+use p3_task::{Metric, Num};
 use std::alloc::Global;
 
 /// A number, or the total cost without parentheses.

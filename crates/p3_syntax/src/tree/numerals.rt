@@ -3,16 +3,16 @@
 ghost use Rattle.std.specs.Prelude.{◌≡◌, ◌<◌, ◌^◌, true, fold, length, is_ok, IsSome, Some, None, MatchOption, IfSome};
 ghost use Rattle.std.specs.Option.{SomeIff};
 ghost use Rattle.std.specs.Str.{str_to_ascii_lowercase};
-ghost use Rattle.p3_tree.specs.Decimals.{at_point, is_decimal, digits_of, places_of};
-ghost use Rattle.p3_tree.specs.Grammar.Words.{numeral_place};
-ghost use Rattle.p3_tree.specs.declared.expression.Expression.TheVariants.{Word};
+ghost use Rattle.p3_task.specs.Decimals.{at_point, is_decimal, digits_of, places_of};
+ghost use Rattle.p3_task.specs.Grammar.Words.{numeral_place};
+ghost use Rattle.p3_task.specs.declared.expression.Expression.TheVariants.{Word};
 ghost use Rattle.p3_outline.specs.Nodes.{expression_of};
 ghost use Rattle.p3_syntax.specs.Reading.{Gives};
 ghost use Rattle.p3_syntax.specs.Trees.{HasRoom, HasRoomAt, HasRoomFor, IsDecimalOf, decimal_value, numeral_with, with_digit};
 
 use p3_base::NoMemory;
 use p3_outline::View;
-use p3_tree::Numeral;
+use p3_task::Numeral;
 
 /// The bytes before the first point, and those behind it where there is one.
 fn at_point(word: &[u8]) -> (&[u8], Option<&[u8]>)

@@ -1,7 +1,7 @@
 //! The parts of lists.
 
 ghost use Rattle.std.specs.Prelude.{◌≡◌, ◌<◌, ◌≤◌, length, IsSome, Some};
-ghost use Rattle.p3_tree.specs.Grammar.Words.{parts_place, only, pair, headed};
+ghost use Rattle.p3_task.specs.Grammar.Words.{parts_place, only, pair, headed};
 ghost use Rattle.p3_outline.specs.Nodes.{expression_of, expressions_of};
 ghost use Rattle.p3_syntax.specs.Trees.{the_pair, the_head};
 

@@ -1,8 +1,8 @@
 //! The problem half.
 
 ghost use Rattle.std.specs.Prelude.{◌≡◌, IsSome};
-ghost use Rattle.p3_tree.specs.Grammar.Words.{each_at};
-ghost use Rattle.p3_tree.specs.Grammar.Halves.{true_entry, false_entry, not_form, value_form, init_place, problem_place};
+ghost use Rattle.p3_task.specs.Grammar.Words.{each_at};
+ghost use Rattle.p3_task.specs.Grammar.Halves.{true_entry, false_entry, not_form, value_form, init_place, problem_place};
 ghost use Rattle.p3_outline.specs.Nodes.{expression_of, expressions_of};
 ghost use Rattle.p3_syntax.specs.Reading.{Gives};
 ghost use Rattle.p3_syntax.specs.Sections.{the_sections};
@@ -18,7 +18,7 @@ use crate::tree::words::{copied, name};
 use p3_base::{List, NoMemory};
 use p3_lexer::is;
 use p3_outline::{Parts, View};
-use p3_tree::{Constraint, Init, Metric, Numeral, Part, PreGoal, Problem, Ref, Typed};
+use p3_task::{Constraint, Init, Metric, Numeral, Part, PreGoal, Problem, Ref, Typed};
 use std::alloc::Global;
 
 /// An atom that is true.

@@ -2,8 +2,8 @@
 
 ghost use Rattle.std.specs.Prelude.{◌≡◌, IsSome, Some, IfOk};
 ghost use Rattle.std.specs.Str.{str_to_ascii_lowercase};
-ghost use Rattle.p3_tree.specs.Names.{same_name};
-ghost use Rattle.p3_tree.specs.Grammar.Halves.{section_place};
+ghost use Rattle.p3_task.specs.Names.{same_name};
+ghost use Rattle.p3_task.specs.Grammar.Halves.{section_place};
 ghost use Rattle.p3_outline.specs.Nodes.{expression_of};
 ghost use Rattle.p3_syntax.specs.Reading.{Gives};
 ghost use Rattle.p3_syntax.specs.Sections.{the_section, the_sections, the_half, half_place, each_section, the_found, named_once, only_named, constraints_among};
@@ -14,7 +14,7 @@ use crate::tree::words::name;
 use p3_base::{List, NoMemory};
 use p3_lexer::is;
 use p3_outline::{Parts, View};
-use p3_tree::{Constraint, Part, Ref};
+use p3_task::{Constraint, Part, Ref};
 use std::alloc::Global;
 
 /// A section.

@@ -1,14 +1,14 @@
 //! Words at their places.
 
 ghost use Rattle.std.specs.Prelude.{◌≡◌, IfOk, IsSome, Some};
-ghost use Rattle.p3_tree.specs.Grammar.Words.{word_place};
+ghost use Rattle.p3_task.specs.Grammar.Words.{word_place};
 ghost use Rattle.p3_outline.specs.Nodes.{expression_of};
 ghost use Rattle.p3_syntax.specs.Reading.{Gives};
 ghost use Rattle.p3_syntax.specs.Trees.{the_word};
 
 use p3_base::{Name, NoMemory};
 use p3_outline::View;
-use p3_tree::Ref;
+use p3_task::Ref;
 use std::alloc::Global;
 
 /// A word as it stands in the text.

@@ -6,28 +6,19 @@ use Rattle.p3_base.specs.declared.showing.Showing.{Showing}
 use Rattle.p3_base.specs.declared.showing.Showing.TheVariants.{Holds, HoldsAt, HoldsNowhere, FailsAt, Again}
 use Rattle.p3_base.specs.declared.showing.Subject.{Subject}
 use Rattle.p3_base.specs.declared.showing.Subject.TheVariants.{Hard, Soft, Pre}
-use Rattle.p3_tree.specs.Names.{Name}
-use Rattle.p3_tree.specs.Goals.{StatePref}
-use Rattle.p3_tree.specs.Plans.{Plan}
-use Rattle.p3_tree.specs.Constraints.{Instance, instances}
-use Rattle.p3_tree.specs.Explanations.{reasons}
-use Rattle.p3_tree.specs.Metrics.{step_prefs}
-use Rattle.p3_tree.specs.Validity.{Fault, first_fault}
+use Rattle.p3_task.specs.Names.{Name}
+use Rattle.p3_task.specs.Plans.{Plan}
+use Rattle.p3_task.specs.Explanations.{instance_name, pref_name, reasons}
+use Rattle.p3_task.specs.Validity.{Fault, first_fault}
 use Rattle.p3_tree.specs.Reports.Lines.{line}
 use Rattle.p3_tree.specs.Reports.Plans.{fault_line}
-use Rattle.p3_tree.specs.declared.task.Step.{Step}
-use Rattle.p3_tree.specs.declared.task.Task.{Task}
+use Rattle.p3_task.specs.declared.task.Step.{Step}
+use Rattle.p3_task.specs.declared.task.Task.{Task}
 
 -- the name of a preference, or `-` for an unnamed one
 abbrev pub shown_name : Option Name → List ℕ
 shown_name None = codes "-"
 shown_name (Some name) = name
-
-abbrev pub instance_name : Task → ℕ → Option Name
-instance_name T number = option_and_then (λ (instance : Instance). instance.name) (slice_get (instances T) number)
-
-abbrev pub pref_name : Task → Step → ℕ → Option Name
-pref_name T step number = option_and_then (λ (pref : StatePref). pref.name) (slice_get (step_prefs T step) number)
 
 -- the name of a preference of a step that is counted from 1
 abbrev pub name_in_step : Task → Plan → ℕ → ℕ → Option Name

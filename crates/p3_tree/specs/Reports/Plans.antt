@@ -2,16 +2,16 @@
 use Rattle.std.specs.Prelude.{ℕ, pos, List, ◌++◌, flat_map, length, codes}
 use Rattle.std.specs.Fmt.{decimal, signed_decimal}
 use Rattle.std.specs.Prelude.{ℤ}
-use Rattle.p3_tree.specs.PreferenceNames.{ordered_names}
-use Rattle.p3_tree.specs.Costs.{cost_places}
-use Rattle.p3_tree.specs.Plans.{Plan}
-use Rattle.p3_tree.specs.Validity.{Misfit, UnknownAction, Arguments, Precondition, NoCost, Fault, AtStep, AtGoal, AtConstraint}
-use Rattle.p3_tree.specs.Metrics.{violated, cost, metric_places, value}
-use Rattle.p3_tree.specs.Limits.{step_count, instance_count}
+use Rattle.p3_task.specs.PreferenceNames.{ordered_names}
+use Rattle.p3_task.specs.Costs.{cost_places}
+use Rattle.p3_task.specs.Plans.{Plan}
+use Rattle.p3_task.specs.Validity.{Misfit, UnknownAction, Arguments, Precondition, NoCost, Fault, AtStep, AtGoal, AtConstraint}
+use Rattle.p3_task.specs.Metrics.{violated, cost, metric_places, value}
+use Rattle.p3_task.specs.Limits.{step_count, instance_count}
 use Rattle.p3_tree.specs.Reports.Lines.{line, entry}
 use Rattle.p3_tree.specs.Reports.Quantities.{shown_quantity}
 use Rattle.p3_tree.specs.Reports.Tasks.{compiled_lines}
-use Rattle.p3_tree.specs.declared.task.Task.{Task}
+use Rattle.p3_task.specs.declared.task.Task.{Task}
 
 abbrev pub steps_line : ℕ → List ℕ
 steps_line count = entry (codes "steps") (decimal count)

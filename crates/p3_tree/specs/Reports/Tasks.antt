@@ -3,11 +3,11 @@ use Rattle.std.specs.Prelude.{ℕ, ◌==◌, List, [], ◌++◌, codes, if◌the
 use Rattle.std.specs.Fmt.{decimal}
 use Rattle.p3_base.specs.declared.refusal.Direction.{Direction}
 use Rattle.p3_base.specs.declared.refusal.Direction.TheVariants.{Minimize, Maximize}
-use Rattle.p3_tree.specs.Limits.{step_count, instance_count}
-use Rattle.p3_tree.specs.Metrics.{metric_places, scale, base_loss, direction}
+use Rattle.p3_task.specs.Limits.{step_count, instance_count}
+use Rattle.p3_task.specs.Metrics.{metric_places, scale, base_loss, direction}
 use Rattle.p3_tree.specs.Reports.Lines.{entry}
 use Rattle.p3_tree.specs.Reports.Quantities.{shown_quantity}
-use Rattle.p3_tree.specs.declared.task.Task.{Task}
+use Rattle.p3_task.specs.declared.task.Task.{Task}
 
 abbrev pub direction_name : Direction → List ℕ
 direction_name Minimize = codes "minimize"

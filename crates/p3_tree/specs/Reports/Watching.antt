@@ -1,12 +1,12 @@
 -- What `watch` prints: behind each line of a plan text what that line comes to.
 use Rattle.std.specs.Prelude.{ℕ, ◌+◌, List, [], ◌∷◌, ◌++◌, length, Option, Some, None}
 use Rattle.p3_base.specs.declared.refusal.Refusal.{Refusal}
-use Rattle.p3_tree.specs.Plans.{Plan}
-use Rattle.p3_tree.specs.Validity.{Fault, AtStep, first_fault}
-use Rattle.p3_tree.specs.Watching.{Answer, Blank, Taken, Unfit, Refused, Piece, answer_to, lines_of, taken_after}
+use Rattle.p3_task.specs.Plans.{Plan}
+use Rattle.p3_task.specs.Validity.{Fault, AtStep, first_fault}
+use Rattle.p3_task.specs.Watching.{Answer, Blank, Taken, Unfit, Refused, Piece, answer_to, lines_of, taken_after}
 use Rattle.p3_tree.specs.Reports.Plans.{evaluated_lines, fault_line}
 use Rattle.p3_tree.specs.Reports.Refusals.{refusal_line}
-use Rattle.p3_tree.specs.declared.task.Task.{Task}
+use Rattle.p3_task.specs.declared.task.Task.{Task}
 
 -- what `evaluate` prints of the plan: its value where it is valid, and else its first fault
 abbrev pub judged_by : Task → Plan → Option Fault → List ℕ

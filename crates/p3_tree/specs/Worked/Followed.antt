@@ -1,15 +1,15 @@
 -- Worked lines of plans that are explained and followed.
 use Rattle.std.specs.Prelude.{◌≡◌, ℕ, List, [], ◌∷◌, ◌++◌, codes}
 use Prim.Native.String.{String}
-use Rattle.p3_tree.specs.Worked.Build.{facts, bare_steps}
+use Rattle.p3_task.specs.Worked.Build.{facts, bare_steps}
 use Rattle.p3_tree.specs.Worked.Refusals.{text_of}
-use Rattle.p3_tree.specs.Worked.Steps.{both_changes, once_only}
-use Rattle.p3_tree.specs.Worked.Preferences.{three_places}
-use Rattle.p3_tree.specs.Worked.Trajectories.{switched, answered}
-use Rattle.p3_tree.specs.declared.task.Task.{Task}
+use Rattle.p3_task.specs.Worked.Steps.{both_changes, once_only}
+use Rattle.p3_task.specs.Worked.Preferences.{three_places}
+use Rattle.p3_task.specs.Worked.Trajectories.{switched, answered}
+use Rattle.p3_task.specs.declared.task.Task.{Task}
 use Rattle.p3_tree.specs.Reports.Explanations.{explained_lines}
 use Rattle.p3_tree.specs.Reports.Watching.{watch_lines}
-use Rattle.p3_tree.specs.Watching.{lines_of}
+use Rattle.p3_task.specs.Watching.{lines_of}
 
 abbrev pub Explains : Task → List String → List String → Type 0
 Explains T names lines = explained_lines T (bare_steps names) ≡ text_of lines

@@ -1,9 +1,9 @@
 -- Worked lines: what is printed of tasks and of their plans, and the words of a command line.
 use Rattle.std.specs.Prelude.{◌≡◌, ℕ, pos, List, [], ◌∷◌, map, codes, Option, Some, None, option_map}
 use Prim.Native.String.{String}
-use Rattle.p3_tree.specs.Plans.{Plan}
-use Rattle.p3_tree.specs.Faithful.{extra}
-use Rattle.p3_tree.specs.PlanTexts.{IsPlanText}
+use Rattle.p3_task.specs.Plans.{Plan}
+use Rattle.p3_task.specs.Faithful.{extra}
+use Rattle.p3_task.specs.PlanTexts.{IsPlanText}
 use Rattle.p3_tree.specs.Commands.{Command, command_of}
 use Rattle.p3_tree.specs.declared.command.CommandKind.{CommandKind}
 use Rattle.p3_tree.specs.declared.command.CommandKind.TheVariants.{Compile, Lift, Embed, Evaluate, Generate, CompileFlat, Explain, Watch}
@@ -11,7 +11,7 @@ use Rattle.p3_tree.specs.Reports.Lines.{usage_lines}
 use Rattle.p3_tree.specs.Reports.Tasks.{compiled_lines}
 use Rattle.p3_tree.specs.Reports.Plans.{evaluated_lines, generated_lines}
 use Rattle.p3_tree.specs.Samples.{sample_domain, sample_problem, sample_plan}
-use Rattle.p3_tree.specs.Worked.Build.{step}
+use Rattle.p3_task.specs.Worked.Build.{step}
 use Rattle.p3_tree.specs.Worked.Refusals.{text_of, task_of_texts, first_domain, with_metric, wide_domain, wide_problem}
 
 -- the lines are these

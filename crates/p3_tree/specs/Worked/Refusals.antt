@@ -8,14 +8,14 @@ use Rattle.p3_base.specs.declared.refusal.Refusal.{Refusal}
 use Rattle.p3_base.specs.declared.refusal.Role.{Role}
 use Rattle.p3_base.specs.declared.refusal.Role.TheVariants as role
 use Rattle.p3_base.specs.declared.refusal.Side.TheVariants.{Source}
-use Rattle.p3_tree.specs.Sides.{InDomain, InProblem, level_limit}
-use Rattle.p3_tree.specs.Expressions.{expression_of_text}
-use Rattle.p3_tree.specs.Grammar.Halves.{domain_place, problem_place}
-use Rattle.p3_tree.specs.Refusals.Texts.{text_refusal}
-use Rattle.p3_tree.specs.Refusals.First.{task_refusal}
+use Rattle.p3_task.specs.Sides.{InDomain, InProblem, level_limit}
+use Rattle.p3_task.specs.Expressions.{expression_of_text}
+use Rattle.p3_task.specs.Grammar.Halves.{domain_place, problem_place}
+use Rattle.p3_task.specs.Refusals.Texts.{text_refusal}
+use Rattle.p3_task.specs.Refusals.First.{task_refusal}
 use Rattle.p3_tree.specs.Reports.Lines.{line}
 use Rattle.p3_tree.specs.Reports.Refusals.{refusal_line}
-use Rattle.p3_tree.specs.declared.task.Task.{Task}
+use Rattle.p3_task.specs.declared.task.Task.{Task}
 
 -- a text of lines
 abbrev pub text_of : List String → List ℕ

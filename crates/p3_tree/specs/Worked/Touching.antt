@@ -3,15 +3,15 @@ use Rattle.std.specs.Prelude.{◌≡◌, ℕ, true, false, List, [], ◌∷◌, 
 use Rattle.std.specs.List.{range_with_len}
 use Rattle.p3_base.specs.declared.refusal.Code.TheVariants.{FlatTooWide}
 use Rattle.p3_base.specs.declared.refusal.Role.TheVariants as role
-use Rattle.p3_tree.specs.Lifting.{steps}
-use Rattle.p3_tree.specs.Refusals.Places.{refusal_at_word}
+use Rattle.p3_task.specs.Lifting.{steps}
+use Rattle.p3_task.specs.Refusals.Places.{refusal_at_word}
 use Rattle.p3_tree.specs.Reports.Lines.{line}
 use Rattle.p3_tree.specs.Reports.Refusals.{refusal_line}
-use Rattle.p3_tree.specs.Touching.{conds}
-use Rattle.p3_tree.specs.Unconditional.{is_unconditional}
+use Rattle.p3_task.specs.Touching.{conds}
+use Rattle.p3_task.specs.Unconditional.{is_unconditional}
 use Rattle.p3_tree.specs.Worked.Refusals.{text_of, task_of_texts, first_domain, first_problem}
-use Rattle.p3_tree.specs.declared.task.Action.{Action}
-use Rattle.p3_tree.specs.declared.task.Task.{Task}
+use Rattle.p3_task.specs.declared.task.Action.{Action}
+use Rattle.p3_task.specs.declared.task.Task.{Task}
 
 abbrev pub each_of : ℕ → (List ℕ → List ℕ) → List ℕ
 each_of n text = flat_map (λ k. text (decimal k)) (range_with_len 1 n)

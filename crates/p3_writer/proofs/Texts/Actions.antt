@@ -6,23 +6,23 @@ use Rattle.std.specs.Option.{option_or}
 use Rattle.std.specs.Fmt.{decimal}
 use Rattle.std.proofs.lemmas.Bool.{and_parts}
 use Rattle.p3_base.specs.Words.{Name, is_name}
-use Rattle.p3_tree.specs.Erased.{erased_formula, erased_effect, erased_goal, erased_action}
-use Rattle.p3_tree.specs.Grammar.Words.{◌>>=◌, each_at}
-use Rattle.p3_tree.specs.Grammar.Effects.{effect_in, effect_or_empty_place}
-use Rattle.p3_tree.specs.Grammar.Formulas.{formula_place}
-use Rattle.p3_tree.specs.Grammar.Goals.{goal_place, goal_or_empty_place}
-use Rattle.p3_tree.specs.Grammar.Halves.{action_in}
-use Rattle.p3_tree.proofs.Computes.{texts_compute}
-use Rattle.p3_tree.specs.declared.effect.Amount.TheVariants as amount
-use Rattle.p3_tree.specs.declared.effect.Effect.{Effect}
-use Rattle.p3_tree.specs.declared.effect.Effect.TheVariants as effect
-use Rattle.p3_tree.specs.declared.expression.Expression.{Expression}
-use Rattle.p3_tree.specs.declared.expression.Expression.TheVariants.{Word, Group}
-use Rattle.p3_tree.specs.declared.formula.Formula.{Formula}
-use Rattle.p3_tree.specs.declared.goal.PreGoal.{PreGoal}
-use Rattle.p3_tree.specs.declared.task.Action.{Action}
-use Rattle.p3_tree.specs.declared.task.Part.{Part}
-use Rattle.p3_tree.specs.declared.term.Ref.{Ref}
+use Rattle.p3_task.specs.Erased.{erased_formula, erased_effect, erased_goal, erased_action}
+use Rattle.p3_task.specs.Grammar.Words.{◌>>=◌, each_at}
+use Rattle.p3_task.specs.Grammar.Effects.{effect_in, effect_or_empty_place}
+use Rattle.p3_task.specs.Grammar.Formulas.{formula_place}
+use Rattle.p3_task.specs.Grammar.Goals.{goal_place, goal_or_empty_place}
+use Rattle.p3_task.specs.Grammar.Halves.{action_in}
+use Rattle.p3_task.proofs.Computes.{texts_compute}
+use Rattle.p3_task.specs.declared.effect.Amount.TheVariants as amount
+use Rattle.p3_task.specs.declared.effect.Effect.{Effect}
+use Rattle.p3_task.specs.declared.effect.Effect.TheVariants as effect
+use Rattle.p3_task.specs.declared.expression.Expression.{Expression}
+use Rattle.p3_task.specs.declared.expression.Expression.TheVariants.{Word, Group}
+use Rattle.p3_task.specs.declared.formula.Formula.{Formula}
+use Rattle.p3_task.specs.declared.goal.PreGoal.{PreGoal}
+use Rattle.p3_task.specs.declared.task.Action.{Action}
+use Rattle.p3_task.specs.declared.task.Part.{Part}
+use Rattle.p3_task.specs.declared.term.Ref.{Ref}
 use Rattle.p3_formula.specs.Forms.{is_below}
 use Rattle.p3_formula.specs.Targets.{is_sized_change}
 use Rattle.p3_formula.specs.declared.form.Change.{Change}

@@ -1,21 +1,21 @@
 -- What the places of the grammar make of `(name)` and `(not (name))`.
 use Rattle.std.proofs.Common.{◌≡◌, ◌∙◌, ℕ, Bool, [], ◌∷◌, Some, None, refl, ap}
 use Rattle.std.specs.Prelude.{codes}
-use Rattle.p3_tree.specs.Erased.{erased_formula, erased_effect, erased_header, erased_init}
-use Rattle.p3_tree.specs.Grammar.Words.{◌>>=◌, Place, descend, predicate_place}
-use Rattle.p3_tree.specs.Grammar.Formulas.{formula_forms, formula_place}
-use Rattle.p3_tree.specs.Grammar.Formulas as formulas
-use Rattle.p3_tree.specs.Grammar.Effects.{effect_forms, effect_in}
-use Rattle.p3_tree.specs.Grammar.Effects as effects
-use Rattle.p3_tree.specs.Grammar.Halves.{init_forms, initial_in, true_entry, header_place, init_place}
-use Rattle.p3_tree.proofs.Computes.{texts_compute}
-use Rattle.p3_tree.specs.declared.effect.Effect.{Effect}
-use Rattle.p3_tree.specs.declared.effect.Effect.TheVariants as effect
-use Rattle.p3_tree.specs.declared.expression.Expression.{Expression}
-use Rattle.p3_tree.specs.declared.expression.Expression.TheVariants.{Word, Group}
-use Rattle.p3_tree.specs.declared.formula.Formula.TheVariants as formula
-use Rattle.p3_tree.specs.declared.task.Init.TheVariants as init
-use Rattle.p3_tree.specs.declared.term.Ref.{Ref}
+use Rattle.p3_task.specs.Erased.{erased_formula, erased_effect, erased_header, erased_init}
+use Rattle.p3_task.specs.Grammar.Words.{◌>>=◌, Place, descend, predicate_place}
+use Rattle.p3_task.specs.Grammar.Formulas.{formula_forms, formula_place}
+use Rattle.p3_task.specs.Grammar.Formulas as formulas
+use Rattle.p3_task.specs.Grammar.Effects.{effect_forms, effect_in}
+use Rattle.p3_task.specs.Grammar.Effects as effects
+use Rattle.p3_task.specs.Grammar.Halves.{init_forms, initial_in, true_entry, header_place, init_place}
+use Rattle.p3_task.proofs.Computes.{texts_compute}
+use Rattle.p3_task.specs.declared.effect.Effect.{Effect}
+use Rattle.p3_task.specs.declared.effect.Effect.TheVariants as effect
+use Rattle.p3_task.specs.declared.expression.Expression.{Expression}
+use Rattle.p3_task.specs.declared.expression.Expression.TheVariants.{Word, Group}
+use Rattle.p3_task.specs.declared.formula.Formula.TheVariants as formula
+use Rattle.p3_task.specs.declared.task.Init.TheVariants as init
+use Rattle.p3_task.specs.declared.term.Ref.{Ref}
 use Rattle.p3_writer.specs.TaskOf as written
 use Rattle.p3_writer.proofs.Texts.Places.{Given, choose_other, at_offset, checked}
 use Rattle.p3_writer.proofs.Texts.Symbols.{Symbol, no_formula, no_effect, no_entry}

@@ -1,14 +1,14 @@
 -- Documents: what is written, as blanks, words and lists. Their bytes have the tokens that their expressions spell.
 use Rattle.std.proofs.Common.{◌≡◌, ◌∙◌, ℕ, ◌+◌, true, false, List, [], ◌∷◌, ◌++◌, map, append_assoc, append-nil, refl, sym, ap}
 use Rattle.std.specs.List.{flat_map}
-use Rattle.p3_tree.specs.Names.{Name}
-use Rattle.p3_tree.specs.Tokens.{Token, Open, Close, Word, Tokens, tokens_from}
-use Rattle.p3_tree.specs.Expressions.{kept, spelling, spellings}
-use Rattle.p3_tree.specs.Grammar.Texts.{IsBalanced}
-use Rattle.p3_tree.proofs.Computes.{trees_compute}
-use Rattle.p3_tree.specs.declared.expression.Expression.{Expression}
-use Rattle.p3_tree.specs.declared.expression.Expression.TheBlock.{hidden-the_row-Expression-0, shape-the_row-Expression-0}
-use Rattle.p3_tree.specs.declared.expression.Expression.TheVariants as expression
+use Rattle.p3_task.specs.Names.{Name}
+use Rattle.p3_task.specs.Tokens.{Token, Open, Close, Word, Tokens, tokens_from}
+use Rattle.p3_task.specs.Expressions.{kept, spelling, spellings}
+use Rattle.p3_task.specs.Grammar.Texts.{IsBalanced}
+use Rattle.p3_task.proofs.Computes.{trees_compute}
+use Rattle.p3_task.specs.declared.expression.Expression.{Expression}
+use Rattle.p3_task.specs.declared.expression.Expression.TheBlock.{hidden-the_row-Expression-0, shape-the_row-Expression-0}
+use Rattle.p3_task.specs.declared.expression.Expression.TheVariants as expression
 use Rattle.p3_lexer.proofs.WordLemmas.{IsWord, is_apart, past, word_read}
 
 -- A word stands behind a space or at the head of a list, so that no two words touch.

@@ -1,16 +1,16 @@
 -- Trees that are built from lists of parts, with all offsets 0.
 use Rattle.std.proofs.Common.{◌≡◌, ◌∙◌, List, ◌∷◌, map, refl, sym, ap}
 use mathlib.Core.Former.{Count}
-use Rattle.p3_tree.specs.Erased.{erased_formula, erased_formulas, erased_effect, erased_effects, erased_goal, erased_goals}
-use Rattle.p3_tree.specs.declared.formula.Formula.{Formula, Row_of-Formula, end_of-Formula, more_of-Formula, roll-Formula, roll-out-Formula, items-the_row-Formula, items_shown-the_row-Formula-0, items_hidden-the_row-Formula-0}
-use Rattle.p3_tree.specs.declared.formula.Formula.TheBlock.{hidden-the_row-Formula-0}
-use Rattle.p3_tree.specs.declared.formula.Formula.TheVariants as formula
-use Rattle.p3_tree.specs.declared.effect.Effect.{Effect, Row_of-Effect, end_of-Effect, more_of-Effect, roll-Effect, roll-out-Effect, items-the_row-Effect, items_shown-the_row-Effect-0, items_hidden-the_row-Effect-0}
-use Rattle.p3_tree.specs.declared.effect.Effect.TheBlock.{hidden-the_row-Effect-0}
-use Rattle.p3_tree.specs.declared.effect.Effect.TheVariants as effect
-use Rattle.p3_tree.specs.declared.goal.PreGoal.{PreGoal, Row_of-PreGoal, end_of-PreGoal, more_of-PreGoal, roll-PreGoal, roll-out-PreGoal, items-the_row-PreGoal, items_shown-the_row-PreGoal-0, items_hidden-the_row-PreGoal-0}
-use Rattle.p3_tree.specs.declared.goal.PreGoal.TheBlock.{hidden-the_row-PreGoal-0}
-use Rattle.p3_tree.specs.declared.goal.PreGoal.TheVariants as goal
+use Rattle.p3_task.specs.Erased.{erased_formula, erased_formulas, erased_effect, erased_effects, erased_goal, erased_goals}
+use Rattle.p3_task.specs.declared.formula.Formula.{Formula, Row_of-Formula, end_of-Formula, more_of-Formula, roll-Formula, roll-out-Formula, items-the_row-Formula, items_shown-the_row-Formula-0, items_hidden-the_row-Formula-0}
+use Rattle.p3_task.specs.declared.formula.Formula.TheBlock.{hidden-the_row-Formula-0}
+use Rattle.p3_task.specs.declared.formula.Formula.TheVariants as formula
+use Rattle.p3_task.specs.declared.effect.Effect.{Effect, Row_of-Effect, end_of-Effect, more_of-Effect, roll-Effect, roll-out-Effect, items-the_row-Effect, items_shown-the_row-Effect-0, items_hidden-the_row-Effect-0}
+use Rattle.p3_task.specs.declared.effect.Effect.TheBlock.{hidden-the_row-Effect-0}
+use Rattle.p3_task.specs.declared.effect.Effect.TheVariants as effect
+use Rattle.p3_task.specs.declared.goal.PreGoal.{PreGoal, Row_of-PreGoal, end_of-PreGoal, more_of-PreGoal, roll-PreGoal, roll-out-PreGoal, items-the_row-PreGoal, items_shown-the_row-PreGoal-0, items_hidden-the_row-PreGoal-0}
+use Rattle.p3_task.specs.declared.goal.PreGoal.TheBlock.{hidden-the_row-PreGoal-0}
+use Rattle.p3_task.specs.declared.goal.PreGoal.TheVariants as goal
 
 -- ---- formulas
 

@@ -5,18 +5,18 @@ use Rattle.std.specs.List.{list_all}
 use Rattle.std.proofs.lemmas.Bool.{and_parts}
 use mathlib.Core.Former.{Count}
 use Rattle.p3_base.specs.Words.{Name}
-use Rattle.p3_tree.specs.Erased.{erased_formula, erased_goal}
-use Rattle.p3_tree.specs.Grammar.Words.{◌>>=◌, each_at, descend_parts}
-use Rattle.p3_tree.specs.Grammar.Formulas.{formula_in, formula_place}
-use Rattle.p3_tree.specs.Grammar.Goals.{goal_forms, goal_in, goal_place, plain_form}
-use Rattle.p3_tree.proofs.Computes.{texts_compute}
-use Rattle.p3_tree.specs.declared.expression.Expression.{Expression}
-use Rattle.p3_tree.specs.declared.expression.Expression.TheBlock.{hidden-the_row-Expression-0}
-use Rattle.p3_tree.specs.declared.expression.Expression.TheVariants.{Word, Group}
-use Rattle.p3_tree.specs.declared.formula.Formula.{Formula}
-use Rattle.p3_tree.specs.declared.formula.Formula.TheVariants as formula
-use Rattle.p3_tree.specs.declared.goal.PreGoal.{PreGoal}
-use Rattle.p3_tree.specs.declared.goal.PreGoal.TheVariants as goal
+use Rattle.p3_task.specs.Erased.{erased_formula, erased_goal}
+use Rattle.p3_task.specs.Grammar.Words.{◌>>=◌, each_at, descend_parts}
+use Rattle.p3_task.specs.Grammar.Formulas.{formula_in, formula_place}
+use Rattle.p3_task.specs.Grammar.Goals.{goal_forms, goal_in, goal_place, plain_form}
+use Rattle.p3_task.proofs.Computes.{texts_compute}
+use Rattle.p3_task.specs.declared.expression.Expression.{Expression}
+use Rattle.p3_task.specs.declared.expression.Expression.TheBlock.{hidden-the_row-Expression-0}
+use Rattle.p3_task.specs.declared.expression.Expression.TheVariants.{Word, Group}
+use Rattle.p3_task.specs.declared.formula.Formula.{Formula}
+use Rattle.p3_task.specs.declared.formula.Formula.TheVariants as formula
+use Rattle.p3_task.specs.declared.goal.PreGoal.{PreGoal}
+use Rattle.p3_task.specs.declared.goal.PreGoal.TheVariants as goal
 use Rattle.p3_formula.specs.Folds.{fold_forms}
 use Rattle.p3_formula.specs.Forms.{has_atoms, is_below, within_layer}
 use Rattle.p3_formula.specs.declared.form.Form.{Form, Row_of-Form, end_of-Form, more_of-Form}

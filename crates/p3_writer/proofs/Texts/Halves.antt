@@ -4,27 +4,27 @@ use Rattle.std.specs.Prelude.{codes, if◌then◌else◌}
 use Rattle.std.specs.List.{list_all}
 use Rattle.p3_base.specs.declared.refusal.Direction.TheVariants.{Minimize}
 use Rattle.p3_base.specs.Words.{Name, has_name, same_name, total_cost}
-use Rattle.p3_tree.specs.Erased.{erased_header, erased_action, erased_init, erased_goal, erased_domain, erased_problem}
-use Rattle.p3_tree.specs.Grammar.Words.{◌>>=◌, Place, each_at, predicate_place}
-use Rattle.p3_tree.specs.Grammar.Goals.{goal_place}
-use Rattle.p3_tree.specs.Grammar.Halves.{Section, section_place, sections_named, at_most_one, or_absent, sections_among, part_at, requirements, no_constraints, NamedSections, action_in, all_actions, kinds_in, header_place, predicates_in, functions_in, domain_keywords, domain_place, init_place, problem_place}
-use Rattle.p3_tree.specs.Grammar.Lists.{objects_in}
-use Rattle.p3_tree.specs.Grammar.Constraints.{constraint_or_empty_place}
-use Rattle.p3_tree.specs.Grammar.Texts.{IsBalanced}
-use Rattle.p3_tree.proofs.Computes.{texts_compute}
-use Rattle.p3_tree.specs.declared.constraint.Constraint.TheVariants as constraint
-use Rattle.p3_tree.specs.declared.expression.Expression.{Expression}
-use Rattle.p3_tree.specs.declared.expression.Expression.TheVariants.{Word, Group}
-use Rattle.p3_tree.specs.declared.goal.PreGoal.{PreGoal}
-use Rattle.p3_tree.specs.declared.metric.Num.TheVariants as num
-use Rattle.p3_tree.specs.declared.task.Action.{Action}
-use Rattle.p3_tree.specs.declared.task.Domain.{Domain}
-use Rattle.p3_tree.specs.declared.task.Header.{Header}
-use Rattle.p3_tree.specs.declared.task.Init.{Init}
-use Rattle.p3_tree.specs.declared.task.Init.TheVariants as init
-use Rattle.p3_tree.specs.declared.task.Part.{Part}
-use Rattle.p3_tree.specs.declared.task.Problem.{Problem}
-use Rattle.p3_tree.specs.declared.term.Ref.{Ref}
+use Rattle.p3_task.specs.Erased.{erased_header, erased_action, erased_init, erased_goal, erased_domain, erased_problem}
+use Rattle.p3_task.specs.Grammar.Words.{◌>>=◌, Place, each_at, predicate_place}
+use Rattle.p3_task.specs.Grammar.Goals.{goal_place}
+use Rattle.p3_task.specs.Grammar.Halves.{Section, section_place, sections_named, at_most_one, or_absent, sections_among, part_at, requirements, no_constraints, NamedSections, action_in, all_actions, kinds_in, header_place, predicates_in, functions_in, domain_keywords, domain_place, init_place, problem_place}
+use Rattle.p3_task.specs.Grammar.Lists.{objects_in}
+use Rattle.p3_task.specs.Grammar.Constraints.{constraint_or_empty_place}
+use Rattle.p3_task.specs.Grammar.Texts.{IsBalanced}
+use Rattle.p3_task.proofs.Computes.{texts_compute}
+use Rattle.p3_task.specs.declared.constraint.Constraint.TheVariants as constraint
+use Rattle.p3_task.specs.declared.expression.Expression.{Expression}
+use Rattle.p3_task.specs.declared.expression.Expression.TheVariants.{Word, Group}
+use Rattle.p3_task.specs.declared.goal.PreGoal.{PreGoal}
+use Rattle.p3_task.specs.declared.metric.Num.TheVariants as num
+use Rattle.p3_task.specs.declared.task.Action.{Action}
+use Rattle.p3_task.specs.declared.task.Domain.{Domain}
+use Rattle.p3_task.specs.declared.task.Header.{Header}
+use Rattle.p3_task.specs.declared.task.Init.{Init}
+use Rattle.p3_task.specs.declared.task.Init.TheVariants as init
+use Rattle.p3_task.specs.declared.task.Part.{Part}
+use Rattle.p3_task.specs.declared.task.Problem.{Problem}
+use Rattle.p3_task.specs.declared.term.Ref.{Ref}
 use Rattle.p3_writer.specs.Layout.{atom_text, spaced}
 use Rattle.p3_writer.specs.TaskOf.{Trees}
 use Rattle.p3_writer.specs.TaskOf as written

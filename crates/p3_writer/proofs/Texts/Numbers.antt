@@ -11,11 +11,11 @@ use Rattle.std.proofs.lemmas.Str.{digit_value_digit}
 use Rattle.std.proofs.lemmas.Str.Parse.{digit_from_value}
 use Rattle.p3_base.specs.Words.{Name, are_digits, is_digit, is_lowered}
 use Rattle.p3_base.proofs.CopyLemmas.{decimal_digits}
-use Rattle.p3_tree.specs.Decimals.{digits_of, digits_value, places_of}
-use Rattle.p3_tree.specs.Grammar.Words.{◌>>=◌, numeral_place}
-use Rattle.p3_tree.proofs.DecimalLemmas.{IsWhole, whole_number}
-use Rattle.p3_tree.specs.declared.effect.Numeral.{Numeral}
-use Rattle.p3_tree.specs.declared.expression.Expression.TheVariants.{Word}
+use Rattle.p3_task.specs.Decimals.{digits_of, digits_value, places_of}
+use Rattle.p3_task.specs.Grammar.Words.{◌>>=◌, numeral_place}
+use Rattle.p3_task.proofs.DecimalLemmas.{IsWhole, whole_number}
+use Rattle.p3_task.specs.declared.effect.Numeral.{Numeral}
+use Rattle.p3_task.specs.declared.expression.Expression.TheVariants.{Word}
 use Rattle.p3_writer.proofs.Texts.Places.{at_offset, checked}
 use Rattle.p3_lexer.proofs.WordLemmas.{IsWord}
 

@@ -3,12 +3,12 @@ use Rattle.std.proofs.Common.{◌≡◌, ◌∙◌, ℕ, Bool, not, List, [], �
 use Rattle.std.specs.Prelude.{if◌then◌else◌}
 use Rattle.std.specs.List.{list_all}
 use Rattle.std.proofs.lemmas.Bool.{and_parts, not-true}
-use Rattle.p3_tree.specs.Names.{Name, same_name}
-use Rattle.p3_tree.specs.Grammar.Words.{◌>>=◌, Place, ListPart, descend, descend_parts, expressions, all_trees, each_at, choose}
-use Rattle.p3_tree.proofs.Computes.{texts_compute}
-use Rattle.p3_tree.specs.declared.expression.Expression.{Expression}
-use Rattle.p3_tree.specs.declared.expression.Expression.TheBlock.{hidden-the_row-Expression-0}
-use Rattle.p3_tree.specs.declared.term.Ref.{Ref}
+use Rattle.p3_task.specs.Names.{Name, same_name}
+use Rattle.p3_task.specs.Grammar.Words.{◌>>=◌, Place, ListPart, descend, descend_parts, expressions, all_trees, each_at, choose}
+use Rattle.p3_task.proofs.Computes.{texts_compute}
+use Rattle.p3_task.specs.declared.expression.Expression.{Expression}
+use Rattle.p3_task.specs.declared.expression.Expression.TheBlock.{hidden-the_row-Expression-0}
+use Rattle.p3_task.specs.declared.term.Ref.{Ref}
 
 -- what was found is the tree, but for offsets
 pub record Given {A : Type 0} (erase : A → A) (option : Option A) (tree : A) : Type 0 where

@@ -6,10 +6,10 @@ use Rattle.std.proofs.lemmas.Bool.{and_parts, not-true}
 use Rattle.std.proofs.lemmas.Bool.Decides.{nat_tests}
 use Rattle.std.proofs.lemmas.Slice.Eq.{bytes_eq-Decides}
 use Rattle.p3_base.specs.Words.{Name, has_name, is_lowered, is_name, is_predicate_name, reserved_words, same_name}
-use Rattle.p3_tree.specs.Grammar.Effects.{effect_forms}
-use Rattle.p3_tree.specs.Grammar.Formulas.{formula_forms}
-use Rattle.p3_tree.specs.Grammar.Goals.{goal_forms}
-use Rattle.p3_tree.specs.Grammar.Halves.{init_forms}
+use Rattle.p3_task.specs.Grammar.Effects.{effect_forms}
+use Rattle.p3_task.specs.Grammar.Formulas.{formula_forms}
+use Rattle.p3_task.specs.Grammar.Goals.{goal_forms}
+use Rattle.p3_task.specs.Grammar.Halves.{init_forms}
 use Rattle.p3_writer.proofs.Texts.Places.{heads_none}
 use Rattle.p3_lexer.proofs.WordLemmas.{IsWord}
 

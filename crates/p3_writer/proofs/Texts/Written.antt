@@ -6,9 +6,9 @@ use Rattle.std.proofs.lemmas.Bool.{and_parts, ltb-true}
 use Rattle.std.proofs.lemmas.List.Folds.{list_all-append}
 use Rattle.std.proofs.lemmas.Simd.{map-map}
 use Rattle.p3_base.specs.Words.{Name, is_lowered, is_name, is_predicate_name}
-use Rattle.p3_tree.specs.declared.task.Header.{Header}
-use Rattle.p3_tree.specs.declared.task.Init.{Init}
-use Rattle.p3_tree.specs.declared.task.Init.TheVariants as init
+use Rattle.p3_task.specs.declared.task.Header.{Header}
+use Rattle.p3_task.specs.declared.task.Init.{Init}
+use Rattle.p3_task.specs.declared.task.Init.TheVariants as init
 use Rattle.p3_formula.specs.Forms.{is_below}
 use Rattle.p3_formula.specs.Targets.{IsSized, action_names, is_sized_action, is_sized_change}
 use Rattle.p3_formula.specs.declared.form.Form.{Form}

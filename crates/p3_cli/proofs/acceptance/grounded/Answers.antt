@@ -1,5 +1,5 @@
 use Rattle.std.proofs.Common.{◌≡◌, None, Some, sym, subst}
-use Rattle.p3_tree.specs.Refusals.First.{task_refusal}
+use Rattle.p3_task.specs.Refusals.First.{task_refusal}
 use Rattle.p3_types.specs.declared.checked.Checked.{Checked}
 use Rattle.p3_metric.proofs.AcceptedLaws.{linear_where_accepted}
 use Rattle.p3_eval.specs.Accepted.{IsFailOf}

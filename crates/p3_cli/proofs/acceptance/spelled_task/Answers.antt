@@ -1,6 +1,6 @@
 use Rattle.std.proofs.Common.{subst}
-use Rattle.p3_tree.specs.Refusals.First.{HalfText, IsReadable, IsRefusedText}
-use Rattle.p3_tree.specs.Sides.{InDomain, InProblem}
+use Rattle.p3_task.specs.Refusals.First.{HalfText, IsReadable, IsRefusedText}
+use Rattle.p3_task.specs.Sides.{InDomain, InProblem}
 use Rattle.p3_outline.specs.Texts.{IfRefused}
 use Rattle.p3_cli.specs.Texts.{all_texts}
 use Rattle.p3_cli.proofs.SpelledLemmas.{domain_refused, problem_refused}

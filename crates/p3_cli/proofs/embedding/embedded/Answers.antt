@@ -1,6 +1,6 @@
 use Rattle.std.proofs.Common.{◌≡◌, subst}
 use Rattle.p3_reports.specs.Faults.{fault_named}
-use Rattle.p3_tree.proofs.ValidityLemmas.{valid_where_no_fault}
+use Rattle.p3_task.proofs.ValidityLemmas.{valid_where_no_fault}
 use Rattle.p3_embed.specs.Plans.{IsFailOf}
 use Rattle.p3_embed.specs.declared.error.EmbedFail.{EmbedFail}
 use Rattle.p3_eval.specs.Judged.{fault_in}

@@ -1,7 +1,7 @@
 use Rattle.std.proofs.Common.{◌≡◌, subst, sym, true}
 use Rattle.std.specs.List.{list_all}
-use Rattle.p3_tree.specs.Plans.{Plan}
-use Rattle.p3_tree.specs.PlanTexts.{IsPlanText}
+use Rattle.p3_task.specs.Plans.{Plan}
+use Rattle.p3_task.specs.PlanTexts.{IsPlanText}
 use Rattle.p3_plans.specs.Layout.{has_written_words}
 use Rattle.p3_cli.specs.Texts.{all_texts}
 use Rattle.p3_cli.proofs.ProductLemmas.{unlifted_plan}

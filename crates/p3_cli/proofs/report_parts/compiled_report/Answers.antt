@@ -3,10 +3,10 @@ use Rattle.std.proofs.lemmas.Int.{to_z-of_z}
 use Rattle.std.proofs.lemmas.Slice.Zip.{AllZip-long}
 use mir.Syntax.{w128}
 use mir.Val.{SFits}
-use Rattle.p3_tree.specs.Constraints.{instances}
-use Rattle.p3_tree.specs.Metrics.{metric_places}
-use Rattle.p3_tree.specs.Refusals.Metric.{metric_refusals}
-use Rattle.p3_tree.specs.Refusals.Places.{first_some}
+use Rattle.p3_task.specs.Constraints.{instances}
+use Rattle.p3_task.specs.Metrics.{metric_places}
+use Rattle.p3_task.specs.Refusals.Metric.{metric_refusals}
+use Rattle.p3_task.specs.Refusals.Places.{first_some}
 use Rattle.p3_reports.specs.declared.report.CompileReport.{CompileReport}
 use Rattle.p3_reports.proofs.ContentsLaws.{compile_report_is}
 use Rattle.p3_types.specs.declared.checked.Checked.{Checked}

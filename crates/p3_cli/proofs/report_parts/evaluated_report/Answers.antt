@@ -3,7 +3,7 @@ use Rattle.std.proofs.lemmas.Int.{to_z-of_z}
 use Rattle.std.proofs.lemmas.Slice.Zip.{AllZip-long}
 use mir.Syntax.{w128}
 use mir.Val.{SFits}
-use Rattle.p3_tree.specs.StepNumbers.{HasNumber}
+use Rattle.p3_task.specs.StepNumbers.{HasNumber}
 use Rattle.p3_reports.specs.declared.report.EvaluateReport.{EvaluateReport}
 use Rattle.p3_reports.proofs.ContentsLaws.{evaluate_report_is}
 use Rattle.p3_cli.proofs.report_parts.evaluated_report.Goals as goal

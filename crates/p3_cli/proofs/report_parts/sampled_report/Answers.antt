@@ -3,9 +3,9 @@ use Rattle.std.proofs.lemmas.Int.{to_z-of_z}
 use Rattle.std.proofs.lemmas.Slice.Zip.{AllZip-long}
 use mir.Syntax.{w128}
 use mir.Val.{SFits}
-use Rattle.p3_tree.specs.Constraints.{instances}
-use Rattle.p3_tree.specs.Metrics.{metric_places}
-use Rattle.p3_tree.specs.StepNumbers.{HasNumber}
+use Rattle.p3_task.specs.Constraints.{instances}
+use Rattle.p3_task.specs.Metrics.{metric_places}
+use Rattle.p3_task.specs.StepNumbers.{HasNumber}
 use Rattle.p3_reports.specs.declared.report.GenerateReport.{GenerateReport}
 use Rattle.p3_reports.proofs.ContentsLaws.{generate_report_is}
 use Rattle.p3_ground.specs.StandsFor.{SoftStands}

@@ -3,8 +3,8 @@ use Rattle.std.specs.Option.{option_copied}
 use Rattle.std.specs.Prelude.{slice_get, zero, suc}
 use Rattle.p3_reports.specs.Contents.{count_of}
 use Rattle.p3_reports.specs.declared.part.NameCount.{NameCount}
-use Rattle.p3_tree.specs.Metrics.{violated}
-use Rattle.p3_tree.specs.PreferenceNames.{ordered_names}
+use Rattle.p3_task.specs.Metrics.{violated}
+use Rattle.p3_task.specs.PreferenceNames.{ordered_names}
 use Rattle.p3_cli.proofs.report_parts.violations_of.Goals as goal
 
 map-one_more : {A B : Type 0} (f : A → B) (things : List A) (k : ℕ) (thing : A) → slice_get things k ≡ Some thing → map f (take (suc k) things) ≡ map f (take k things) ++ f thing ∷ []

@@ -1,5 +1,5 @@
 use Rattle.std.proofs.Common.{◌≡◌, map, take}
-use Rattle.p3_tree.specs.PreferenceNames.{ordered_names}
+use Rattle.p3_task.specs.PreferenceNames.{ordered_names}
 use Rattle.p3_reports.specs.Contents.{count_of}
 use Rattle.p3_eval.specs.Runs.{OfRun}
 use Rattle.p3_cli.proofs.report_parts.violations_of.Given as goal

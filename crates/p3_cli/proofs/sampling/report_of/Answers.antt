@@ -2,7 +2,7 @@ use Rattle.std.proofs.Common.{◌∙◌, rules, subst}
 use Rattle.std.proofs.lemmas.Int.{to_z-of_z}
 use mir.Syntax.{w128}
 use mir.Val.{SFits}
-use Rattle.p3_tree.proofs.StepNumberLaws.{steps_have_numbers}
+use Rattle.p3_task.proofs.StepNumberLaws.{steps_have_numbers}
 use Rattle.p3_formula.specs.Targets.{Compiled}
 use Rattle.p3_reports.specs.Reports.{generate_text}
 use Rattle.p3_ground.proofs.PlanNumbers.{has_numbers, valid_fits}

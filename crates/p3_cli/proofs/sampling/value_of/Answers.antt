@@ -3,8 +3,8 @@ use Rattle.std.proofs.lemmas.Int.{to_z-of_z}
 use mir.Syntax.{w128}
 use mir.Val.{SFits}
 use Rattle.std.specs.Prelude.{option_map}
-use Rattle.p3_tree.specs.Validity.{first_fault}
-use Rattle.p3_tree.proofs.ValidityLemmas.{valid_where_no_fault}
+use Rattle.p3_task.specs.Validity.{first_fault}
+use Rattle.p3_task.proofs.ValidityLemmas.{valid_where_no_fault}
 use Rattle.p3_eval.specs.Judged.{fault_in}
 use Rattle.p3_cli.proofs.EvaluationLemmas.{all_left, plan_judged, still_together}
 use Rattle.p3_cli.proofs.sampling.value_of.Goals as goal

@@ -1,7 +1,7 @@
 use Rattle.std.proofs.Common.{◌∙◌, sym}
 use Rattle.std.proofs.lemmas.Result.{err_from_is_err_and}
-use Rattle.p3_tree.specs.Refusals.Counts.{size_refusals}
-use Rattle.p3_tree.specs.Refusals.Places.{first_some}
+use Rattle.p3_task.specs.Refusals.Counts.{size_refusals}
+use Rattle.p3_task.specs.Refusals.Places.{first_some}
 use Rattle.p3_ground.specs.declared.error.GroundFail.TheVariants.{Refused}
 use Rattle.p3_eval.proofs.RefusalLaws.{actions_left, metric_fails, sizes_fail, well_formed_from}
 use Rattle.p3_eval.proofs.accepted.weights_of.Goals as goal

@@ -1,4 +1,4 @@
-use Rattle.p3_tree.proofs.StepNumberLaws.{steps_have_numbers}
+use Rattle.p3_task.proofs.StepNumberLaws.{steps_have_numbers}
 use Rattle.p3_ground.proofs.Asked.{all_are_asked}
 use Rattle.p3_eval.proofs.RunLaws.{total_alike, value_alike}
 use Rattle.p3_eval.proofs.RunReady.{accepted_weights}

@@ -1,4 +1,4 @@
-use Rattle.p3_tree.proofs.StepNumberLaws.{steps_have_numbers}
+use Rattle.p3_task.proofs.StepNumberLaws.{steps_have_numbers}
 use Rattle.p3_ground.proofs.Asked.{all_are_asked}
 use Rattle.p3_eval.proofs.RunLaws.{fault_alike, first_misfit, fit_alike, last_met, misfit_alike}
 use Rattle.p3_eval.proofs.laws.runs_tell_the_first_fault.Goals as goal

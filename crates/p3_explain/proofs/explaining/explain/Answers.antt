@@ -1,7 +1,7 @@
 use Rattle.std.proofs.Common.{◌∙◌, List, subst, sym}
 use Rattle.std.specs.Prelude.{IsTrue}
-use Rattle.p3_tree.specs.Plans.{steps_fit}
-use Rattle.p3_tree.specs.declared.task.Step.{Step}
+use Rattle.p3_task.specs.Plans.{steps_fit}
+use Rattle.p3_task.specs.declared.task.Step.{Step}
 use Rattle.p3_types.specs.declared.checked.Checked.{Checked}
 use Rattle.p3_eval.specs.Steps.{AreStepsOf}
 use Rattle.p3_eval.proofs.RunLaws.{no_step_fault}

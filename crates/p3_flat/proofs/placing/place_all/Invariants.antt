@@ -1,6 +1,6 @@
 use Rattle.std.proofs.Common.{◌≡◌, ◌≤◌, length, take}
 use Rattle.std.specs.List.{AllZip}
-use Rattle.p3_tree.specs.Refusals.Flat.{most_conditions}
+use Rattle.p3_task.specs.Refusals.Flat.{most_conditions}
 use Rattle.p3_flat.specs.Conditions.{conditions}
 use Rattle.p3_flat.specs.Splitting.{IsPlaced}
 use Rattle.p3_flat.proofs.placing.place_all.Given as goal

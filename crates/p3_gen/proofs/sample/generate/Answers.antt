@@ -1,7 +1,7 @@
 use Rattle.std.proofs.Common.{rules, ◌≡◌, ◌≤◌, length, sym, subst}
 use Rattle.p3_base.specs.declared.refusal.Side.TheVariants.{Source}
 use Rattle.p3_tree.specs.Samples.{sample_problem, sample_plan}
-use Rattle.p3_tree.specs.Sides.{byte_limit, plan_byte_limit}
+use Rattle.p3_task.specs.Sides.{byte_limit, plan_byte_limit}
 use Rattle.p3_gen.proofs.LengthLemmas.{problem_short, plan_short}
 use Rattle.p3_gen.proofs.sample.generate.Goals as goal
 

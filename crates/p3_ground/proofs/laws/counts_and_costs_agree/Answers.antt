@@ -1,7 +1,7 @@
 use Rattle.std.proofs.Common.{sym}
 use Rattle.std.proofs.lemmas.Slice.Zip.{AllZip-long}
-use Rattle.p3_tree.proofs.StepNumberLaws.{steps_have_numbers}
-use Rattle.p3_tree.specs.Constraints.{instances}
+use Rattle.p3_task.proofs.StepNumberLaws.{steps_have_numbers}
+use Rattle.p3_task.specs.Constraints.{instances}
 use Rattle.p3_ground.specs.StandsFor.{SoftStands}
 use Rattle.p3_ground.proofs.Asked.{all_are_asked}
 use Rattle.p3_ground.proofs.Counts.{counts_agree, losses_alike}

@@ -1,7 +1,7 @@
 use Rattle.std.proofs.Common.{sym}
 use Rattle.std.proofs.lemmas.Slice.Zip.{AllZip-long}
-use Rattle.p3_tree.proofs.StepNumberLaws.{steps_have_numbers}
-use Rattle.p3_tree.specs.StepNumbers.{HasNumber}
+use Rattle.p3_task.proofs.StepNumberLaws.{steps_have_numbers}
+use Rattle.p3_task.specs.StepNumbers.{HasNumber}
 use Rattle.p3_ground.proofs.PlanNumbers.{same_numbers, same_plan}
 use Rattle.p3_ground.proofs.laws.numbers_are_one_to_one.Goals as goal
 

@@ -1,6 +1,6 @@
 use Rattle.std.proofs.Common.{◌≡◌, ◌∙◌, sym}
-use Rattle.p3_tree.proofs.StepNumberLaws.{steps_have_numbers}
-use Rattle.p3_tree.specs.Validity.{is_valid}
+use Rattle.p3_task.proofs.StepNumberLaws.{steps_have_numbers}
+use Rattle.p3_task.specs.Validity.{is_valid}
 use Rattle.p3_formula.specs.GroundPlans.{GroundPlan, is_ground_valid}
 use Rattle.p3_ground.specs.PlansByNumber.{AreNumbers}
 use Rattle.p3_ground.proofs.Asked.{all_are_asked}

@@ -1,5 +1,5 @@
 use Rattle.std.proofs.Common.{◌∙◌, sym}
-use Rattle.p3_tree.proofs.StepNumberLaws.{steps_have_numbers}
+use Rattle.p3_task.proofs.StepNumberLaws.{steps_have_numbers}
 use Rattle.p3_ground.proofs.Counts.{counts_agree}
 use Rattle.p3_ground.proofs.Validity.{valid_alike}
 use Rattle.p3_ground.proofs.laws.plans_that_are_asked_agree.Goals as goal

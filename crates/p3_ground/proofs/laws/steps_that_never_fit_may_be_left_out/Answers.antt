@@ -1,4 +1,4 @@
-use Rattle.p3_tree.proofs.StepNumberLaws.{steps_have_numbers}
+use Rattle.p3_task.proofs.StepNumberLaws.{steps_have_numbers}
 use Rattle.p3_ground.proofs.PrunedSparse.{pruned-sparse}
 use Rattle.p3_ground.proofs.Pruning.{pruned_stands, pruned_leaves_out}
 use Rattle.p3_ground.proofs.laws.steps_that_never_fit_may_be_left_out.Goals as goal

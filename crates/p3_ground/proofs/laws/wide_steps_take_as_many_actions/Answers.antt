@@ -1,4 +1,4 @@
-use Rattle.p3_tree.proofs.StepNumberLaws.{steps_have_numbers}
+use Rattle.p3_task.proofs.StepNumberLaws.{steps_have_numbers}
 use Rattle.p3_ground.proofs.Asked.{all_are_asked}
 use Rattle.p3_ground.proofs.Extras.{extras_alike}
 use Rattle.p3_ground.proofs.laws.wide_steps_take_as_many_actions.Goals as goal

@@ -1,6 +1,6 @@
 use Rattle.std.proofs.Common.{◌∙◌, sym, ap}
-use Rattle.p3_tree.specs.Refusals.Counts.{size_refusals}
-use Rattle.p3_tree.specs.Refusals.Places.{first_some}
+use Rattle.p3_task.specs.Refusals.Counts.{size_refusals}
+use Rattle.p3_task.specs.Refusals.Places.{first_some}
 use Rattle.p3_ground.proofs.WholeLaws.{few-steps}
 use Rattle.p3_ground.proofs.task.ground.Goals as goal
 

@@ -1,6 +1,6 @@
 use Rattle.std.proofs.Common.{◌≡◌, ◌+◌, drop}
 use Rattle.std.specs.List.{prefix_len}
-use Rattle.p3_tree.specs.Tokens.{is_of_word}
+use Rattle.p3_task.specs.Tokens.{is_of_word}
 use Rattle.p3_lexer.proofs.place.word_end.Given as goal
 
 -- each byte passed is of a word

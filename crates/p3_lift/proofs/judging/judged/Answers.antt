@@ -3,8 +3,8 @@ use Rattle.std.specs.Prelude.{◌-ℤ◌}
 use Rattle.std.specs.List.{All}
 use Rattle.std.proofs.lemmas.Int.{to_z-of_z}
 use mir.Syntax.{w128}
-use Rattle.p3_tree.specs.Metrics.{signed}
-use Rattle.p3_tree.proofs.StepNumberLaws.{steps_have_numbers}
+use Rattle.p3_task.specs.Metrics.{signed}
+use Rattle.p3_task.proofs.StepNumberLaws.{steps_have_numbers}
 use Rattle.p3_run.specs.Runs.{Ran, begun}
 use Rattle.p3_ground.specs.StandsFor.{LeftOutAt}
 use Rattle.p3_eval.specs.Runs.{BelongTogether}

@@ -1,7 +1,7 @@
 use Rattle.std.proofs.Common.{◌≡◌, subst}
 use Rattle.std.proofs.lemmas.Int.{to_z-of_z}
 use mir.Syntax.{w128}
-use Rattle.p3_tree.specs.Lifting.{lift}
+use Rattle.p3_task.specs.Lifting.{lift}
 use Rattle.p3_types.specs.declared.checked.Checked.{Checked}
 use Rattle.p3_lift.specs.Judging.{IsComparison, IsOutcome}
 use Rattle.p3_lift.proofs.LiftLaws.{lifted_where_same, not_lifted_where_apart}

@@ -1,6 +1,6 @@
 use Rattle.std.proofs.Common.{◌≡◌, drop}
 use Rattle.std.specs.List.{list_any}
-use Rattle.p3_tree.specs.Lifting.{constrains}
+use Rattle.p3_task.specs.Lifting.{constrains}
 use Rattle.p3_lift.proofs.plain.+constraint.Given as goal
 
 -- those that are left decide

@@ -1,6 +1,6 @@
 use Rattle.std.proofs.Common.{◌≡◌, drop}
 use Rattle.std.specs.List.{list_any}
-use Rattle.p3_tree.specs.Lifting.{prefers}
+use Rattle.p3_task.specs.Lifting.{prefers}
 use Rattle.p3_lift.proofs.plain.+goal.Given as given
 
 -- those that are left decide

@@ -1,5 +1,5 @@
 use Rattle.std.proofs.Common.{◌∙◌, ◌==◌, ◌&&◌, ap}
-use Rattle.p3_tree.specs.Lifting.{is_cost_metric}
+use Rattle.p3_task.specs.Lifting.{is_cost_metric}
 use Rattle.p3_formula.specs.declared.task.GroundTask.{GroundTask}
 use Rattle.p3_types.specs.declared.checked.Checked.{Checked}
 use Rattle.p3_eval.proofs.WholeRuns.{grounded_together}

@@ -1,8 +1,8 @@
 use Rattle.std.proofs.Common.{[], arith, refl, subst, sym}
 use Rattle.std.proofs.lemmas.List.{append-nil, take_all}
 use Rattle.std.proofs.lemmas.Slice.Zip.{AllZip-long}
-use Rattle.p3_tree.specs.Lifting.{lift}
-use Rattle.p3_tree.specs.StepNumbers.{HasNumber}
+use Rattle.p3_task.specs.Lifting.{lift}
+use Rattle.p3_task.specs.StepNumbers.{HasNumber}
 use Rattle.p3_ground.specs.PlansByNumber.{AreNumbers}
 use Rattle.p3_lift.proofs.StepLaws.{copied_more, copied_none, lift_is_short}
 use Rattle.p3_lift.proofs.steps.copied_steps.Goals as goal

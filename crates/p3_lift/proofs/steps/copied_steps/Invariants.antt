@@ -1,5 +1,5 @@
 use Rattle.std.proofs.Common.{take}
-use Rattle.p3_tree.specs.Lifting.{lift}
+use Rattle.p3_task.specs.Lifting.{lift}
 use Rattle.p3_ground.specs.PlansByNumber.{AreNumbers}
 use Rattle.p3_lift.proofs.steps.copied_steps.Given as goal
 

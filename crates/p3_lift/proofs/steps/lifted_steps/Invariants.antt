@@ -1,5 +1,5 @@
 use Rattle.std.proofs.Common.{◌≡◌, take}
-use Rattle.p3_tree.specs.Lifting.{lift}
+use Rattle.p3_task.specs.Lifting.{lift}
 use Rattle.p3_lift.proofs.steps.lifted_steps.Given as goal
 
 abbrev pub invariant-loop-written : goal.invariant-loop-written

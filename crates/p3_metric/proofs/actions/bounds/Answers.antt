@@ -2,8 +2,8 @@ use Rattle.std.proofs.Common.{◌≡◌, ◌∙◌, ap, sym, subst}
 use Rattle.std.proofs.Math.Bool.{Bool-set}
 use Rattle.std.proofs.Math.Logic.{∥∥₁_elim}
 use Rattle.p3_numbers.specs.declared.task.NumberedTask.{NumberedTask}
-use Rattle.p3_tree.specs.Sides.{InDomain, role_of}
-use Rattle.p3_tree.specs.declared.task.Task.{Task}
+use Rattle.p3_task.specs.Sides.{InDomain, role_of}
+use Rattle.p3_task.specs.declared.task.Task.{Task}
 use Rattle.p3_metric.specs.Bounds.{HaveShortNames, first_past}
 use Rattle.p3_metric.specs.declared.measure.Measure.TheVariants.{Cost, Width}
 use Rattle.p3_metric.proofs.ActionLaws.{some_past, none_past}

@@ -1,5 +1,5 @@
 use Rattle.std.proofs.Common.{◌≡◌, drop}
-use Rattle.p3_tree.specs.Sides.{InDomain, role_of}
+use Rattle.p3_task.specs.Sides.{InDomain, role_of}
 use Rattle.p3_metric.specs.Bounds as bounds
 use Rattle.p3_metric.proofs.actions.first_past.Given as goal
 

@@ -2,8 +2,8 @@ use Rattle.std.proofs.Common.{rules, ◌∙◌, ap}
 use mir.Syntax.{w128}
 use mir.Val.{SFits}
 use Rattle.p3_metric.specs.Entries.{changed, number_at}
-use Rattle.p3_tree.specs.Refusals.Metric.{is_within}
-use Rattle.p3_tree.specs.Sides.{weight_bound}
+use Rattle.p3_task.specs.Refusals.Metric.{is_within}
+use Rattle.p3_task.specs.Sides.{weight_bound}
 use Rattle.p3_metric.proofs.EntryLemmas.{number_at_updated, sum_fits}
 use Rattle.p3_metric.proofs.entries.add.Goals as goal
 

@@ -3,9 +3,9 @@ use Rattle.std.specs.Int.RustNames.{unsigned_abs}
 use Rattle.std.proofs.lemmas.Int.{to_z-of_z}
 use mir.Syntax.{w128}
 use mir.Val.{SFits}
-use Rattle.p3_tree.specs.Names.{Name}
-use Rattle.p3_tree.specs.Refusals.Metric.{is_within}
-use Rattle.p3_tree.specs.Sides.{weight_bound}
+use Rattle.p3_task.specs.Names.{Name}
+use Rattle.p3_task.specs.Refusals.Metric.{is_within}
+use Rattle.p3_task.specs.Sides.{weight_bound}
 use Rattle.p3_metric.specs.Entries.{changed, number_at, poured}
 use Rattle.p3_metric.proofs.EntryLemmas.{pour_step, rest_below, next_within, poured_below, poured_whole, both_true, one_false}
 use Rattle.p3_metric.proofs.entries.pour.Goals as goal

@@ -2,8 +2,8 @@ use Rattle.std.proofs.Common.{arith, ◌∙◌, ◌^◌, ◌<◌, ap, sym, subst
 use Rattle.std.specs.Int.RustNames.{unsigned_abs}
 use Rattle.std.proofs.lemmas.Int.{to_z-of_z}
 use mir.Syntax.{w128}
-use Rattle.p3_tree.specs.Refusals.Metric.{is_within}
-use Rattle.p3_tree.specs.Sides.{weight_bound}
+use Rattle.p3_task.specs.Refusals.Metric.{is_within}
+use Rattle.p3_task.specs.Sides.{weight_bound}
 use Rattle.p3_metric.specs.Entries.{number_at}
 use Rattle.p3_metric.proofs.EntryLemmas.{number_at_none, nothing_plus, times_below}
 use Rattle.p3_metric.proofs.entries.scaled.Goals as goal

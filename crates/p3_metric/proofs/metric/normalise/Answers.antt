@@ -2,13 +2,13 @@ use Rattle.std.proofs.Common.{◌≡◌, ◌∙◌, ◌<◌, ◌^◌, sym, subst
 use Rattle.std.specs.Prelude.{Result, Ok, Err, IfOk, OnOk}
 use Rattle.p3_base.specs.declared.refusal.Side.{Side}
 use Rattle.p3_formula.specs.declared.target.Weights.{Weights}
-use Rattle.p3_tree.specs.Costs.{initial_cost}
-use Rattle.p3_tree.specs.Offences.{WellFormed}
-use Rattle.p3_tree.specs.Refusals.Metric.{metric_refusals}
-use Rattle.p3_tree.specs.Refusals.Places.{first_some}
-use Rattle.p3_tree.specs.declared.task.Task.{Task}
-use Rattle.p3_tree.specs.Names.{Name}
-use Rattle.p3_tree.specs.PreferenceNames.{ordered_names}
+use Rattle.p3_task.specs.Costs.{initial_cost}
+use Rattle.p3_task.specs.Offences.{WellFormed}
+use Rattle.p3_task.specs.Refusals.Metric.{metric_refusals}
+use Rattle.p3_task.specs.Refusals.Places.{first_some}
+use Rattle.p3_task.specs.declared.task.Task.{Task}
+use Rattle.p3_task.specs.Names.{Name}
+use Rattle.p3_task.specs.PreferenceNames.{ordered_names}
 use Rattle.p3_numbers.specs.declared.task.NumberedTask.{NumberedTask}
 use Rattle.p3_metric.specs.Weighed.{HasWeights, HasWeightsOf, IsWeights}
 use Rattle.p3_metric.specs.declared.error.MetricFail.{MetricFail}

@@ -3,7 +3,7 @@ use Rattle.std.specs.Prelude.{int_lt}
 use Rattle.std.proofs.lemmas.Int.{to_z-of_z}
 use mir.Syntax.{w128}
 use mir.Val.{SFits}
-use Rattle.p3_tree.specs.Metrics.{signed}
+use Rattle.p3_task.specs.Metrics.{signed}
 use Rattle.p3_metric.specs.Entries.{number_at}
 use Rattle.p3_metric.proofs.SignLaws.{negative-Violated, spot_if}
 use Rattle.p3_metric.proofs.negative.count_spot.Goals as goal

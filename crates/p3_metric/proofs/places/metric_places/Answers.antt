@@ -1,5 +1,5 @@
 use Rattle.std.proofs.Common.{◌≡◌, ◌∙◌, ◌≤◌, ap, arith}
-use Rattle.p3_tree.specs.Metrics.{metric_places}
+use Rattle.p3_task.specs.Metrics.{metric_places}
 use Rattle.p3_metric.specs.Cut.{cut}
 use Rattle.p3_metric.proofs.PlacesLaws.{few_places}
 use Rattle.p3_metric.proofs.places.metric_places.Goals as goal

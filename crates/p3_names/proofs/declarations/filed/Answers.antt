@@ -1,7 +1,7 @@
 use Rattle.std.proofs.Common.{subst}
 use Rattle.std.specs.Prelude.{bytes_eq}
 use Rattle.std.specs.HashMap.{get}
-use Rattle.p3_tree.specs.Types.{type_names}
+use Rattle.p3_task.specs.Types.{type_names}
 use Rattle.p3_names.specs.Typings.{FilesNumbers, typed}
 use Rattle.p3_names.proofs.TypingLemmas.{numbered-more}
 use Rattle.p3_names.proofs.declarations.filed.Goals as goal

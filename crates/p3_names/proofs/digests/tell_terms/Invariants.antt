@@ -1,5 +1,5 @@
 use Rattle.std.proofs.Common.{◌≡◌, [], take}
-use Rattle.p3_tree.specs.States.{meanings}
+use Rattle.p3_task.specs.States.{meanings}
 use Rattle.p3_names.specs.Keys.{told_all}
 use Rattle.p3_names.proofs.digests.tell_terms.Given as goal
 

@@ -1,5 +1,5 @@
 use Rattle.std.proofs.Common.{◌≡◌, [], take}
-use Rattle.p3_tree.specs.Types.{names_of}
+use Rattle.p3_task.specs.Types.{names_of}
 use Rattle.p3_names.specs.Names.{with_names}
 use Rattle.p3_names.proofs.kinds.listed.Given as goal
 

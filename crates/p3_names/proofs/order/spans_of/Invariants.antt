@@ -1,5 +1,5 @@
 use Rattle.std.proofs.Common.{◌≡◌, ◌<◌, ◌≤◌, ℕ, List, length, get_or}
-use Rattle.p3_tree.specs.Names.{Name}
+use Rattle.p3_task.specs.Names.{Name}
 use Rattle.p3_names.specs.Reaches.{AreReached, AreTops}
 use Rattle.p3_names.specs.Spans.{AreSpans}
 use Rattle.p3_names.proofs.order.spans_of.Given as goal

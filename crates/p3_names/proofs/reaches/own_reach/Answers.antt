@@ -1,6 +1,6 @@
 use Rattle.std.proofs.Common.{◌≡◌, ◌∙◌, [], ap, map, sym, subst}
 use Rattle.std.specs.Prelude.{filter_map}
-use Rattle.p3_tree.specs.Types.{pair_of}
+use Rattle.p3_task.specs.Types.{pair_of}
 use Rattle.p3_names.specs.Kinds.{lows_under, words_in}
 use Rattle.p3_names.specs.Walks.{IsOwn, kind_at}
 use Rattle.p3_names.proofs.ReachLemmas.{got-at, lows-listed, own-none}

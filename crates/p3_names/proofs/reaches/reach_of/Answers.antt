@@ -1,6 +1,6 @@
 use Rattle.std.proofs.Common.{◌≤◌, ◌<◌, List, ℕ, length, get_or, sym, subst, arith}
 use Rattle.std.specs.Prelude.{filter_map}
-use Rattle.p3_tree.specs.Types.{pair_of}
+use Rattle.p3_task.specs.Types.{pair_of}
 use Rattle.p3_names.specs.Walks.{IsReached}
 use Rattle.p3_names.specs.declared.reaches.Reach.{Reach}
 use Rattle.p3_names.proofs.ReachLemmas.{own-all, reach-joined}

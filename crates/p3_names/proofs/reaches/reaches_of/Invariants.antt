@@ -1,6 +1,6 @@
 use Rattle.std.specs.Prelude.{filter_map}
 use Rattle.std.proofs.Common.{◌≤◌, length}
-use Rattle.p3_tree.specs.Types.{pair_of}
+use Rattle.p3_task.specs.Types.{pair_of}
 use Rattle.p3_names.specs.Reaches.{AreReached}
 use Rattle.p3_names.proofs.reaches.reaches_of.Given as goal
 

@@ -1,6 +1,6 @@
 use Rattle.std.proofs.Common.{◌≡◌, ◌<◌, List, [], map, length, take}
 use Rattle.std.specs.Prelude.{All, Contains}
-use Rattle.p3_tree.specs.Names.{Name}
+use Rattle.p3_task.specs.Names.{Name}
 use Rattle.p3_names.specs.Walks.{IsOwn, kind_at}
 use Rattle.p3_names.proofs.reaches.with_lows.Given as goal
 

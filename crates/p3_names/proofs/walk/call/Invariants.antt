@@ -1,5 +1,5 @@
 use Rattle.std.specs.Prelude.{List, All}
-use Rattle.p3_tree.specs.Names.{Name}
+use Rattle.p3_task.specs.Names.{Name}
 use Rattle.p3_names.specs.Walks.{IsNext}
 use Rattle.p3_names.specs.Nexts.{AreNext}
 use Rattle.p3_names.proofs.walk.call.Given as goal

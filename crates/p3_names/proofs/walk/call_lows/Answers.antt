@@ -1,6 +1,6 @@
 use Rattle.std.proofs.Common.{◌∙◌, ap, map}
 use Rattle.std.specs.Prelude.{filter_map}
-use Rattle.p3_tree.specs.Types.{pair_of}
+use Rattle.p3_task.specs.Types.{pair_of}
 use Rattle.p3_names.specs.Kinds.{words_in}
 use Rattle.p3_names.proofs.ReachLemmas.{lows-next}
 use Rattle.p3_names.proofs.walk.call_lows.Goals as goal

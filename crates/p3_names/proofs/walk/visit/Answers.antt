@@ -1,7 +1,7 @@
 use Rattle.std.proofs.Common.{◌≡◌, ◌∙◌, ◌++◌, ◌∷◌, [], if◌then◌else◌, false, sym, subst, arith}
 use Rattle.std.specs.Prelude.{filter_map}
-use Rattle.p3_tree.specs.Names.{has_name}
-use Rattle.p3_tree.specs.Types.{pair_of}
+use Rattle.p3_task.specs.Names.{has_name}
+use Rattle.p3_task.specs.Types.{pair_of}
 use Rattle.p3_names.specs.Walks.{IsAt, IsWalked}
 use Rattle.p3_names.specs.Nexts.{AreNext}
 use Rattle.p3_names.proofs.ReachLemmas.{at-more, nexts-more, walked-more}

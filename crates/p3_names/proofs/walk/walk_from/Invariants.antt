@@ -1,5 +1,5 @@
 use Rattle.std.specs.Prelude.{filter_map}
-use Rattle.p3_tree.specs.Types.{pair_of}
+use Rattle.p3_task.specs.Types.{pair_of}
 use Rattle.p3_names.specs.Walks.{IsWalked}
 use Rattle.p3_names.specs.Nexts.{AreNext}
 use Rattle.p3_names.proofs.walk.walk_from.Given as goal

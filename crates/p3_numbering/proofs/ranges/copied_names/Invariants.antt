@@ -1,5 +1,5 @@
 use Rattle.std.proofs.Common.{◌≡◌, take}
-use Rattle.p3_tree.specs.Types.{names_of}
+use Rattle.p3_task.specs.Types.{names_of}
 use Rattle.p3_numbering.proofs.ranges.copied_names.Given as goal
 
 abbrev pub invariant-loop-kind : goal.invariant-loop-kind

@@ -3,8 +3,8 @@ use denote.Ref.{Bor}
 use Rattle.std.proofs.lemmas.List.{map-append}
 use Rattle.p3_numbering.proofs.RangeLemmas.{with-new}
 use Rattle.p3_numbering.specs.Listed.{lists_in}
-use Rattle.p3_tree.specs.Types.{names_of}
-use Rattle.p3_tree.specs.declared.term.Ref.{Ref}
+use Rattle.p3_task.specs.Types.{names_of}
+use Rattle.p3_task.specs.declared.term.Ref.{Ref}
 use Rattle.p3_numbering.proofs.ranges.push_list.Goals as goal
 
 pub returns-in_ok-push-in-None-clause-same : goal.returns-in_ok-push-in-None-clause-same

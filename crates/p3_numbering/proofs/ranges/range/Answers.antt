@@ -1,9 +1,9 @@
 use Rattle.std.proofs.Common.{List, subst}
 use Rattle.p3_numbering.proofs.HavingLemmas.{is-range}
 use Rattle.p3_numbering.specs.Ranges.{IsRange}
-use Rattle.p3_tree.specs.Types.{names_of}
-use Rattle.p3_tree.specs.declared.task.Task.{Task}
-use Rattle.p3_tree.specs.declared.term.Ref.{Ref}
+use Rattle.p3_task.specs.Types.{names_of}
+use Rattle.p3_task.specs.declared.task.Task.{Task}
+use Rattle.p3_task.specs.declared.term.Ref.{Ref}
 use Rattle.p3_numbering.proofs.ranges.range.Goals as goal
 
 pub returns : goal.returns

@@ -1,8 +1,8 @@
 use Rattle.std.proofs.Common.{subst}
 use Rattle.p3_numbering.proofs.HavingLemmas.{have-next}
 use Rattle.p3_numbering.specs.Ranges.{IsRange}
-use Rattle.p3_tree.specs.Types.{names_of}
-use Rattle.p3_tree.specs.declared.task.Task.{Task}
+use Rattle.p3_task.specs.Types.{names_of}
+use Rattle.p3_task.specs.declared.task.Task.{Task}
 use Rattle.p3_numbering.proofs.ranges.ranges_of.Goals as goal
 
 pub loop-types-preserved : goal.loop-types-preserved

@@ -1,5 +1,5 @@
 use Rattle.std.proofs.Common.{◌≡◌, map, take}
-use Rattle.p3_tree.specs.Types.{names_of}
+use Rattle.p3_task.specs.Types.{names_of}
 use Rattle.p3_numbering.proofs.type_table.key_of.Given as goal
 
 abbrev pub invariant-loop-kind : goal.invariant-loop-kind

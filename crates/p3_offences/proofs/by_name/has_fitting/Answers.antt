@@ -1,5 +1,5 @@
 use Rattle.std.proofs.Common.{◌∙◌, sym}
-use Rattle.p3_tree.proofs.MeaningLemmas.{list_any-map}
+use Rattle.p3_task.proofs.MeaningLemmas.{list_any-map}
 use Rattle.p3_names.specs.Objects.{fits}
 use Rattle.p3_offences.proofs.by_name.has_fitting.Goals as goal
 

@@ -1,8 +1,8 @@
 use Rattle.std.proofs.Common.{◌≡◌, take}
 use Rattle.std.specs.Prelude.{fold, flat_map, zip}
-use Rattle.p3_tree.specs.Offences.{unless, term_fits, word_of}
-use Rattle.p3_tree.specs.declared.term.Term.{Term}
-use Rattle.p3_tree.specs.declared.term.Typed.{Typed}
+use Rattle.p3_task.specs.Offences.{unless, term_fits, word_of}
+use Rattle.p3_task.specs.declared.term.Term.{Term}
+use Rattle.p3_task.specs.declared.term.Typed.{Typed}
 use Rattle.p3_names.specs.Scopes.{scope_seen}
 use Rattle.p3_offences.specs.Spots.{step}
 use Rattle.p3_offences.proofs.clashes.clashes_noted.Given as goal

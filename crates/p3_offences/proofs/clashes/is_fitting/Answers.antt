@@ -1,6 +1,6 @@
 use Rattle.std.proofs.Common.{◌≡◌, true, subst, sym}
 use Rattle.std.specs.Prelude.{IfSome}
-use Rattle.p3_tree.specs.Offences.{term_fits}
+use Rattle.p3_task.specs.Offences.{term_fits}
 use Rattle.p3_names.specs.Scopes.{scope_seen}
 use Rattle.p3_offences.specs.Fitting.{object_fits_at, variable_fits_at}
 use Rattle.p3_offences.specs.Numbers.{parameter_at}

@@ -1,6 +1,6 @@
 use Rattle.std.proofs.Common.{take}
 use Rattle.std.specs.Prelude.{flat_map}
-use Rattle.p3_tree.specs.Offences.{kind_names}
+use Rattle.p3_task.specs.Offences.{kind_names}
 use Rattle.p3_names.specs.Names.{Adds}
 use Rattle.p3_offences.proofs.declared_names.add_kinds.Given as goal
 

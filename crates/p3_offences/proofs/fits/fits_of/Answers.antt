@@ -1,7 +1,7 @@
 use Rattle.std.proofs.Common.{◌≡◌, ◌∙◌, ◌++◌, [], ◌∷◌, ap, map, sym, take}
 use Rattle.std.proofs.lemmas.List.{map-append, take_more}
 use Rattle.std.proofs.lemmas.List.Elements.{All-push}
-use Rattle.p3_tree.specs.Types.{names_of}
+use Rattle.p3_task.specs.Types.{names_of}
 use Rattle.p3_offences.specs.declared.fit.Fit.{Fit}
 use Rattle.p3_offences.specs.Numbers.{names_in}
 use Rattle.p3_offences.proofs.fits.fits_of.Goals as goal

@@ -1,5 +1,5 @@
 use Rattle.std.proofs.Common.{◌∙◌, ◌∷◌, [], sym, ap, subst}
-use Rattle.p3_tree.specs.States.{meanings}
+use Rattle.p3_task.specs.States.{meanings}
 use Rattle.p3_offences.specs.Given.{AddsValue}
 use Rattle.p3_offences.proofs.GivenLemmas.{adds-value}
 use Rattle.p3_offences.proofs.given.entry_noted.Goals as goal

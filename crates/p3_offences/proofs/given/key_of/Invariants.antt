@@ -1,5 +1,5 @@
 use Rattle.std.proofs.Common.{◌≡◌, ◌∷◌, [], map, take}
-use Rattle.p3_tree.specs.States.{meanings}
+use Rattle.p3_task.specs.States.{meanings}
 use Rattle.p3_offences.proofs.given.key_of.Given as goal
 
 abbrev pub invariant-loop-term : goal.invariant-loop-term

@@ -1,6 +1,6 @@
 use Rattle.std.proofs.Common.{◌≡◌, [], take}
 use Rattle.std.specs.Prelude.{fold}
-use Rattle.p3_tree.specs.Offences.{repeated_values}
+use Rattle.p3_task.specs.Offences.{repeated_values}
 use Rattle.p3_offences.specs.Spots.{step}
 use Rattle.p3_offences.specs.Given.{Tells}
 use Rattle.p3_offences.proofs.given.values_repeated.Given as goal

@@ -1,7 +1,7 @@
 use Rattle.std.proofs.Common.{◌≡◌, take}
 use Rattle.std.specs.Prelude.{fold, flat_map}
-use Rattle.p3_tree.specs.Names.{has_name}
-use Rattle.p3_tree.specs.Offences.{unless, declared_types}
+use Rattle.p3_task.specs.Names.{has_name}
+use Rattle.p3_task.specs.Offences.{unless, declared_types}
 use Rattle.p3_offences.specs.Spots.{step}
 use Rattle.p3_offences.proofs.notes.kinds_unknown.Given as goal
 

@@ -1,6 +1,6 @@
 use Rattle.std.proofs.Common.{◌≡◌, take}
 use Rattle.std.specs.Prelude.{fold, flat_map}
-use Rattle.p3_tree.specs.Offences.{unknown_term}
+use Rattle.p3_task.specs.Offences.{unknown_term}
 use Rattle.p3_names.specs.Scopes.{scope_seen}
 use Rattle.p3_offences.specs.Spots.{step}
 use Rattle.p3_offences.proofs.notes.terms_unknown.Given as goal

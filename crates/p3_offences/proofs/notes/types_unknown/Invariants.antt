@@ -1,6 +1,6 @@
 use Rattle.std.proofs.Common.{◌≡◌, take}
 use Rattle.std.specs.Prelude.{fold}
-use Rattle.p3_tree.specs.Offences.{unknown_types}
+use Rattle.p3_task.specs.Offences.{unknown_types}
 use Rattle.p3_offences.specs.Spots.{step}
 use Rattle.p3_offences.proofs.notes.types_unknown.Given as goal
 

@@ -1,7 +1,7 @@
 use Rattle.std.proofs.Common.{◌≡◌, [], ◌∷◌, not, refl, subst}
 use Rattle.std.specs.Prelude.{fold}
-use Rattle.p3_tree.specs.Names.{has_name}
-use Rattle.p3_tree.specs.Offences.{unless}
+use Rattle.p3_task.specs.Names.{has_name}
+use Rattle.p3_task.specs.Offences.{unless}
 use Rattle.p3_names.specs.Names.{Adds}
 use Rattle.p3_names.proofs.NameLemmas.{adds-more}
 use Rattle.p3_offences.specs.Spots.{step}

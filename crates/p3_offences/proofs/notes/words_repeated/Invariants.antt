@@ -1,6 +1,6 @@
 use Rattle.std.proofs.Common.{◌≡◌, [], ◌∷◌, map, take}
 use Rattle.std.specs.Prelude.{fold, flat_map}
-use Rattle.p3_tree.specs.Offences.{repeated}
+use Rattle.p3_task.specs.Offences.{repeated}
 use Rattle.p3_names.specs.Names.{Adds}
 use Rattle.p3_offences.specs.Spots.{step}
 use Rattle.p3_offences.proofs.notes.words_repeated.Given as goal

@@ -1,6 +1,6 @@
 use Rattle.std.proofs.Common.{◌∙◌, ap}
 use Rattle.std.specs.Prelude.{slice_get}
-use Rattle.p3_tree.specs.Types.{names_of}
+use Rattle.p3_task.specs.Types.{names_of}
 use Rattle.p3_offences.proofs.NumberLemmas.{same-longer, lists-kept, list-placed}
 use Rattle.p3_offences.proofs.numbers.number_of.Goals as goal
 

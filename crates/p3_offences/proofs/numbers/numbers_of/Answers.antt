@@ -1,5 +1,5 @@
 use Rattle.std.proofs.Common.{◌∙◌, ap, Some}
-use Rattle.p3_tree.specs.Types.{names_of}
+use Rattle.p3_task.specs.Types.{names_of}
 use Rattle.p3_offences.proofs.NumberLemmas.{numbers-more}
 use Rattle.p3_offences.proofs.numbers.numbers_of.Goals as goal
 

@@ -1,6 +1,6 @@
 use Rattle.std.proofs.Common.{◌∙◌, sym, ap}
 use Rattle.std.specs.Prelude.{fold}
-use Rattle.p3_tree.specs.Uses.{AtomUse, FunctionUse, init_uses}
+use Rattle.p3_task.specs.Uses.{AtomUse, FunctionUse, init_uses}
 use Rattle.p3_names.specs.Scopes.{scope_seen}
 use Rattle.p3_offences.specs.Spots.{use_step}
 use Rattle.p3_offences.proofs.whole.init_walked.Goals as goal

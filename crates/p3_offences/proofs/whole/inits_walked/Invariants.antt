@@ -1,6 +1,6 @@
 use Rattle.std.proofs.Common.{◌≡◌, take}
 use Rattle.std.specs.Prelude.{fold, flat_map}
-use Rattle.p3_tree.specs.Uses.{init_uses}
+use Rattle.p3_task.specs.Uses.{init_uses}
 use Rattle.p3_offences.specs.Spots.{use_step}
 use Rattle.p3_offences.proofs.whole.inits_walked.Given as goal
 

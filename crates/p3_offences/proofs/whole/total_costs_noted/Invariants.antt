@@ -1,6 +1,6 @@
 use Rattle.std.proofs.Common.{◌≡◌, take, None}
 use Rattle.std.specs.Prelude.{fold, flat_map}
-use Rattle.p3_tree.specs.Offences.{total_cost_with_parameters}
+use Rattle.p3_task.specs.Offences.{total_cost_with_parameters}
 use Rattle.p3_offences.specs.Spots.{step}
 use Rattle.p3_offences.proofs.whole.total_costs_noted.Given as goal
 

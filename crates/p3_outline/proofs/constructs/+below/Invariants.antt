@@ -1,5 +1,5 @@
 use Rattle.std.proofs.Common.{◌≡◌, ◌+◌, ◌*◌, ◌≤◌, List, Option, length}
-use Rattle.p3_tree.specs.Names.{Name}
+use Rattle.p3_task.specs.Names.{Name}
 use Rattle.p3_outline.specs.Nodes.{expressions_of}
 use Rattle.p3_outline.specs.Constructs.{least_with, the_around, constructs_in}
 use Rattle.p3_outline.proofs.constructs.+below.Given as goal

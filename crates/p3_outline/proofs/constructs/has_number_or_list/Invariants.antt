@@ -1,6 +1,6 @@
 use Rattle.std.proofs.Common.{◌≡◌, length}
 use Rattle.std.specs.List.{list_any}
-use Rattle.p3_tree.specs.Refusals.Constructs.{is_number_or_list}
+use Rattle.p3_task.specs.Refusals.Constructs.{is_number_or_list}
 use Rattle.p3_outline.specs.Nodes.{expressions_of}
 use Rattle.p3_outline.proofs.constructs.has_number_or_list.Given as goal
 

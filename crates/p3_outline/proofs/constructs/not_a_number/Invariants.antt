@@ -1,5 +1,5 @@
 use Rattle.std.proofs.Common.{◌≡◌, false, length}
-use Rattle.p3_tree.specs.Refusals.Constructs.{not_a_number}
+use Rattle.p3_task.specs.Refusals.Constructs.{not_a_number}
 use Rattle.p3_outline.specs.Nodes.{expressions_of}
 use Rattle.p3_outline.specs.Constructs.{least_with}
 use Rattle.p3_outline.proofs.constructs.not_a_number.Given as goal

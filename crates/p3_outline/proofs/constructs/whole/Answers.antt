@@ -1,5 +1,5 @@
 use Rattle.std.proofs.Common.{◌∙◌, sym, ap, [], None}
-use Rattle.p3_tree.specs.Refusals.Constructs.{word_when}
+use Rattle.p3_task.specs.Refusals.Constructs.{word_when}
 use Rattle.p3_outline.specs.Nodes.{expression_of}
 use Rattle.p3_outline.specs.Constructs.{the_word, least_with, constructs_below}
 use Rattle.p3_outline.proofs.ConstructLemmas.{word_shows, list_shows}

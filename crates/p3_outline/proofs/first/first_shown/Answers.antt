@@ -1,6 +1,6 @@
 use Rattle.std.proofs.Common.{◌∙◌, ap, Some}
 use Rattle.std.specs.Option.{option_or}
-use Rattle.p3_tree.specs.Refusals.Texts.{construct_in}
+use Rattle.p3_task.specs.Refusals.Texts.{construct_in}
 use Rattle.p3_outline.specs.Nodes.{root_of}
 use Rattle.p3_outline.proofs.FirstLemmas.{shown_behind_outline}
 use Rattle.p3_outline.proofs.first.first_shown.Goals as goal

@@ -1,7 +1,7 @@
 use Rattle.std.proofs.Common.{◌≡◌, ◌-◌, length}
 use Rattle.p3_lexer.specs.Lexing.{left}
-use Rattle.p3_tree.specs.Tokens.{tokens_of}
-use Rattle.p3_tree.specs.Watching.{second_step}
+use Rattle.p3_task.specs.Tokens.{tokens_of}
+use Rattle.p3_task.specs.Watching.{second_step}
 use Rattle.p3_plans.specs.Lines.{second_by}
 use Rattle.p3_plans.proofs.line.second_step.Given as goal
 

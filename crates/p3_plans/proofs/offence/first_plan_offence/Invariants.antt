@@ -1,5 +1,5 @@
 use Rattle.std.proofs.Common.{◌≡◌, length}
-use Rattle.p3_tree.specs.PlanTexts.{plan_offence}
+use Rattle.p3_task.specs.PlanTexts.{plan_offence}
 use Rattle.p3_plans.specs.Steps.{left}
 use Rattle.p3_plans.proofs.offence.first_plan_offence.Given as goal
 

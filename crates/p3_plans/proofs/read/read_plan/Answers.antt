@@ -2,7 +2,7 @@ use Rattle.std.proofs.Common.{Some, sym, ap, subst, ◌∙◌}
 use Rattle.std.proofs.lemmas.Result.{err_from_is_err_and}
 use Rattle.p3_base.specs.declared.refusal.Refusal.{Refusal}
 use Rattle.p3_lexer.specs.Lexing.{left, token_of}
-use Rattle.p3_tree.specs.Tokens.{Tokens}
+use Rattle.p3_task.specs.Tokens.{Tokens}
 use Rattle.p3_plans.proofs.DraftLemmas.{IsRead, read_more, read_foreign, fail_here, whole_free, whole_few, whole_refused}
 use Rattle.p3_plans.proofs.ReadLemmas.{whole_is_writable}
 use Rattle.p3_plans.proofs.read.read_plan.Goals as goal

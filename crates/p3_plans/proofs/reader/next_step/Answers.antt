@@ -3,8 +3,8 @@ use Rattle.p3_base.specs.declared.refusal.Refusal.{Refusal}
 use Rattle.p3_plans.specs.declared.before.Before.{Before}
 use Rattle.p3_lexer.specs.Lexing as lexing
 use Rattle.p3_lexer.specs.Lexing.{token_of, gap_len}
-use Rattle.p3_tree.specs.Tokens.{Tokens}
-use Rattle.p3_tree.specs.PlanTexts.{Outside}
+use Rattle.p3_task.specs.Tokens.{Tokens}
+use Rattle.p3_task.specs.PlanTexts.{Outside}
 use Rattle.p3_plans.specs.Befores.{the_before, begin_of, Passes}
 use Rattle.p3_plans.specs.Steps.{StepText, Left, parts, place_of, nothing}
 use Rattle.p3_plans.proofs.StepLemmas.{parts_end, parts_foreign, parts_refused, parts_more, parts_step, after_step, step_between, place_is, begins, begun_more, begun_done}

@@ -1,6 +1,6 @@
 use Rattle.std.proofs.Common.{◌≡◌, ◌≤◌, ◌-◌, length}
 use Rattle.p3_lexer.specs.Lexing as lexing
-use Rattle.p3_tree.specs.PlanTexts.{Outside}
+use Rattle.p3_task.specs.PlanTexts.{Outside}
 use Rattle.p3_plans.specs.Befores.{the_before, begin_of}
 use Rattle.p3_plans.specs.Steps.{parts}
 use Rattle.p3_plans.proofs.StepLemmas.{IsBegunAt}

@@ -2,7 +2,7 @@ use Rattle.std.proofs.Common.{ap, ◌∙◌, arith, length}
 use Rattle.std.proofs.lemmas.List.{take_all}
 use Rattle.std.specs.List.{flat_map}
 use Rattle.p3_plans.specs.Layout as layout
-use Rattle.p3_tree.specs.Plans.{Plan}
+use Rattle.p3_task.specs.Plans.{Plan}
 use Rattle.p3_plans.proofs.WrittenLemmas.{layout_is_text}
 use Rattle.p3_plans.proofs.write.write_plan.Goals as goal
 

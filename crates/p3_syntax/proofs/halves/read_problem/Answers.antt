@@ -1,6 +1,6 @@
 use Rattle.std.proofs.Common.{subst, IsSome, ◌∙◌, sym, ap}
-use Rattle.p3_tree.specs.Grammar.Halves.{problem_place}
-use Rattle.p3_tree.specs.declared.expression.Expression.{Expression}
+use Rattle.p3_task.specs.Grammar.Halves.{problem_place}
+use Rattle.p3_task.specs.declared.expression.Expression.{Expression}
 use Rattle.p3_outline.specs.Nodes.{root_of}
 use Rattle.p3_syntax.proofs.FirstLemmas.{outline_balanced, problem_tree}
 use Rattle.p3_syntax.proofs.halves.read_problem.Goals as goal

@@ -1,7 +1,7 @@
 use Rattle.std.proofs.Common.{ℕ, List, inl, inr}
 use Rattle.p3_base.specs.declared.refusal.Side.TheVariants.{Source}
-use Rattle.p3_tree.specs.Refusals.First.{AreReadable, HalfText, IsReadable, halves}
-use Rattle.p3_tree.specs.Sides.{InDomain, InProblem}
+use Rattle.p3_task.specs.Refusals.First.{AreReadable, HalfText, IsReadable, halves}
+use Rattle.p3_task.specs.Sides.{InDomain, InProblem}
 use Rattle.p3_test_calls.proofs.judged.task_of.Goals as goal
 
 are_readable : (d p : List ℕ) → IsReadable (HalfText Source InDomain d) → IsReadable (HalfText Source InProblem p) → AreReadable (halves (record { side = Source; domain = d; problem = p }))

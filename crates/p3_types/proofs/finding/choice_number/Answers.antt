@@ -1,6 +1,6 @@
 use Rattle.std.proofs.Common.{◌≡◌, ◌∙◌, List, ap, sym, subst, map, false, arith}
 use Rattle.std.specs.Str.{str_to_ascii_lowercase}
-use Rattle.p3_tree.specs.Names.{Name, has_name}
+use Rattle.p3_task.specs.Names.{Name, has_name}
 use Rattle.p3_numbers.specs.Slots.{name_at}
 use Rattle.p3_types.specs.Finds.{IsRange, IsNarrowed}
 use Rattle.p3_types.proofs.FindLemmas.{none_among, too_few, stretch_none, stretch_more, stretch_end}

@@ -2,7 +2,7 @@ use Rattle.std.proofs.Common.{◌∙◌, ap, sym, Ok, Err}
 use Rattle.std.specs.Prelude.{slice_get}
 use Rattle.std.proofs.lemmas.List.Sorted.{searched}
 use Rattle.std.specs.Str.{str_to_ascii_lowercase}
-use Rattle.p3_tree.specs.Names.{has_name}
+use Rattle.p3_task.specs.Names.{has_name}
 use Rattle.p3_types.proofs.FindLemmas.{none_named, none_there, not_there, there}
 use Rattle.p3_types.proofs.NameOrderLemmas.{map_same}
 use Rattle.p3_types.proofs.finding.place_in.Goals as goal

@@ -1,8 +1,8 @@
 use Rattle.std.proofs.Common.{◌∙◌, sym, arith}
 use Rattle.std.specs.Option.{option_map}
 use Rattle.p3_base.specs.declared.refusal.Code.TheVariants.{TooManyPreferences}
-use Rattle.p3_tree.specs.Refusals.Places.{refusal_at}
-use Rattle.p3_tree.specs.Sides.{InDomain, InProblem, instance_limit}
+use Rattle.p3_task.specs.Refusals.Places.{refusal_at}
+use Rattle.p3_task.specs.Sides.{InDomain, InProblem, instance_limit}
 use Rattle.p3_types.specs.Excess.{many_at, problem_offsets}
 use Rattle.p3_types.specs.Preferences.{constraint_offsets}
 use Rattle.p3_types.proofs.SizeFindLemmas.{made-here, made-behind}

@@ -1,5 +1,5 @@
 use Rattle.std.proofs.Common.{◌≡◌, drop}
-use Rattle.p3_tree.specs.Sides.{step_count_limit}
+use Rattle.p3_task.specs.Sides.{step_count_limit}
 use Rattle.p3_types.specs.Excess.{refused_step}
 use Rattle.p3_types.proofs.step_counts.too_many_steps.Given as goal
 

@@ -3,7 +3,7 @@ use Rattle.std.proofs.lemmas.Result.{on_err_weaker, on_ok_weaker}
 use Rattle.p3_base.specs.Outside.{IsPartlyPut, IsPut}
 use Rattle.p3_tree.specs.Reports.Plans.{fault_line}
 use Rattle.p3_tree.specs.Reports.Watching.{judged_lines}
-use Rattle.p3_tree.specs.declared.task.Task.{Task}
+use Rattle.p3_task.specs.declared.task.Task.{Task}
 use Rattle.p3_reports.specs.Faults.{fault_of}
 use Rattle.p3_types.specs.declared.checked.Checked.{Checked}
 use Rattle.p3_run.specs.Runs.{Ran}

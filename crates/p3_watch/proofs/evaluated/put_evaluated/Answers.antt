@@ -5,7 +5,7 @@ use Rattle.std.proofs.lemmas.Slice.Zip.{AllZip-long}
 use mir.Syntax.{w128}
 use mir.Val.{SFits}
 use Rattle.p3_base.specs.Outside.{IsPartlyPut, IsPut}
-use Rattle.p3_tree.specs.StepNumbers.{HasNumber}
+use Rattle.p3_task.specs.StepNumbers.{HasNumber}
 use Rattle.p3_reports.proofs.PutLemmas.{on_err}
 use Rattle.p3_watch.proofs.EvaluatedLemmas.{first_partly, lines_put, metric_is, metric_partly, names_partly}
 use Rattle.p3_watch.proofs.evaluated.put_evaluated.Goals as goal

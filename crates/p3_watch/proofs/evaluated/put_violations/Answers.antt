@@ -2,8 +2,8 @@ use Rattle.std.proofs.Common.{◌≡◌, ◌∙◌, Some, ap, arith, subst, sym}
 use Rattle.std.specs.Option.{option_copied}
 use Rattle.std.specs.Prelude.{slice_get}
 use Rattle.p3_base.specs.Outside.{IsPartlyPut, IsPut}
-use Rattle.p3_tree.specs.Metrics.{violated}
-use Rattle.p3_tree.specs.PreferenceNames.{ordered_names}
+use Rattle.p3_task.specs.Metrics.{violated}
+use Rattle.p3_task.specs.PreferenceNames.{ordered_names}
 use Rattle.p3_reports.specs.Parts.{violated_line}
 use Rattle.p3_reports.proofs.PutLemmas.{on_err}
 use Rattle.p3_watch.specs.Violations.{violated_entry}

@@ -1,7 +1,7 @@
 use Rattle.std.proofs.Common.{◌≤◌, take}
 use Rattle.std.specs.Prelude.{flat_map}
 use Rattle.p3_base.specs.Outside.{IsPut}
-use Rattle.p3_tree.specs.PreferenceNames.{ordered_names}
+use Rattle.p3_task.specs.PreferenceNames.{ordered_names}
 use Rattle.p3_eval.specs.Runs.{OfRun}
 use Rattle.p3_watch.specs.Violations.{violated_entry}
 use Rattle.p3_watch.proofs.evaluated.put_violations.Given as goal

@@ -1,7 +1,7 @@
 use Rattle.std.proofs.Common.{◌∙◌, ◌+◌, ◌<◌, ap, arith, drop, length, min, refl, subst, sym}
 use Rattle.p3_base.specs.Outside.{IsPartlyPut, IsPut}
 use Rattle.p3_tree.specs.Reports.Watching.{block}
-use Rattle.p3_tree.specs.Watching.{lines_from}
+use Rattle.p3_task.specs.Watching.{lines_from}
 use Rattle.p3_types.specs.declared.checked.Checked.{Checked}
 use Rattle.p3_watch.specs.Lines.{line_at}
 use Rattle.p3_watch.specs.Watching.{AreLinesAsked, IsAnswered, OfAnswer}

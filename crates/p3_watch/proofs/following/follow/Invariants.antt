@@ -1,5 +1,5 @@
 use Rattle.std.proofs.Common.{◌≡◌, ◌≤◌, ◌-◌, drop, length}
-use Rattle.p3_tree.specs.Watching.{lines_from}
+use Rattle.p3_task.specs.Watching.{lines_from}
 use Rattle.p3_watch.specs.Following.{IsFollowed}
 use Rattle.p3_watch.specs.Lines.{IsStart}
 use Rattle.p3_watch.specs.Watching.{AreLinesAsked}

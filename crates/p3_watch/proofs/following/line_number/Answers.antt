@@ -1,6 +1,6 @@
 use Rattle.std.proofs.Common.{subst, sym}
-use Rattle.p3_tree.specs.Watching.{line_text}
-use Rattle.p3_tree.proofs.StepNumberLaws.{steps_have_numbers}
+use Rattle.p3_task.specs.Watching.{line_text}
+use Rattle.p3_task.proofs.StepNumberLaws.{steps_have_numbers}
 use Rattle.p3_eval.proofs.RefusalLaws.{well_formed_from}
 use Rattle.p3_watch.specs.Watching.{IsNumberOfLine}
 use Rattle.p3_watch.proofs.NumberLemmas.{of_step}

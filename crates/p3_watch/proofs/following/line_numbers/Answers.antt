@@ -1,5 +1,5 @@
 use Rattle.std.proofs.Common.{◌∙◌, ◌+◌, ◌<◌, ap, length, min, refl, subst}
-use Rattle.p3_tree.specs.Watching.{line_text}
+use Rattle.p3_task.specs.Watching.{line_text}
 use Rattle.p3_watch.specs.Watching.{IsNumberOfLine}
 use Rattle.p3_watch.proofs.NumberLemmas.{all_passed, none_passed, one_passed}
 use Rattle.p3_watch.proofs.PlaceLemmas.{is_inside, text_starts}

@@ -1,5 +1,5 @@
 use Rattle.std.proofs.Common.{◌≡◌, ap, arith, subst}
-use Rattle.p3_tree.specs.Limits.{step_count}
+use Rattle.p3_task.specs.Limits.{step_count}
 use Rattle.p3_types.specs.declared.checked.Checked.{Checked}
 use Rattle.p3_ground.specs.Sparse.{IsGroundingAmong}
 use Rattle.p3_eval.proofs.AmongLemmas.{grounding_of_all}

@@ -1,5 +1,5 @@
 use Rattle.std.proofs.Common.{◌≡◌, subst}
-use Rattle.p3_tree.specs.Validity.{first_fault}
+use Rattle.p3_task.specs.Validity.{first_fault}
 use Rattle.p3_run.specs.Runs.{Ran}
 use Rattle.p3_eval.specs.Runs.{OfItsPlan, fault_of}
 use Rattle.p3_eval.proofs.RunKept.{told_verdict}

@@ -1,6 +1,6 @@
 use Rattle.std.proofs.Common.{subst}
 use Rattle.std.specs.Prelude.{IsTrue}
-use Rattle.p3_tree.specs.Plans.{steps_fit}
+use Rattle.p3_task.specs.Plans.{steps_fit}
 use Rattle.p3_run.specs.Runs.{Ran}
 use Rattle.p3_eval.specs.Runs.{OfItsPlan}
 use Rattle.p3_eval.proofs.RunKept.{fit}

@@ -1,7 +1,7 @@
 use Rattle.std.proofs.Common.{◌≡◌, ◌∙◌, pos, subst, to_z, of_z}
 use Rattle.std.proofs.lemmas.Int.{to_z-of_z}
 use mir.Syntax.{w128}
-use Rattle.p3_tree.specs.Metrics.{cost}
+use Rattle.p3_task.specs.Metrics.{cost}
 use Rattle.p3_run.specs.Runs.{Ran}
 use Rattle.p3_eval.specs.Runs.{OfItsPlan}
 use Rattle.p3_eval.proofs.RunKept.{told_total}

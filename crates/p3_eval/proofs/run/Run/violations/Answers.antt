@@ -1,8 +1,8 @@
 use Rattle.std.proofs.Common.{◌≡◌, Some, subst}
 use Rattle.std.specs.Prelude.{slice_get}
-use Rattle.p3_tree.specs.Metrics.{violated}
-use Rattle.p3_tree.specs.Names.{Name}
-use Rattle.p3_tree.specs.PreferenceNames.{ordered_names}
+use Rattle.p3_task.specs.Metrics.{violated}
+use Rattle.p3_task.specs.Names.{Name}
+use Rattle.p3_task.specs.PreferenceNames.{ordered_names}
 use Rattle.p3_run.specs.Runs.{Ran}
 use Rattle.p3_eval.specs.Runs.{OfItsPlan}
 use Rattle.p3_eval.proofs.RunKept.{told_count}

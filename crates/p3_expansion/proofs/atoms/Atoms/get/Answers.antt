@@ -1,5 +1,5 @@
 use Rattle.std.proofs.Common.{◌∙◌, slice_get, Some, sym, ap}
-use Rattle.p3_tree.proofs.OnceLemmas.{map_at}
+use Rattle.p3_task.proofs.OnceLemmas.{map_at}
 use Rattle.p3_expansion.proofs.atoms.Atoms.get.Goals as goal
 
 pub returns-in-Some-clause-stored : goal.returns-in-Some-clause-stored

@@ -1,10 +1,10 @@
 use Rattle.std.proofs.Common.{rules, ◌≡◌, ◌∙◌, ◌+◌, ◌++◌, ◌∷◌, [], List, ap, sym, subst, take, drop, suc}
 use Rattle.std.proofs.lemmas.List.{take_all, take_more}
 use Rattle.std.proofs.lemmas.Result.{err_from_is_err_and, IfOk-weaker}
-use Rattle.p3_tree.specs.Refusals.Metric.{operations}
-use Rattle.p3_tree.specs.declared.metric.Num.{Num}
-use Rattle.p3_tree.specs.declared.metric.Num.TheVariants as num
-use Rattle.p3_tree.specs.declared.metric.Num.TheViews.{the_lemmas}
+use Rattle.p3_task.specs.Refusals.Metric.{operations}
+use Rattle.p3_task.specs.declared.metric.Num.{Num}
+use Rattle.p3_task.specs.declared.metric.Num.TheVariants as num
+use Rattle.p3_task.specs.declared.metric.Num.TheViews.{the_lemmas}
 use Rattle.p3_metric.specs.Evaluation.{IsEvaluated, IsFailure, IsFit, IsPartial}
 use Rattle.p3_metric.specs.declared.error.MetricFail.{MetricFail}
 use Rattle.p3_metric.specs.declared.error.MetricFail.TheVariants.{Refused}

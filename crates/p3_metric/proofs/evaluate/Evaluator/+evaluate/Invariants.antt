@@ -1,5 +1,5 @@
 use Rattle.std.proofs.Common.{take}
-use Rattle.p3_tree.specs.declared.metric.Num.TheVariants as num
+use Rattle.p3_task.specs.declared.metric.Num.TheVariants as num
 use Rattle.p3_metric.specs.Evaluation.{IsPartial}
 use Rattle.p3_metric.proofs.evaluate.Evaluator.+evaluate.Given as goal
 

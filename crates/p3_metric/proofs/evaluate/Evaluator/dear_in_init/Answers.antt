@@ -1,7 +1,7 @@
 use Rattle.std.proofs.Common.{◌≡◌, ◌∙◌, ◌+◌, ◌++◌, ◌∷◌, [], ap, sym, take}
 use Rattle.std.specs.Prelude.{filter_map}
 use Rattle.std.proofs.lemmas.List.{take_more}
-use Rattle.p3_tree.specs.Costs.{value_numeral}
+use Rattle.p3_task.specs.Costs.{value_numeral}
 use Rattle.p3_metric.specs.Dear.{dear_of, dear_in_init}
 use Rattle.p3_metric.proofs.DearLaws.{no_entries, entries_more}
 use Rattle.p3_metric.proofs.evaluate.Evaluator.dear_in_init.Goals as goal

@@ -1,8 +1,8 @@
 use Rattle.std.proofs.Common.{◌∙◌, ap}
 use Rattle.std.specs.Prelude.{option_map}
 use Rattle.p3_base.specs.declared.refusal.Code.TheVariants.{CostTooLarge}
-use Rattle.p3_tree.specs.Refusals.Places.{refusal_at}
-use Rattle.p3_tree.specs.declared.effect.Numeral.{Numeral}
+use Rattle.p3_task.specs.Refusals.Places.{refusal_at}
+use Rattle.p3_task.specs.declared.effect.Numeral.{Numeral}
 use Rattle.p3_metric.specs.Dear.{dear_in_init}
 use Rattle.p3_metric.proofs.MetricLemmas.{values_are}
 use Rattle.p3_metric.proofs.evaluate.Evaluator.dear_value.Goals as goal

@@ -1,6 +1,6 @@
 use Rattle.std.proofs.Common.{◌∙◌, ◌^◌, ◌-◌, ap, sym}
 use Rattle.std.specs.Prelude.{nat_le}
-use Rattle.p3_tree.specs.Refusals.Metric.{is_dear}
+use Rattle.p3_task.specs.Refusals.Metric.{is_dear}
 use Rattle.p3_metric.proofs.DearLaws.{dear_digits}
 use Rattle.p3_metric.proofs.evaluate.Evaluator.is_dear.Goals as goal
 

@@ -2,7 +2,7 @@ use Rattle.std.proofs.Common.{◌∙◌, ap}
 use Rattle.std.specs.Prelude.{option_map}
 use Rattle.std.proofs.lemmas.Result.{IfOk-weaker}
 use Rattle.p3_base.specs.declared.refusal.Code.TheVariants.{NegativeWeight}
-use Rattle.p3_tree.specs.Refusals.Places.{refusal_at}
+use Rattle.p3_task.specs.Refusals.Places.{refusal_at}
 use Rattle.p3_metric.specs.declared.spot.Spot.{Spot}
 use Rattle.p3_metric.proofs.WeightLaws.{negative_is}
 use Rattle.p3_metric.proofs.evaluate.Evaluator.negative.Goals as goal

@@ -1,7 +1,7 @@
 use Rattle.std.proofs.Common.{◌∙◌, refl, sym, subst}
-use Rattle.p3_tree.specs.Refusals.Metric.{operations}
-use Rattle.p3_tree.specs.declared.metric.Num.{Num}
-use Rattle.p3_tree.specs.declared.metric.Num.TheVariants as num
+use Rattle.p3_task.specs.Refusals.Metric.{operations}
+use Rattle.p3_task.specs.declared.metric.Num.{Num}
+use Rattle.p3_task.specs.declared.metric.Num.TheVariants as num
 use Rattle.p3_metric.specs.Evaluation.{IsEvaluated, IsFailure}
 use Rattle.p3_metric.specs.declared.error.MetricFail.{MetricFail}
 use Rattle.p3_metric.specs.declared.error.MetricFail.TheVariants.{Refused}

@@ -1,5 +1,5 @@
 use Rattle.std.proofs.Common.{◌≡◌, ◌∙◌, sym, None}
-use Rattle.p3_tree.specs.Refusals.Places.{first_some}
+use Rattle.p3_task.specs.Refusals.Places.{first_some}
 use Rattle.p3_metric.specs.Refused.{early_refusals}
 use Rattle.p3_metric.proofs.CheapLemmas.{short_start}
 use Rattle.p3_metric.proofs.evaluate.Evaluator.weights.Goals as goal

@@ -4,9 +4,9 @@ use Rattle.std.specs.Int.RustNames.{unsigned_abs}
 use Rattle.std.proofs.lemmas.Int.{to_z-of_z}
 use mir.Syntax.{w128}
 use mir.Val.{SFits}
-use Rattle.p3_tree.specs.Costs.{initial_cost}
-use Rattle.p3_tree.specs.Metrics.{signed}
-use Rattle.p3_tree.specs.Names.{Name}
+use Rattle.p3_task.specs.Costs.{initial_cost}
+use Rattle.p3_task.specs.Metrics.{signed}
+use Rattle.p3_task.specs.Names.{Name}
 use Rattle.p3_metric.specs.Entries.{number_at}
 use Rattle.p3_types.specs.Cuts.{cut}
 use Rattle.p3_metric.proofs.WeightLaws.{base_is, cost_weighs, count_weighs, length_mapped, mapped_at}

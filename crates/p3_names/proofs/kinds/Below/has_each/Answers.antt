@@ -1,5 +1,5 @@
 use Rattle.std.proofs.Common.{◌∙◌}
-use Rattle.p3_tree.specs.Types.{is_below_some}
+use Rattle.p3_task.specs.Types.{is_below_some}
 use Rattle.p3_names.proofs.SearchLemmas.{each-top, each-named}
 use Rattle.p3_names.proofs.kinds.Below.has_each.Goals as goal
 

@@ -1,5 +1,5 @@
 use Rattle.std.proofs.Common.{◌-◌, ◌^◌}
-use Rattle.p3_tree.specs.Types.{declared_pairs, names_of}
+use Rattle.p3_task.specs.Types.{declared_pairs, names_of}
 use Rattle.p3_names.specs.Spans.{AreSpans, IsSearched}
 use Rattle.p3_names.proofs.kinds.Kinds.down_from.Given as goal
 

@@ -2,7 +2,7 @@ use Rattle.std.proofs.Common.{◌∙◌, ap, map}
 use Rattle.std.specs.Prelude.{bytes_eq}
 use Rattle.std.specs.Cmp.Lexicographic.{nat_list_eq_equiv}
 use Rattle.std.specs.List.{position_or_len}
-use Rattle.p3_tree.specs.Names.{same_name}
+use Rattle.p3_task.specs.Names.{same_name}
 use Rattle.p3_names.specs.Names.{with_name}
 use Rattle.p3_names.proofs.NameLemmas.{adds-insert, insert-keys, place-keys}
 use Rattle.p3_names.proofs.names.Names.add.Goals as goal

@@ -1,7 +1,7 @@
 use Rattle.std.proofs.Common.{◌∙◌}
 use Rattle.std.specs.Prelude.{bytes_eq, position}
 use Rattle.std.specs.Cmp.Lexicographic.{nat_list_eq_equiv}
-use Rattle.p3_tree.specs.Names.{same_name}
+use Rattle.p3_task.specs.Names.{same_name}
 use Rattle.p3_names.proofs.NameLemmas.{number-keys}
 use Rattle.p3_names.proofs.names.Names.number_of.Goals as goal
 

@@ -1,7 +1,7 @@
 use Prim.{∣◌∣₁}
 use Rattle.std.proofs.Common.{sym, subst}
 use Rattle.std.specs.Prelude.{filter_map}
-use Rattle.p3_tree.specs.Types.{pair_of}
+use Rattle.p3_task.specs.Types.{pair_of}
 use Rattle.p3_names.specs.Reaches.{AreReached}
 use Rattle.p3_names.proofs.order.Order.of.Goals as goal
 

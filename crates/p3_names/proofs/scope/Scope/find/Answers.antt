@@ -1,5 +1,5 @@
 use Rattle.std.proofs.Common.{◌∙◌}
-use Rattle.p3_tree.specs.Slots.{slot_of, words_of}
+use Rattle.p3_task.specs.Slots.{slot_of, words_of}
 use Rattle.p3_names.proofs.scope.Scope.find.Goals as goal
 
 pub returns : goal.returns

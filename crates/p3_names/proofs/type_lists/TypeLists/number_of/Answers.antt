@@ -2,7 +2,7 @@ use Rattle.std.proofs.Common.{◌∙◌, ap, map}
 use Rattle.std.specs.List.{position_or_len}
 use Rattle.std.specs.Cmp.Lexicographic.{nat_list_eq_equiv, lists_equiv}
 use Rattle.indexmap.specs.IndexSet.{insert_key}
-use Rattle.p3_tree.specs.Names.{same_names}
+use Rattle.p3_task.specs.Names.{same_names}
 use Rattle.p3_names.specs.Names.{with_list}
 use Rattle.p3_names.proofs.NameLemmas.{insert-keys, place-keys, same-keys}
 use Rattle.p3_names.proofs.type_lists.TypeLists.number_of.Goals as goal

@@ -1,5 +1,5 @@
-use Rattle.p3_tree.specs.PreferenceNames.{named_in_constraint}
-use Rattle.p3_tree.specs.Uses.{constraint_uses}
+use Rattle.p3_task.specs.PreferenceNames.{named_in_constraint}
+use Rattle.p3_task.specs.Uses.{constraint_uses}
 use Rattle.p3_names.proofs.UseLemmas.{named-more}
 use Rattle.p3_names.proofs.uses.Visits.+constraints.Goals as goal
 

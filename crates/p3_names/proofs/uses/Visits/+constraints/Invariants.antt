@@ -1,7 +1,7 @@
 use Rattle.std.proofs.Common.{◌≡◌, take}
 use Rattle.std.specs.Prelude.{flat_map}
-use Rattle.p3_tree.specs.PreferenceNames.{named_in_constraint}
-use Rattle.p3_tree.specs.Uses.{constraint_uses}
+use Rattle.p3_task.specs.PreferenceNames.{named_in_constraint}
+use Rattle.p3_task.specs.Uses.{constraint_uses}
 use Rattle.p3_names.specs.Uses.{with_tree, uses_of_each}
 use Rattle.p3_names.proofs.uses.Visits.+constraints.Given as goal
 

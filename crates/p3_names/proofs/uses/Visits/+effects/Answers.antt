@@ -1,4 +1,4 @@
-use Rattle.p3_tree.specs.Uses.{effect_uses}
+use Rattle.p3_task.specs.Uses.{effect_uses}
 use Rattle.p3_names.proofs.UseLemmas.{tree-more}
 use Rattle.p3_names.proofs.uses.Visits.+effects.Goals as goal
 

@@ -1,4 +1,4 @@
-use Rattle.p3_tree.specs.Uses.{formula_uses}
+use Rattle.p3_task.specs.Uses.{formula_uses}
 use Rattle.p3_names.proofs.UseLemmas.{tree-more}
 use Rattle.p3_names.proofs.uses.Visits.+formulas.Goals as goal
 

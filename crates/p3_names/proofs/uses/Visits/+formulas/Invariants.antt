@@ -1,5 +1,5 @@
 use Rattle.std.proofs.Common.{◌≡◌, take, []}
-use Rattle.p3_tree.specs.Uses.{formula_uses}
+use Rattle.p3_task.specs.Uses.{formula_uses}
 use Rattle.p3_names.specs.Uses.{with_tree, uses_of_each}
 use Rattle.p3_names.proofs.uses.Visits.+formulas.Given as goal
 

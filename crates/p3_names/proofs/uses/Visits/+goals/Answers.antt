@@ -1,5 +1,5 @@
-use Rattle.p3_tree.specs.PreferenceNames.{named_in_goal}
-use Rattle.p3_tree.specs.Uses.{goal_uses}
+use Rattle.p3_task.specs.PreferenceNames.{named_in_goal}
+use Rattle.p3_task.specs.Uses.{goal_uses}
 use Rattle.p3_names.proofs.UseLemmas.{named-more}
 use Rattle.p3_names.proofs.uses.Visits.+goals.Goals as goal
 

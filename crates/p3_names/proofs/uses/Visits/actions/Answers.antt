@@ -1,4 +1,4 @@
-use Rattle.p3_tree.specs.PreferenceNames.{named_in_goal}
+use Rattle.p3_task.specs.PreferenceNames.{named_in_goal}
 use Rattle.p3_names.specs.Uses.{uses_of_action}
 use Rattle.p3_names.proofs.UseLemmas.{named-more}
 use Rattle.p3_names.proofs.uses.Visits.actions.Goals as goal

@@ -1,6 +1,6 @@
 use Rattle.std.proofs.Common.{◌≡◌, take}
 use Rattle.std.specs.Prelude.{flat_map}
-use Rattle.p3_tree.specs.PreferenceNames.{named_in_goal}
+use Rattle.p3_task.specs.PreferenceNames.{named_in_goal}
 use Rattle.p3_names.specs.Uses.{with_tree, uses_of_each, uses_of_action}
 use Rattle.p3_names.proofs.uses.Visits.actions.Given as goal
 

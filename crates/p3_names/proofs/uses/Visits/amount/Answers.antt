@@ -1,5 +1,5 @@
 use Rattle.std.proofs.Common.{◌∙◌, [], ap, sym}
-use Rattle.p3_tree.specs.Uses.{amount_uses}
+use Rattle.p3_task.specs.Uses.{amount_uses}
 use Rattle.p3_names.specs.Uses.{with_tree}
 use Rattle.p3_names.proofs.UseLemmas.{amount-Number}
 use Rattle.p3_names.proofs.uses.Visits.amount.Goals as goal

@@ -1,5 +1,5 @@
 use denote.Ref.{Bor}
-use Rattle.p3_tree.specs.Names.{Name}
+use Rattle.p3_task.specs.Names.{Name}
 use Rattle.p3_numbering.proofs.NameLemmas.{once_each-more}
 use Rattle.p3_numbering.proofs.name_table.NameTable.of.Goals as goal
 

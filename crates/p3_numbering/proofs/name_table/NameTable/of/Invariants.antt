@@ -1,5 +1,5 @@
 use Rattle.std.proofs.Common.{◌≡◌, take}
-use Rattle.p3_tree.specs.Types.{once_each}
+use Rattle.p3_task.specs.Types.{once_each}
 use Rattle.p3_numbering.specs.Words.{names_in}
 use Rattle.p3_numbering.proofs.name_table.NameTable.of.Given as goal
 

@@ -1,5 +1,5 @@
 use Rattle.std.proofs.Common.{◌∙◌, ap}
-use Rattle.p3_tree.specs.Types.{once_each}
+use Rattle.p3_task.specs.Types.{once_each}
 use Rattle.p3_numbers.specs.Tasks.{header_names}
 use Rattle.p3_numbering.proofs.tables.Tables.of.Goals as goal
 

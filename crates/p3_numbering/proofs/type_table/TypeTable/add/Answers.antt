@@ -1,7 +1,7 @@
 use Rattle.std.proofs.Common.{◌∙◌, ap, map}
 use Rattle.std.specs.Cmp.Lexicographic.{nat_list_eq_equiv, lists_equiv}
 use Rattle.indexmap.specs.IndexSet.{insert_key}
-use Rattle.p3_tree.specs.Names.{same_names}
+use Rattle.p3_task.specs.Names.{same_names}
 use Rattle.p3_names.specs.Names.{with_list}
 use Rattle.p3_names.proofs.NameLemmas.{insert-keys, same-keys}
 use Rattle.p3_numbering.proofs.type_table.TypeTable.add.Goals as goal

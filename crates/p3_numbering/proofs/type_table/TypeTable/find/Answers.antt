@@ -1,7 +1,7 @@
 use Rattle.std.proofs.Common.{◌∙◌, map}
 use Rattle.std.specs.Prelude.{position}
 use Rattle.std.specs.Cmp.Lexicographic.{nat_list_eq_equiv, lists_equiv}
-use Rattle.p3_tree.specs.Names.{same_names}
+use Rattle.p3_task.specs.Names.{same_names}
 use Rattle.p3_names.proofs.NameLemmas.{number-keys, same-keys}
 use Rattle.p3_numbering.proofs.type_table.TypeTable.find.Goals as goal
 

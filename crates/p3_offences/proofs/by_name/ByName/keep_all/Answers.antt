@@ -1,5 +1,5 @@
 use Rattle.std.proofs.Common.{map}
-use Rattle.p3_tree.specs.Types.{declared_objects}
+use Rattle.p3_task.specs.Types.{declared_objects}
 use Rattle.p3_offences.proofs.ByNameLemmas.{repeated-more}
 use Rattle.p3_offences.proofs.by_name.ByName.keep_all.Goals as goal
 

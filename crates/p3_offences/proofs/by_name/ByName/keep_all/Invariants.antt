@@ -1,5 +1,5 @@
 use Rattle.std.proofs.Common.{◌≡◌, ◌++◌, map, take}
-use Rattle.p3_tree.specs.Types.{declared_objects}
+use Rattle.p3_task.specs.Types.{declared_objects}
 use Rattle.p3_offences.specs.ByName.{repeated_in}
 use Rattle.p3_offences.proofs.by_name.ByName.keep_all.Given as goal
 

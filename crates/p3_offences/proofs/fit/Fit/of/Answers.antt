@@ -1,5 +1,5 @@
 use Rattle.std.proofs.Common.{◌∙◌, subst, sym}
-use Rattle.p3_tree.specs.Types.{declared_objects}
+use Rattle.p3_task.specs.Types.{declared_objects}
 use Rattle.p3_offences.specs.ByName.{repeated_items}
 use Rattle.p3_offences.specs.Fitting.{AreNamesFitting}
 use Rattle.p3_offences.proofs.fit.Fit.of.Goals as goal

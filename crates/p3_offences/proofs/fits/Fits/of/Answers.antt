@@ -1,6 +1,6 @@
 use Rattle.std.proofs.Common.{◌∙◌, ◌++◌, ap, map, sym}
 use Prim.{∣◌∣₁}
-use Rattle.p3_tree.specs.declared.task.Header.{Header}
+use Rattle.p3_task.specs.declared.task.Header.{Header}
 use Rattle.p3_offences.specs.Numbers.{headers_of, names_at, names_in}
 use Rattle.p3_offences.proofs.NumberLemmas.{both-numbered}
 use Rattle.p3_offences.proofs.fits.Fits.of.Goals as goal

@@ -1,7 +1,7 @@
 use Rattle.std.proofs.Common.{◌≡◌, ◌∙◌, false, map, refl}
 use Rattle.std.proofs.Math.Bool.{Bool-set}
 use Rattle.std.proofs.Math.Logic.{∥∥₁_elim}
-use Rattle.p3_tree.specs.Types.{type_names}
+use Rattle.p3_task.specs.Types.{type_names}
 use Rattle.p3_offences.specs.Fitting.{variable_fits_at}
 use Rattle.p3_offences.specs.Numbers.{headers_of, number_at}
 use Rattle.p3_offences.proofs.FoundLemmas.{none-found, one-found, found-told, variable-told}

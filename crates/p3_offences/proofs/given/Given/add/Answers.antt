@@ -1,6 +1,6 @@
 use Rattle.std.proofs.Common.{◌∙◌, ap, not, map, subst}
 use Rattle.std.specs.List.{list_any}
-use Rattle.p3_tree.specs.Names.{same_names}
+use Rattle.p3_task.specs.Names.{same_names}
 use Rattle.p3_offences.specs.Given.{AddsKey}
 use Rattle.p3_offences.proofs.GivenLemmas.{adds-inserted, is-added}
 use Rattle.p3_offences.proofs.given.Given.add.Goals as goal

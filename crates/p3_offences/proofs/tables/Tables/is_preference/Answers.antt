@@ -1,6 +1,6 @@
 use Rattle.std.proofs.Common.{◌∙◌, ap}
-use Rattle.p3_tree.specs.Names.{has_name}
-use Rattle.p3_tree.specs.PreferenceNames.{preference_names}
+use Rattle.p3_task.specs.Names.{has_name}
+use Rattle.p3_task.specs.PreferenceNames.{preference_names}
 use Rattle.p3_offences.proofs.TableLemmas.{looked}
 use Rattle.p3_offences.proofs.tables.Tables.is_preference.Goals as goal
 

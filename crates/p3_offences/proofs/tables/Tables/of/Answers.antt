@@ -1,4 +1,4 @@
-use Rattle.p3_tree.specs.Offences.{declared_types}
+use Rattle.p3_task.specs.Offences.{declared_types}
 use Rattle.p3_offences.proofs.TableLemmas.{has-adds, has-preferences}
 use Rattle.std.proofs.Common.{◌∙◌}
 use Rattle.p3_offences.proofs.tables.Tables.of.Goals as goal

@@ -1,5 +1,5 @@
 use Rattle.std.proofs.Common.{refl, ap, Some}
-use Rattle.p3_tree.specs.Tokens.{Open}
+use Rattle.p3_task.specs.Tokens.{Open}
 use Rattle.p3_places.proofs.WalkLemmas.{goes_on, stops}
 use Rattle.p3_places.proofs.walk.FaultSearch.pass_open.Goals as goal
 

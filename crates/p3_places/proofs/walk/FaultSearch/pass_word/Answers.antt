@@ -3,8 +3,8 @@ use Rattle.std.specs.Char.{to_ascii_lowercase}
 use Rattle.std.specs.Str.{str_to_ascii_lowercase}
 use Rattle.std.proofs.lemmas.List.{length-map}
 use Rattle.p3_base.specs.declared.refusal.Code.TheVariants.{Malformed}
-use Rattle.p3_tree.specs.Refusals.Places.{refusal_at}
-use Rattle.p3_tree.specs.Tokens.{Word}
+use Rattle.p3_task.specs.Refusals.Places.{refusal_at}
+use Rattle.p3_task.specs.Tokens.{Word}
 use Rattle.p3_places.proofs.WalkLemmas.{goes_on, stops}
 use Rattle.p3_places.proofs.walk.FaultSearch.pass_word.Goals as goal
 

@@ -1,6 +1,6 @@
 use Rattle.std.proofs.Common.{◌≡◌, ◌∙◌, ◌-◌, [], ◌∷◌, sym, ap, reverse, get_or, if◌then◌else◌, true, Some, None, arith}
 use Rattle.std.proofs.lemmas.List.{reverse-append}
-use Rattle.p3_tree.specs.PlanTexts.{Closes}
+use Rattle.p3_task.specs.PlanTexts.{Closes}
 use Rattle.p3_places.specs.Machine.{step}
 use Rattle.p3_places.specs.Places.{grammar_table, is_final, after}
 use Rattle.p3_places.proofs.StackLemmas.{innermost}

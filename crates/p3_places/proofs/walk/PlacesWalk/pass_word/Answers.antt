@@ -1,7 +1,7 @@
 use Rattle.std.proofs.Common.{◌∙◌, ◌-◌, ◌∷◌, sym, ap, Some, arith}
 use Rattle.std.specs.Str.{str_to_ascii_lowercase}
-use Rattle.p3_tree.specs.Grammar.Words.{◌>>=◌}
-use Rattle.p3_tree.specs.PlanTexts.{Names}
+use Rattle.p3_task.specs.Grammar.Words.{◌>>=◌}
+use Rattle.p3_task.specs.PlanTexts.{Names}
 use Rattle.p3_places.specs.Machine.{step}
 use Rattle.p3_places.specs.Places.{grammar_table, on_word}
 use Rattle.p3_places.specs.Walks.{only_if}

@@ -1,5 +1,5 @@
 use Rattle.std.proofs.Common.{◌≡◌, map, drop}
-use Rattle.p3_tree.specs.Costs.{total}
+use Rattle.p3_task.specs.Costs.{total}
 use Rattle.p3_steps.specs.Costs.{cost_of}
 use Rattle.p3_steps.proofs.CostLemmas.{sum_with}
 use Rattle.p3_steps.proofs.costs.EffectCosts.+costs.Given as goal

@@ -1,10 +1,10 @@
 use Rattle.std.proofs.Common.{◌∙◌, sym, ap, subst, List, Option, Some}
 use Rattle.std.specs.Prelude.{IsSome}
-use Rattle.p3_tree.specs.Grammar.Words.{◌>>=◌, headed}
-use Rattle.p3_tree.specs.Grammar.Halves.{Section, keyword_parts}
-use Rattle.p3_tree.specs.declared.expression.Expression.{Expression}
-use Rattle.p3_tree.specs.declared.task.Action.{Action}
-use Rattle.p3_tree.specs.declared.term.Ref.{Ref}
+use Rattle.p3_task.specs.Grammar.Words.{◌>>=◌, headed}
+use Rattle.p3_task.specs.Grammar.Halves.{Section, keyword_parts}
+use Rattle.p3_task.specs.declared.expression.Expression.{Expression}
+use Rattle.p3_task.specs.declared.task.Action.{Action}
+use Rattle.p3_task.specs.declared.term.Ref.{Ref}
 use Rattle.p3_outline.specs.Nodes.{expressions_of}
 use Rattle.p3_syntax.specs.declared.tree.actions.ActionBody.{ActionBody}
 use Rattle.p3_syntax.specs.declared.tree.actions.ActionPart.{ActionPart}

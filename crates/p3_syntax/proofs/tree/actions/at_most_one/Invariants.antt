@@ -1,5 +1,5 @@
 use Rattle.std.proofs.Common.{◌≡◌, map, drop}
-use Rattle.p3_tree.specs.Grammar.Halves.{sections_named}
+use Rattle.p3_task.specs.Grammar.Halves.{sections_named}
 use Rattle.p3_syntax.specs.Actions.{the_part}
 use Rattle.p3_syntax.proofs.tree.actions.at_most_one.Given as goal
 

@@ -1,5 +1,5 @@
 use Rattle.std.proofs.Common.{◌≡◌, map, length}
-use Rattle.p3_tree.specs.Grammar.Halves.{keyword_parts}
+use Rattle.p3_task.specs.Grammar.Halves.{keyword_parts}
 use Rattle.p3_outline.specs.Nodes.{expressions_of}
 use Rattle.p3_syntax.specs.Actions.{the_part}
 use Rattle.p3_syntax.proofs.Loops.{behind}

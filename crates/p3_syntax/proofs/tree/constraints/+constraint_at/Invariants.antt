@@ -1,5 +1,5 @@
 use Rattle.std.proofs.Common.{◌≡◌, length, ◌+◌, ◌*◌, ◌≤◌, ◌++◌, Some}
-use Rattle.p3_tree.specs.Grammar.Words.{◌>>=◌, each_at}
+use Rattle.p3_task.specs.Grammar.Words.{◌>>=◌, each_at}
 use Rattle.p3_outline.specs.Nodes.{expressions_of}
 use Rattle.p3_syntax.specs.Trees.{constraint_at}
 use Rattle.p3_syntax.proofs.tree.constraints.+constraint_at.Given as goal

@@ -1,7 +1,7 @@
 use Rattle.std.proofs.Common.{◌∙◌, sym, ap, subst, List, Option, Some}
 use Rattle.std.specs.Prelude.{IsSome}
-use Rattle.p3_tree.specs.Grammar.Words.{◌>>=◌}
-use Rattle.p3_tree.specs.Grammar.Halves as halves
+use Rattle.p3_task.specs.Grammar.Words.{◌>>=◌}
+use Rattle.p3_task.specs.Grammar.Halves as halves
 use Rattle.p3_outline.specs.Nodes.{expression_of}
 use Rattle.p3_syntax.specs.declared.tree.parts.HeadedParts.{HeadedParts}
 use Rattle.p3_syntax.specs.declared.tree.domains.DomainContents.{DomainContents}

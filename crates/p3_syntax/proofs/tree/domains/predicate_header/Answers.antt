@@ -1,8 +1,8 @@
 use Rattle.std.proofs.Common.{sym, subst, Option}
 use Rattle.std.specs.Prelude.{IsSome}
-use Rattle.p3_tree.specs.declared.task.Header.{Header}
+use Rattle.p3_task.specs.declared.task.Header.{Header}
 use Rattle.p3_syntax.specs.Reading.{Gives}
-use Rattle.p3_tree.specs.Grammar.Words.{is_predicate_name}
+use Rattle.p3_task.specs.Grammar.Words.{is_predicate_name}
 use Rattle.p3_outline.specs.Nodes.{expression_of}
 use Rattle.p3_syntax.proofs.HeadLemmas.{headed_header}
 use Rattle.p3_syntax.proofs.tree.domains.predicate_header.Goals as goal

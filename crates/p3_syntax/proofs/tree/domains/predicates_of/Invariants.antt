@@ -1,6 +1,6 @@
 use Rattle.std.proofs.Common.{◌≡◌, length}
-use Rattle.p3_tree.specs.Grammar.Words.{each_at, predicate_place}
-use Rattle.p3_tree.specs.Grammar.Halves.{header_place}
+use Rattle.p3_task.specs.Grammar.Words.{each_at, predicate_place}
+use Rattle.p3_task.specs.Grammar.Halves.{header_place}
 use Rattle.p3_outline.specs.Nodes.{expressions_of}
 use Rattle.p3_syntax.proofs.Loops.{behind}
 use Rattle.p3_syntax.proofs.tree.domains.predicates_of.Given as goal

@@ -1,5 +1,5 @@
 use Rattle.std.proofs.Common.{◌≡◌, length, ◌+◌, ◌*◌, ◌≤◌, ◌++◌, Some}
-use Rattle.p3_tree.specs.Grammar.Words.{◌>>=◌}
+use Rattle.p3_task.specs.Grammar.Words.{◌>>=◌}
 use Rattle.p3_outline.specs.Nodes.{expressions_of}
 use Rattle.p3_syntax.specs.Trees.{listed}
 use Rattle.p3_syntax.specs.Effects.{effect_found, trees_of}

@@ -1,11 +1,11 @@
 use Rattle.std.proofs.Common.{◌∙◌, sym, ap, subst, Option, List, Some}
 use Rattle.std.specs.Prelude.{IsSome}
-use Rattle.p3_tree.specs.Grammar.Words.{◌>>=◌, each_at}
-use Rattle.p3_tree.specs.Grammar.Formulas.{AtomText}
-use Rattle.p3_tree.specs.Grammar.Lists.{term_place}
-use Rattle.p3_tree.specs.declared.effect.Effect.TheVariants.{Add}
-use Rattle.p3_tree.specs.declared.term.Term.{Term}
-use Rattle.p3_tree.specs.declared.term.Ref.{Ref}
+use Rattle.p3_task.specs.Grammar.Words.{◌>>=◌, each_at}
+use Rattle.p3_task.specs.Grammar.Formulas.{AtomText}
+use Rattle.p3_task.specs.Grammar.Lists.{term_place}
+use Rattle.p3_task.specs.declared.effect.Effect.TheVariants.{Add}
+use Rattle.p3_task.specs.declared.term.Term.{Term}
+use Rattle.p3_task.specs.declared.term.Ref.{Ref}
 use Rattle.p3_outline.specs.Nodes.{expressions_of}
 use Rattle.p3_syntax.specs.Trees.{the_word}
 use Rattle.p3_syntax.specs.Effects.{effect_found}

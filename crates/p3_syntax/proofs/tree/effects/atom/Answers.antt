@@ -1,9 +1,9 @@
-use Rattle.p3_tree.specs.Grammar.Words.{each_at}
-use Rattle.p3_tree.specs.Grammar.Lists.{term_place}
-use Rattle.p3_tree.specs.declared.term.Ref.{Ref}
-use Rattle.p3_tree.specs.declared.term.Term.{Term}
+use Rattle.p3_task.specs.Grammar.Words.{each_at}
+use Rattle.p3_task.specs.Grammar.Lists.{term_place}
+use Rattle.p3_task.specs.declared.term.Ref.{Ref}
+use Rattle.p3_task.specs.declared.term.Term.{Term}
 use Rattle.std.specs.Prelude.{List}
-use Rattle.p3_tree.specs.Grammar.Formulas.{AtomText, atom_in}
+use Rattle.p3_task.specs.Grammar.Formulas.{AtomText, atom_in}
 use Rattle.p3_outline.specs.Nodes.{expressions_of}
 use Rattle.p3_syntax.specs.Trees.{the_head}
 use Rattle.p3_syntax.proofs.HeadLemmas.{headed_atom, has_head, has_args, read_with}

@@ -1,11 +1,11 @@
 use Rattle.std.proofs.Common.{if◌then◌else◌, subst, List, Option, Some, None}
 use Rattle.std.specs.Prelude.{IsSome}
-use Rattle.p3_tree.specs.Grammar.Words.{◌>>=◌, pair}
-use Rattle.p3_tree.specs.Grammar.Effects.{amount_place, total_cost_place}
-use Rattle.p3_tree.specs.declared.effect.Effect.{Effect}
-use Rattle.p3_tree.specs.declared.effect.Effect.TheVariants.{Cost}
-use Rattle.p3_tree.specs.declared.expression.Expression.{Expression}
-use Rattle.p3_tree.specs.declared.term.Ref.{Ref}
+use Rattle.p3_task.specs.Grammar.Words.{◌>>=◌, pair}
+use Rattle.p3_task.specs.Grammar.Effects.{amount_place, total_cost_place}
+use Rattle.p3_task.specs.declared.effect.Effect.{Effect}
+use Rattle.p3_task.specs.declared.effect.Effect.TheVariants.{Cost}
+use Rattle.p3_task.specs.declared.expression.Expression.{Expression}
+use Rattle.p3_task.specs.declared.term.Ref.{Ref}
 use Rattle.p3_outline.specs.Nodes.{expressions_of}
 use Rattle.p3_syntax.specs.Effects.{effect_found}
 use Rattle.p3_syntax.specs.Trees.{the_pair, the_word}

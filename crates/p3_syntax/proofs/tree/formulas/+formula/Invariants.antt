@@ -1,6 +1,6 @@
 use Rattle.std.proofs.Common.{◌≡◌, length, ◌+◌, ◌*◌, ◌≤◌, ◌++◌, Some}
-use Rattle.p3_tree.specs.Grammar.Words.{◌>>=◌, each_at}
-use Rattle.p3_tree.specs.Grammar.Formulas.{formula_place}
+use Rattle.p3_task.specs.Grammar.Words.{◌>>=◌, each_at}
+use Rattle.p3_task.specs.Grammar.Formulas.{formula_place}
 use Rattle.p3_outline.specs.Nodes.{expressions_of}
 use Rattle.p3_syntax.proofs.tree.formulas.+formula.Given as goal
 

@@ -1,6 +1,6 @@
 use Rattle.std.proofs.Common.{◌∙◌, sym, subst, Some}
 use Rattle.std.specs.Prelude.{IsSome}
-use Rattle.p3_tree.specs.declared.goal.PreGoal.TheVariants.{Plain}
+use Rattle.p3_task.specs.declared.goal.PreGoal.TheVariants.{Plain}
 use Rattle.p3_outline.specs.Nodes.{expressions_of}
 use Rattle.p3_syntax.specs.Trees.{formula_of, the_word}
 use Rattle.p3_syntax.proofs.HeadLemmas.{some_first}

@@ -1,6 +1,6 @@
 use Rattle.std.proofs.Common.{◌≡◌, length, ◌+◌, ◌*◌, ◌≤◌, ◌++◌, Some}
-use Rattle.p3_tree.specs.Grammar.Words.{◌>>=◌, each_at}
-use Rattle.p3_tree.specs.Grammar.Goals.{goal_place}
+use Rattle.p3_task.specs.Grammar.Words.{◌>>=◌, each_at}
+use Rattle.p3_task.specs.Grammar.Goals.{goal_place}
 use Rattle.p3_outline.specs.Nodes.{expressions_of}
 use Rattle.p3_syntax.proofs.tree.goals.+goal.Given as goal
 

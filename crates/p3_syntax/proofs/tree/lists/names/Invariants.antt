@@ -1,6 +1,6 @@
 use Rattle.std.proofs.Common.{◌≡◌, ◌++◌, length, Some}
-use Rattle.p3_tree.specs.Grammar.Words.{◌>>=◌, each_at}
-use Rattle.p3_tree.specs.Grammar.Words.{name_place}
+use Rattle.p3_task.specs.Grammar.Words.{◌>>=◌, each_at}
+use Rattle.p3_task.specs.Grammar.Words.{name_place}
 use Rattle.p3_outline.specs.Nodes.{expressions_of}
 use Rattle.p3_syntax.proofs.tree.lists.names.Given as goal
 

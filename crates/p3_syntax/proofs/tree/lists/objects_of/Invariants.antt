@@ -1,6 +1,6 @@
 use Rattle.std.proofs.Common.{◌≡◌}
-use Rattle.p3_tree.specs.Grammar.Words.{name_place}
-use Rattle.p3_tree.specs.Grammar.Lists.{one_type_place, objects_in}
+use Rattle.p3_task.specs.Grammar.Words.{name_place}
+use Rattle.p3_task.specs.Grammar.Lists.{one_type_place, objects_in}
 use Rattle.p3_outline.specs.Nodes.{expressions_of}
 use Rattle.p3_syntax.specs.Groups.{each_item, groups_left, groups_size, typed_at}
 use Rattle.p3_syntax.proofs.GroupLemmas.{front}

@@ -1,6 +1,6 @@
 use Rattle.std.proofs.Common.{◌≡◌}
-use Rattle.p3_tree.specs.Grammar.Words.{variable_place}
-use Rattle.p3_tree.specs.Grammar.Lists.{type_place, variables_in}
+use Rattle.p3_task.specs.Grammar.Words.{variable_place}
+use Rattle.p3_task.specs.Grammar.Lists.{type_place, variables_in}
 use Rattle.p3_outline.specs.Nodes.{expressions_of}
 use Rattle.p3_syntax.specs.Groups.{each_item, groups_left, groups_size, typed_at}
 use Rattle.p3_syntax.proofs.GroupLemmas.{front}

@@ -1,6 +1,6 @@
 use Rattle.std.proofs.Common.{◌≡◌, length, ◌+◌, ◌*◌, ◌≤◌, ◌++◌, Some}
-use Rattle.p3_tree.specs.Grammar.Metrics.{num_place, trees_of}
-use Rattle.p3_tree.specs.Grammar.Words.{◌>>=◌}
+use Rattle.p3_task.specs.Grammar.Metrics.{num_place, trees_of}
+use Rattle.p3_task.specs.Grammar.Words.{◌>>=◌}
 use Rattle.p3_outline.specs.Nodes.{expressions_of}
 use Rattle.p3_syntax.specs.Trees.{listed}
 use Rattle.p3_syntax.proofs.tree.metrics.+num.Given as goal

@@ -1,7 +1,7 @@
 use Rattle.std.proofs.Common.{◌∙◌, sym, subst, Some}
 use Rattle.std.specs.Prelude.{IsSome}
-use Rattle.p3_tree.specs.Grammar.Words.{numeral_place}
-use Rattle.p3_tree.specs.declared.metric.Num.TheVariants.{Number}
+use Rattle.p3_task.specs.Grammar.Words.{numeral_place}
+use Rattle.p3_task.specs.declared.metric.Num.TheVariants.{Number}
 use Rattle.p3_outline.specs.Nodes.{expression_of}
 use Rattle.p3_syntax.specs.Trees.{the_word}
 use Rattle.p3_syntax.proofs.HeadLemmas.{some_first}

@@ -1,5 +1,5 @@
 use Rattle.std.proofs.Common.{◌≡◌, ◌++◌, take, drop}
-use Rattle.p3_tree.specs.Decimals.{at_point}
+use Rattle.p3_task.specs.Decimals.{at_point}
 use Rattle.p3_syntax.proofs.tree.numerals.at_point.Given as goal
 
 -- no point has been passed

@@ -1,10 +1,10 @@
-use Rattle.p3_tree.specs.Grammar.Words.{each_at, predicate_place, is_predicate_name}
-use Rattle.p3_tree.specs.Grammar.Lists.{object_place}
-use Rattle.p3_tree.specs.declared.term.Ref.{Ref}
-use Rattle.p3_tree.specs.declared.term.Term.{Term}
+use Rattle.p3_task.specs.Grammar.Words.{each_at, predicate_place, is_predicate_name}
+use Rattle.p3_task.specs.Grammar.Lists.{object_place}
+use Rattle.p3_task.specs.declared.term.Ref.{Ref}
+use Rattle.p3_task.specs.declared.term.Term.{Term}
 use Rattle.std.specs.Prelude.{List}
-use Rattle.p3_tree.specs.Grammar.Halves.{false_entry, initial_in}
-use Rattle.p3_tree.specs.declared.task.Init.TheVariants as init
+use Rattle.p3_task.specs.Grammar.Halves.{false_entry, initial_in}
+use Rattle.p3_task.specs.declared.task.Init.TheVariants as init
 use Rattle.p3_outline.specs.Nodes.{expressions_of}
 use Rattle.p3_syntax.specs.Trees.{the_head}
 use Rattle.p3_syntax.proofs.HeadLemmas.{headed_initial, has_head, has_args, read_with}

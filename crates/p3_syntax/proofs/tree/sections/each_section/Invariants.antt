@@ -1,6 +1,6 @@
 use Rattle.std.proofs.Common.{◌≡◌, map, length}
-use Rattle.p3_tree.specs.Grammar.Words.{each_at}
-use Rattle.p3_tree.specs.Grammar.Halves.{section_place}
+use Rattle.p3_task.specs.Grammar.Words.{each_at}
+use Rattle.p3_task.specs.Grammar.Halves.{section_place}
 use Rattle.p3_outline.specs.Nodes.{expressions_of}
 use Rattle.p3_syntax.specs.Sections.{the_section}
 use Rattle.p3_syntax.proofs.Loops.{behind}

@@ -1,6 +1,6 @@
 use Rattle.std.proofs.Common.{◌∙◌, Some, ap, sym, subst, map}
 use Rattle.std.specs.Str.{str_to_ascii_lowercase}
-use Rattle.p3_tree.specs.Names.{has_name}
+use Rattle.p3_task.specs.Names.{has_name}
 use Rattle.p3_types.specs.Finds.{IsNumberAt}
 use Rattle.p3_types.proofs.FindLemmas.{action_name, unknown_action, found_action, found_number, other_arguments}
 use Rattle.p3_types.proofs.NameOrderLemmas.{slice_within}

@@ -1,7 +1,7 @@
 use Rattle.std.proofs.Common.{◌∙◌, List, Some, ap, sym, subst, map}
 use Rattle.std.specs.Str.{str_to_ascii_lowercase}
-use Rattle.p3_tree.specs.Names.{has_name}
-use Rattle.p3_tree.specs.declared.task.Action.{Action}
+use Rattle.p3_task.specs.Names.{has_name}
+use Rattle.p3_task.specs.declared.task.Action.{Action}
 use Rattle.p3_types.specs.Finds.{IsNumberAt}
 use Rattle.p3_types.specs.NameOrders.{IsNameOrder, action_names}
 use Rattle.p3_lexer.specs.StepWords.{words_left}

@@ -1,7 +1,7 @@
 use Rattle.std.proofs.Common.{◌≡◌, ◌∙◌, ◌-◌, ◌<◌, List, Some, ap, sym, refl, length, get_or, arith}
 use Rattle.p3_numbers.specs.Slots.{object_names}
 use Rattle.p3_numbers.specs.declared.task.NumberedAction.{NumberedAction}
-use Rattle.p3_tree.specs.declared.task.Action.{Action}
+use Rattle.p3_task.specs.declared.task.Action.{Action}
 use Rattle.p3_numbers.specs.Choices.{choice_count, choice}
 use Rattle.p3_types.proofs.TableLemmas.{well_formed_from, numbered_from}
 use Rattle.p3_types.proofs.StepTableLemmas.{count_between, step_between}

@@ -1,7 +1,7 @@
 use Rattle.std.proofs.Common.{◌∷◌, [], ◌<◌, ◌≤◌, length, arith, subst, sym}
 use Rattle.p3_base.specs.declared.refusal.Refusal.{Refusal}
-use Rattle.p3_tree.specs.PlanTexts.{IsPlanText}
-use Rattle.p3_tree.specs.declared.task.Step.{Step}
+use Rattle.p3_task.specs.PlanTexts.{IsPlanText}
+use Rattle.p3_task.specs.declared.task.Step.{Step}
 use Rattle.p3_types.specs.Finds.{IsFound}
 use Rattle.p3_types.specs.declared.checked.Checked.{Checked}
 use Rattle.p3_run.specs.Runs.{most_steps}

@@ -1,0 +1,10 @@
+pub mod Build
+pub mod Decimals
+pub mod FirstExample
+pub mod Limits
+pub mod Offences
+pub mod Preferences
+pub mod Steps
+pub mod Texts
+pub mod Trajectories
+pub mod Trucks

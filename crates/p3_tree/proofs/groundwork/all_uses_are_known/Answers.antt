@@ -1,5 +1,0 @@
-use Rattle.p3_tree.proofs.KnownLaws.{knows_uses}
-use Rattle.p3_tree.proofs.groundwork.all_uses_are_known.Goals as goal
-
-pub returns : goal.returns
-returns c = knows_uses

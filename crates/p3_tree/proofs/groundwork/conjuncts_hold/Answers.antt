@@ -1,5 +1,0 @@
-use Rattle.p3_tree.proofs.ConjunctLaws.{formula-conjuncts-hold, goal-conjuncts-hold}
-use Rattle.p3_tree.proofs.groundwork.conjuncts_hold.Goals as goal
-
-pub returns : goal.returns
-returns c = record { formulas = formula-conjuncts-hold; goals = goal-conjuncts-hold }

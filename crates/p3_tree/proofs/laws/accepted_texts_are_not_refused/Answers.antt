@@ -1,5 +1,0 @@
-use Rattle.p3_tree.proofs.RefusalLaws.{nothing_is_refused}
-use Rattle.p3_tree.proofs.laws.accepted_texts_are_not_refused.Goals as goal
-
-pub returns : goal.returns
-returns c = nothing_is_refused

@@ -1,5 +1,0 @@
-use Rattle.p3_tree.proofs.StateLemmas.{has_fact-next}
-use Rattle.p3_tree.proofs.laws.atoms_of_the_next_state.Goals as goal
-
-pub returns : goal.returns
-returns c = has_fact-next

@@ -1,5 +1,0 @@
-use Rattle.p3_tree.proofs.BelowLemmas.{below_is_the_closure}
-use Rattle.p3_tree.proofs.laws.below_is_the_closure.Goals as goal
-
-pub returns : goal.returns
-returns c = below_is_the_closure

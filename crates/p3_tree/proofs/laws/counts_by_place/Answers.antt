@@ -1,5 +1,0 @@
-use Rattle.p3_tree.proofs.CountLemmas.{state_counts, trajectory_counts}
-use Rattle.p3_tree.proofs.laws.counts_by_place.Goals as goal
-
-pub returns : goal.returns
-returns c = record { states = state_counts; trajectories = trajectory_counts }

@@ -1,5 +1,0 @@
-use Rattle.p3_tree.proofs.RefusalLaws.{one_first_refusal}
-use Rattle.p3_tree.proofs.laws.one_first_refusal.Goals as goal
-
-pub returns : goal.returns
-returns c = one_first_refusal

@@ -1,5 +1,0 @@
-use Rattle.p3_tree.proofs.LineLaws.{one_step_plan}
-use Rattle.p3_tree.proofs.laws.one_step_is_the_plan.Goals as goal
-
-pub returns : goal.returns
-returns c = one_step_plan

@@ -1,5 +1,0 @@
-use Rattle.p3_tree.proofs.TextLemmas.{one_task_at_most}
-use Rattle.p3_tree.proofs.laws.one_task_at_most.Goals as goal
-
-pub returns : goal.returns
-returns c = one_task_at_most

@@ -1,5 +1,0 @@
-use Rattle.p3_tree.proofs.OptimaLemmas.{optima_are_kept}
-use Rattle.p3_tree.proofs.laws.optima_are_kept.Goals as goal
-
-pub returns : goal.returns
-returns c = optima_are_kept

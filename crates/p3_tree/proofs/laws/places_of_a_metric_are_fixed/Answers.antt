@@ -1,5 +1,0 @@
-use Rattle.p3_tree.proofs.PlacesLemmas.{metric_places-fixed}
-use Rattle.p3_tree.proofs.laws.places_of_a_metric_are_fixed.Goals as goal
-
-pub returns : goal.returns
-returns c = metric_places-fixed

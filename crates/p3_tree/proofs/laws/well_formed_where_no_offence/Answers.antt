@@ -1,5 +1,0 @@
-use Rattle.p3_tree.proofs.OffenceLemmas.{well_formed_where_no_offence}
-use Rattle.p3_tree.proofs.laws.well_formed_where_no_offence.Goals as goal
-
-pub returns : goal.returns
-returns c = well_formed_where_no_offence

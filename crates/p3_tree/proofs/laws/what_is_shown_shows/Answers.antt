@@ -1,5 +1,0 @@
-use Rattle.p3_tree.proofs.ShownLaws.{shown_shows}
-use Rattle.p3_tree.proofs.laws.what_is_shown_shows.Goals as goal
-
-pub returns : goal.returns
-returns c = shown_shows
