@@ -18,7 +18,7 @@ ghost use Rattle.p3_steps.specs.Costs.{
 
 use p3_base::{NoMemory, TooLarge};
 use p3_names::{Digest, Key};
-use p3_numbers::{NumberedArgument, NumberedAmount, NumberedEffect, NumberedValue};
+use p3_numbers::{NumberedAmount, NumberedArgument, NumberedEffect, NumberedValue};
 use p3_task::Numeral;
 use std::alloc::Global;
 use std::collections::HashMap;
