@@ -1,5 +1,5 @@
 -- What `explain` prints: whether a plan is valid, and for each constraint and preference what shows it.
-use Rattle.std.specs.Prelude.{List, ◌++◌, flat_map, codes, Option, Some, None}
+use Rattle.std.specs.Prelude.{ℕ, List, ◌++◌, flat_map, codes, Option, Some, None}
 use Rattle.std.specs.Fmt.{decimal}
 use Rattle.p3_base.specs.declared.showing.Reason.{Reason}
 use Rattle.p3_base.specs.declared.showing.Showing.{Showing}

@@ -1,6 +1,6 @@
 use Rattle.std.proofs.Common.{◌≡◌, ◌∷◌, [], ◌∙◌, refl, sym, ap, subst, Some, IfSome}
 use Rattle.std.specs.Option.{option_map}
-use Rattle.p3_tree.specs.Expressions.{expression_of_text}
+use Rattle.p3_task.specs.Expressions.{expression_of_text}
 use Rattle.p3_outline.specs.declared.build.Nodes.{Nodes}
 use Rattle.p3_outline.specs.Balances.{balance_refusal}
 use Rattle.p3_outline.specs.Nodes.{expressions_in, first_of}
