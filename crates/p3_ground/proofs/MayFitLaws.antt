@@ -10,7 +10,7 @@ use Rattle.p3_formula.specs.declared.task.GroundStep.{GroundStep}
 use Rattle.p3_formula.specs.declared.task.GroundTask.{GroundTask}
 use Rattle.p3_reach.specs.May.{may_hold}
 use Rattle.p3_reach.specs.Closed.{IsWithin, IsClosed, IsInEachClosed, change_keeps, step_keeps}
-use Rattle.p3_reach.proofs.FoundLaws.{is_set-within}
+use Rattle.p3_reach.proofs.DerivedLaws.{is_set-within}
 use Rattle.p3_ground.specs.Pruned.{steps_over, pruned}
 use Rattle.p3_ground.specs.Sparse.{MayFit}
 use Rattle.p3_reach.proofs.MayGrows.{hold-grows}
