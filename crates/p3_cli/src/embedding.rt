@@ -20,8 +20,8 @@ ghost use Rattle.p3_cli.specs.WrittenText.{HasPlanLayout};
 
 use crate::Ending;
 use crate::evaluation::{invalid, judged_whole};
-use crate::report_parts::embedded_report;
 use crate::product::Product;
+use crate::report_parts::embedded_report;
 use crate::texts::{Made, Texts};
 use p3_base::NoMemory;
 use p3_compile::compile;

@@ -17,8 +17,8 @@ ghost use Rattle.p3_cli.specs.WrittenText.{HasFaithfulText};
 
 use crate::Ending;
 use crate::acceptance::{grounded, spelled_task};
-use crate::report_parts::compiled_report;
 use crate::product::Product;
+use crate::report_parts::compiled_report;
 use crate::streaming::compiled_texts;
 use crate::texts::{Made, Texts};
 use p3_base::{NoMemory, Side};

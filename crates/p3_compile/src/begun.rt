@@ -11,10 +11,10 @@ ghost use Rattle.p3_compile.specs.Stepping.{current_names, IsNextStep, HasNextAc
 
 use crate::bits::initial_bits;
 use crate::ending::{finish_form, soft_ends};
-use crate::names::{numbered, push_numbered};
 use crate::monitor_readers::{all_by_atom, readers};
-use crate::stepping::{Frame, has_wide, push_all, step_actions};
 use crate::monitoring::monitors;
+use crate::names::{numbered, push_numbered};
+use crate::stepping::{Frame, has_wide, push_all, step_actions};
 use crate::weighing::is_wide;
 use p3_base::{List, Name, NoMemory};
 use p3_endphase::{EndPhase, end_phase_taking};

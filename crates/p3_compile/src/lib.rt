@@ -8,11 +8,11 @@ mod compiling;
 mod ending;
 mod guarding;
 mod laws;
+mod monitor_readers;
+mod monitoring;
 mod names;
 mod narrow;
-mod monitor_readers;
 mod stepping;
-mod monitoring;
 mod weighing;
 
 pub use begun::BegunTarget;

@@ -14,7 +14,11 @@ use std::alloc::Global;
 /// The monitor at the place reads the atoms of its constraint, where it has atoms of its own that
 /// say something of the states before the last one.
 #[tactic(auto, using(p3_base::proofs::OperatorLaws::joined_unary, p3_base::proofs::OperatorLaws::joined_binary))]
-fn push_modal(readers: &mut Vec<PartReader>, modal: &GroundModal, place: usize) -> Result<(), NoMemory>
+fn push_modal(
+    readers: &mut Vec<PartReader>,
+    modal: &GroundModal,
+    place: usize,
+) -> Result<(), NoMemory>
     ensures { OnOk result (readers.new.items
         ≡ readers.old.items ++ map (reader place) (read_atoms modal.now)) }
 {

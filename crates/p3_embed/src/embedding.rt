@@ -102,7 +102,12 @@ fn behind_last(walk: &EmbeddingWalk) -> usize {
 }
 
 /// Walks on until the next step is taken.
-fn take_step(alloc: Global, sought: &Sought<'_>, walk: &mut EmbeddingWalk, at: usize) -> Result<(), NoMemory>
+fn take_step(
+    alloc: Global,
+    sought: &Sought<'_>,
+    walk: &mut EmbeddingWalk,
+    at: usize,
+) -> Result<(), NoMemory>
     requires sought { IsSought sought.now }
     requires walk { IsWalkFor sought.now at walk.old }
     requires next { at < length sought.now.numbers.now }

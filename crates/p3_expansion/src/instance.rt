@@ -19,7 +19,7 @@ use crate::preference::push_preferences;
 use crate::{Statics, Work};
 use p3_base::{List, NoMemory};
 use p3_formula::{GroundModal, GroundPref, GroundSoft};
-use p3_numbers::{NumberedGoal, NumberedConstraint, Numbers};
+use p3_numbers::{NumberedConstraint, NumberedGoal, Numbers};
 use std::alloc::Global;
 
 /// Puts the preference at the objects in the slots behind those made.

@@ -11,7 +11,7 @@ use crate::condition::condition_form;
 use crate::{Statics, Work};
 use p3_base::{List, NoMemory};
 use p3_formula::GroundPref;
-use p3_numbers::{NumberedGoal, Numbers, NumberedPreference};
+use p3_numbers::{NumberedGoal, NumberedPreference, Numbers};
 
 /// How many preferences the goal has, where each body is taken once.
 #[cycle(count)]

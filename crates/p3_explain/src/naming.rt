@@ -4,9 +4,8 @@ ghost use Rattle.std.specs.Prelude.{◌≡◌, ◌-◌, IsTrue, slice_get};
 ghost use Rattle.std.specs.List.{All};
 ghost use Rattle.std.specs.Option.{option_copied};
 ghost use Rattle.p3_task.specs.Plans.{steps_fit};
-ghost use Rattle.p3_task.specs.Explanations.{instance_name};
+ghost use Rattle.p3_task.specs.Explanations.{instance_name, subject_name};
 ghost use Rattle.p3_ground.specs.StandsFor.{LeftOutAt};
-ghost use Rattle.p3_reports.specs.Explained.{subject_name};
 ghost use Rattle.p3_run.specs.Steps.{IsByNumber};
 ghost use Rattle.p3_eval.specs.Steps.{OfSteps};
 ghost use Rattle.p3_explain.specs.Naming.{

@@ -25,7 +25,12 @@ fn weight_at(by_name: &[u64], name: Option<u32>) -> u64
 /// memory.
 #[cycle(shares)]
 #[tactic(auto, using(crate::proofs::ShareLaws::share_forms))]
-pub(crate) fn shares(measure: Measure, by_name: &[u64], numbers: &Numbers, goal: &NumberedGoal) -> u64
+pub(crate) fn shares(
+    measure: Measure,
+    by_name: &[u64],
+    numbers: &Numbers,
+    goal: &NumberedGoal,
+) -> u64
     ensures { result ≡ bounds.shares measure by_name.now numbers.now goal.now }
 {
     match goal {

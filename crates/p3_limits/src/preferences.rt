@@ -6,7 +6,7 @@ ghost use Rattle.p3_limits.specs.Cuts.{cut_total};
 ghost use Rattle.p3_limits.specs.Preferences as instance;
 
 use crate::choices::{choice_count, cut_product, cut_sum};
-use p3_numbers::{NumberedGoal, NumberedConstraint, Numbers};
+use p3_numbers::{NumberedConstraint, NumberedGoal, Numbers};
 
 /// The place in what stands behind so many items, if it is not one of them.
 pub(crate) fn place_behind(count: u64, place: u32) -> Option<u32>

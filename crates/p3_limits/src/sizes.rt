@@ -6,7 +6,9 @@ ghost use Rattle.p3_limits.specs.Sizes as size;
 
 use crate::choices::{choice_count, cut_product, cut_sum};
 use p3_base::Operands;
-use p3_numbers::{NumberedCondition, NumberedGoal, NumberedConstraint, NumberedEffect, NumberedModal, Numbers};
+use p3_numbers::{
+    NumberedCondition, NumberedConstraint, NumberedEffect, NumberedGoal, NumberedModal, Numbers,
+};
 
 /// The size of a tree above one part.
 fn above(part: u64) -> u64

@@ -16,7 +16,7 @@ use crate::group::Group;
 use crate::reasons::{Owner, push_reasons};
 use p3_base::{List, NoMemory, Reason, as_number};
 use p3_formula::{Bits, Change, GroundModal, GroundTask};
-use p3_run::{Pending, OperatorReader, modal_at, modals_at, readers_of};
+use p3_run::{OperatorReader, Pending, modal_at, modals_at, readers_of};
 use std::alloc::Global;
 use std::marker::Model;
 
@@ -118,7 +118,13 @@ fn groups_of(alloc: Global, task: &GroundTask) -> Result<Vec<Group>, NoMemory>
 }
 
 /// The operator at a place of a group is in one state more.
-fn renew_one(groups: &mut Vec<Group>, modal: &GroundModal, state: &Bits, next: u32, reader: OperatorReader)
+fn renew_one(
+    groups: &mut Vec<Group>,
+    modal: &GroundModal,
+    state: &Bits,
+    next: u32,
+    reader: OperatorReader,
+)
     requires group { reader.group < length groups.old.items }
     requires place { reader.place < length (marked.group_at groups.old.items reader.group) }
     requires below { IsModalBelow (length state.now) modal.now }
@@ -130,7 +136,13 @@ fn renew_one(groups: &mut Vec<Group>, modal: &GroundModal, state: &Bits, next: u
 }
 
 /// The operator that reads is in one state more.
-fn renew_at(groups: &mut Vec<Group>, task: &GroundTask, state: &Bits, next: u32, reader: OperatorReader)
+fn renew_at(
+    groups: &mut Vec<Group>,
+    task: &GroundTask,
+    state: &Bits,
+    next: u32,
+    reader: OperatorReader,
+)
     requires can { CanMark task.now groups.old.items }
     requires bits { length state.now ≡ task.now.atoms }
     requires reader { IsReader task.now reader }

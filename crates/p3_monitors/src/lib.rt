@@ -4,14 +4,14 @@
 
 mod accepting;
 mod beginning;
+mod constraint_atoms;
 mod copying;
 mod forms;
 mod guards;
 mod laws;
 mod making;
-mod constraint_atoms;
-mod updates;
 mod monitoring;
+mod updates;
 
 pub use forms::FormsByAtom;
 pub use laws::{accepting_is_satisfaction, monitors_ride_together, untouched_monitors_ride};

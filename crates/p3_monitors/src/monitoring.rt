@@ -15,9 +15,9 @@ ghost use Rattle.p3_regress.specs.Memory.{Extends};
 ghost use Rattle.p3_regress.specs.Parts.{IndexesParts};
 ghost use Rattle.p3_regress.specs.Turned.{may_turn};
 
+use crate::constraint_atoms::reads;
 use crate::forms::FormsByAtom;
 use crate::guards::{not_back, not_early};
-use crate::constraint_atoms::reads;
 use crate::updates::{always, at_most_once, awaits, sometime, sometime_after, sometime_before};
 use p3_base::{List, NoMemory};
 use p3_formula::{Effects, Form, GroundModal, Table};

@@ -12,7 +12,10 @@ ghost use Rattle.p3_names.specs.Uses.{with_tree, with_variables, behind};
 ghost use Rattle.p3_names.specs.Uses.{domain_seen, problem_seen};
 
 use p3_base::{Name, NoMemory, Operands};
-use p3_task::{Action, Amount, Constraint, Domain, Effect, Formula, Metric, Modal, Num, PreGoal, Problem, Ref, Term, Typed};
+use p3_task::{
+    Action, Amount, Constraint, Domain, Effect, Formula, Metric, Modal, Num, PreGoal, Problem, Ref,
+    Term, Typed,
+};
 use std::alloc::Global;
 use std::marker::Model;
 

@@ -16,7 +16,7 @@ use crate::tables::Tables;
 use p3_base::{List, NoMemory};
 use p3_names::Scope;
 use p3_numbers::{
-    NumberedGoal, NumberedAction, NumberedConstraint, NumberedFact, NumberedTask, NumberedValue,
+    NumberedAction, NumberedConstraint, NumberedFact, NumberedGoal, NumberedTask, NumberedValue,
 };
 use p3_task::{Constraint, Domain, PreGoal, Problem, Task};
 use std::alloc::Global;
@@ -35,7 +35,11 @@ fn closed_constraint<'t>(
 }
 
 /// A goal with numbers outside all variables.
-fn closed_goal<'t>(alloc: Global, tables: &Tables<'t>, goal: &'t PreGoal) -> Result<NumberedGoal, NoMemory>
+fn closed_goal<'t>(
+    alloc: Global,
+    tables: &Tables<'t>,
+    goal: &'t PreGoal,
+) -> Result<NumberedGoal, NoMemory>
     ensures { IfOk result (λ made. made ≡ goal_of (numbers_of tables.now) goal.now []) }
 {
     let mut scope = Scope::new(alloc);
@@ -77,7 +81,11 @@ struct NumberedStart {
 }
 
 /// The initial state of a task with numbers.
-fn start_of_task<'t>(alloc: Global, tables: &Tables<'t>, task: &'t Task) -> Result<NumberedStart, NoMemory>
+fn start_of_task<'t>(
+    alloc: Global,
+    tables: &Tables<'t>,
+    task: &'t Task,
+) -> Result<NumberedStart, NoMemory>
     ensures facts { IfOk result (λ made. made.facts ≡ start_of (numbers_of tables.now) task.now) }
     ensures values { IfOk result
         (λ made. made.values ≡ initial_values_of (numbers_of tables.now) task.now) }

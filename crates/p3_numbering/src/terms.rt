@@ -22,7 +22,11 @@ fn argument_of(slot: Option<usize>) -> Result<NumberedArgument, NoMemory>
 }
 
 /// A term as an argument.
-pub(crate) fn argument(tables: &Tables, scope: &Scope, term: &Term) -> Result<NumberedArgument, NoMemory>
+pub(crate) fn argument(
+    tables: &Tables,
+    scope: &Scope,
+    term: &Term,
+) -> Result<NumberedArgument, NoMemory>
     ensures { IfOk result
         (λ argument. argument
         ≡ numbered_term (numbers_of tables.now) (words_of scope.now) term.now) }

@@ -1,6 +1,6 @@
 //! A task over numbers.
 
-use crate::{NumberedGoal, NumberedConstraint, NumberedEffect, Numbers};
+use crate::{NumberedConstraint, NumberedEffect, NumberedGoal, Numbers};
 use p3_base::List;
 use p3_task::Numeral;
 

@@ -83,7 +83,11 @@ fn of_kind(
 
 /// The first of what was found: a second declaration, an unknown name, a wrong number of
 /// arguments, an argument that does not fit.
-fn in_order(side: Side, domain: &FirstOffences, problem: &FirstOffences) -> Result<Option<Refusal>, NoMemory>
+fn in_order(
+    side: Side,
+    domain: &FirstOffences,
+    problem: &FirstOffences,
+) -> Result<Option<Refusal>, NoMemory>
     ensures { IfOk result
         (λ first. first ≡ Order.in_order side domain.now problem.now) }
 {

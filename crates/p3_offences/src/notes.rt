@@ -140,7 +140,11 @@ pub(crate) fn variables_noted(
 }
 
 /// Objects are declared.
-pub(crate) fn objects_noted(found: FirstOffences, tables: &Tables, objects: &[Typed]) -> FirstOffences
+pub(crate) fn objects_noted(
+    found: FirstOffences,
+    tables: &Tables,
+    objects: &[Typed],
+) -> FirstOffences
     ensures { result ≡ use_step tables.now.task.now found (Objects objects.now) }
 {
     FirstOffences {
@@ -236,7 +240,12 @@ pub(crate) fn function_noted(
 }
 
 /// A side of an equality.
-pub(crate) fn side_noted(found: FirstOffences, tables: &Tables, scope: &Scope, side: &Term) -> FirstOffences
+pub(crate) fn side_noted(
+    found: FirstOffences,
+    tables: &Tables,
+    scope: &Scope,
+    side: &Term,
+) -> FirstOffences
     ensures { result
         ≡ use_step tables.now.task.now found (SideUse side.now (scope_seen scope.now)) }
 {

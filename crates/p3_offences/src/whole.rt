@@ -58,7 +58,12 @@ fn init_walked(found: FirstOffences, tables: &Tables, scope: &Scope, entry: &Ini
 
 /// What is found in the initial state.
 #[tactic(auto, using(crate::proofs::WalkLemmas::walk_laws))]
-fn inits_walked(alloc: Global, found: FirstOffences, tables: &Tables, entries: &[Init]) -> FirstOffences
+fn inits_walked(
+    alloc: Global,
+    found: FirstOffences,
+    tables: &Tables,
+    entries: &[Init],
+) -> FirstOffences
     ensures { result
         ≡ fold (use_step tables.now.task.now) found (flat_map init_uses entries.now) }
 {

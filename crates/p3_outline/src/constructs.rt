@@ -177,7 +177,11 @@ fn least_if(test: bool, least: Option<ConstructFound>, word: TextWord<'_>) -> Op
 
 /// By its head alone.
 #[tactic(auto, using(crate::proofs::ConstructLemmas::least_append))]
-fn head_shown(around: Around, head: TextWord<'_>, least: Option<ConstructFound>) -> Option<ConstructFound>
+fn head_shown(
+    around: Around,
+    head: TextWord<'_>,
+    least: Option<ConstructFound>,
+) -> Option<ConstructFound>
     requires short { length head.text.now < 2 ^ 32 }
     ensures { result ≡ least_with least (head_shown around (the_word head.entry)) }
 {
@@ -191,7 +195,11 @@ fn head_shown(around: Around, head: TextWord<'_>, least: Option<ConstructFound>)
 }
 
 /// An increase of something else than the total cost.
-fn other_increase(is_increase: bool, behind: Parts<'_, '_>, least: Option<ConstructFound>) -> Option<ConstructFound>
+fn other_increase(
+    is_increase: bool,
+    behind: Parts<'_, '_>,
+    least: Option<ConstructFound>,
+) -> Option<ConstructFound>
     ensures { result
         ≡ least_with least
         (if is_increase then other_increase (expressions_of behind.entry) else []) }
@@ -228,7 +236,11 @@ fn not_a_number(behind: Parts<'_, '_>, least: Option<ConstructFound>) -> Option<
     least
 }
 
-fn number_shown(is_functions: bool, behind: Parts<'_, '_>, least: Option<ConstructFound>) -> Option<ConstructFound>
+fn number_shown(
+    is_functions: bool,
+    behind: Parts<'_, '_>,
+    least: Option<ConstructFound>,
+) -> Option<ConstructFound>
     ensures { result ≡ least_with least
         (if is_functions then not_a_number false (expressions_of behind.entry) else []) }
 {
@@ -241,7 +253,11 @@ fn number_shown(is_functions: bool, behind: Parts<'_, '_>, least: Option<Constru
 
 /// Behind its head.
 #[tactic(auto, using(crate::proofs::ConstructLemmas::least_append))]
-fn behind_shown(head: TextWord<'_>, behind: Parts<'_, '_>, least: Option<ConstructFound>) -> Option<ConstructFound>
+fn behind_shown(
+    head: TextWord<'_>,
+    behind: Parts<'_, '_>,
+    least: Option<ConstructFound>,
+) -> Option<ConstructFound>
     ensures { result
         ≡ least_with least (behind_shown (the_word head.entry) (expressions_of behind.entry)) }
 {
@@ -456,7 +472,11 @@ fn is_quiet(around: Around, list: View<'_, '_>) -> bool
 
 /// Whatever a list and the lists in it show.
 #[cycle(below)]
-fn below(around: Around, parts: Parts<'_, '_>, least: Option<ConstructFound>) -> Option<ConstructFound>
+fn below(
+    around: Around,
+    parts: Parts<'_, '_>,
+    least: Option<ConstructFound>,
+) -> Option<ConstructFound>
     ensures { FindsBelow around least (expressions_of parts.entry) result }
 {
     let mut behind = parts;
@@ -478,7 +498,11 @@ fn below(around: Around, parts: Parts<'_, '_>, least: Option<ConstructFound>) ->
 
 /// Whatever is shown one after another.
 #[cycle(below)]
-fn all_in(around: Around, parts: Parts<'_, '_>, least: Option<ConstructFound>) -> Option<ConstructFound>
+fn all_in(
+    around: Around,
+    parts: Parts<'_, '_>,
+    least: Option<ConstructFound>,
+) -> Option<ConstructFound>
     ensures { FindsIn around least (expressions_of parts.entry) result }
 {
     let mut left = parts;

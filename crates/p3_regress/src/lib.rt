@@ -11,5 +11,5 @@ mod regression;
 mod sorted;
 mod turning;
 
-pub use readers::{PartsByAtom, PartReader, by_rising_atom, push_readers};
+pub use readers::{PartReader, PartsByAtom, by_rising_atom, push_readers};
 pub use regression::{Regressed, regress};

@@ -7,7 +7,7 @@ ghost use Rattle.p3_regress.specs.Parts.{IndexesParts, parts_of};
 ghost use Rattle.p3_regress.specs.Readers.{is_read_at, mentions, readers_from};
 ghost use Rattle.p3_regress.specs.Sorted.{lent};
 
-use crate::readers::{PartsByAtom, PartReader, by_rising_atom, places_read, push_readers};
+use crate::readers::{PartReader, PartsByAtom, by_rising_atom, places_read, push_readers};
 use p3_base::NoMemory;
 use p3_formula::{Change, Form};
 use std::alloc::Global;

@@ -32,7 +32,11 @@ pub struct PartsByAtom {
 /// The form at the place reads its atoms.
 #[cycle(atoms)]
 #[tactic(auto, using(p3_formula::proofs::AtomLists::atoms_of_laws))]
-pub fn push_readers(readers: &mut Vec<PartReader>, form: &Form, place: usize) -> Result<(), NoMemory>
+pub fn push_readers(
+    readers: &mut Vec<PartReader>,
+    form: &Form,
+    place: usize,
+) -> Result<(), NoMemory>
     ensures { OnOk result (readers.new.items
         ≡ readers.old.items ++ map (reader place) (atoms_of form.now)) }
 {
@@ -50,7 +54,11 @@ pub fn push_readers(readers: &mut Vec<PartReader>, form: &Form, place: usize) ->
 
 /// The forms, all at the place, read their atoms.
 #[cycle(atoms)]
-fn push_all_readers(readers: &mut Vec<PartReader>, forms: &[Form], place: usize) -> Result<(), NoMemory>
+fn push_all_readers(
+    readers: &mut Vec<PartReader>,
+    forms: &[Form],
+    place: usize,
+) -> Result<(), NoMemory>
     ensures { OnOk result (readers.new.items
         ≡ readers.old.items ++ map (reader place) (flat_map atoms_of forms.now)) }
 {

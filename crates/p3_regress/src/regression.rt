@@ -17,7 +17,7 @@ use crate::changed::atom_after;
 use crate::forms::form_before;
 use crate::memory::Memory;
 use crate::often::{Noted, often_changed};
-use crate::readers::{PartsByAtom, PartReader, places_read};
+use crate::readers::{PartReader, PartsByAtom, places_read};
 use crate::sorted::{by_atom, changes_of};
 use crate::turning::{may_turn, may_turn_by, turned};
 use p3_base::{List, NoMemory};

@@ -12,7 +12,7 @@ use Rattle.p3_tree.specs.Reports.Lines.{line}
 use Rattle.p3_tree.specs.Reports.Plans.{fault_line}
 use Rattle.p3_task.specs.Validity.{Fault, first_fault}
 use Rattle.p3_task.specs.declared.task.Task.{Task}
-use Rattle.p3_reports.specs.Explained.{IsExplainReport, explain_text, named_in, reason_text, reasons_text, subject_name, subject_named, verdict_text}
+use Rattle.p3_reports.specs.Explained.{IsExplainReport, explain_text, named_in, reason_text, reasons_text, subject_named, verdict_text}
 use Rattle.p3_reports.specs.Faults.{fault_named}
 use Rattle.p3_reports.specs.declared.explanation.ExplainReport.{ExplainReport}
 use Rattle.p3_reports.proofs.FaultLemmas.{fault_is}

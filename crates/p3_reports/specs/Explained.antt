@@ -4,11 +4,10 @@ use Rattle.std.specs.Fmt.{decimal}
 use Rattle.p3_base.specs.declared.showing.Reason.{Reason}
 use Rattle.p3_base.specs.declared.showing.Subject.{Subject}
 use Rattle.p3_base.specs.declared.showing.Subject.TheVariants.{Hard, Soft, Pre}
-use Rattle.p3_task.specs.Explanations.{reasons}
+use Rattle.p3_task.specs.Explanations.{reasons, subject_name}
 use Rattle.p3_task.specs.Names.{Name}
 use Rattle.p3_task.specs.Plans.{Plan}
-use Rattle.p3_task.specs.Explanations.{instance_name}
-use Rattle.p3_tree.specs.Reports.Explanations.{name_in_step, showing_text, shown_name}
+use Rattle.p3_tree.specs.Reports.Explanations.{showing_text, shown_name}
 use Rattle.p3_tree.specs.Reports.Lines.{line}
 use Rattle.p3_tree.specs.Reports.Plans.{fault_line}
 use Rattle.p3_task.specs.Validity.{first_fault}
@@ -43,12 +42,6 @@ abbrev pub explain_text : ExplainReport → List ℕ
 explain_text report = verdict_text report.fault ++ reasons_text report.reasons
 
 -- ---- what is found
-
--- the name of the preference that a reason is of
-abbrev pub subject_name : Task → Plan → Subject → Option Name
-subject_name T plan (Hard number) = None
-subject_name T plan (Soft instance part) = instance_name T instance
-subject_name T plan (Pre step pref) = name_in_step T plan step pref
 
 abbrev pub named_in : Task → Plan → Reason → NamedReason
 named_in T plan reason = record { reason = reason; name = subject_name T plan reason.subject }

@@ -161,7 +161,12 @@ struct Turn {
 }
 
 /// The operator at a place of a group is in one state more.
-fn turned(groups: &mut Vec<Group>, modal: &GroundModal, state: &Bits, reader: OperatorReader) -> Turn
+fn turned(
+    groups: &mut Vec<Group>,
+    modal: &GroundModal,
+    state: &Bits,
+    reader: OperatorReader,
+) -> Turn
     requires group { reader.group < length groups.old.items }
     requires place { reader.place
         < length (watched.watch_at groups.old.items reader.group).stages }

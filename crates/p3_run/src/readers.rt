@@ -43,7 +43,11 @@ fn push_once(those: &mut List<OperatorReader>, reader: OperatorReader) -> Result
 }
 
 /// The operator reads the atom, where there is one of that number.
-fn push_atom(readers: &mut Vec<List<OperatorReader>>, atom: usize, reader: OperatorReader) -> Result<(), NoMemory>
+fn push_atom(
+    readers: &mut Vec<List<OperatorReader>>,
+    atom: usize,
+    reader: OperatorReader,
+) -> Result<(), NoMemory>
     ensures { OnOk result (readers.new.items ≡ filed reader readers.old.items atom) }
 {
     if atom < readers.len() {
@@ -56,7 +60,11 @@ fn push_atom(readers: &mut Vec<List<OperatorReader>>, atom: usize, reader: Opera
 /// The operator reads the atoms of the form.
 #[cycle(atoms)]
 #[tactic(auto, using(p3_formula::proofs::AtomLists::atoms_of_laws))]
-fn push_form(readers: &mut Vec<List<OperatorReader>>, form: &Form, reader: OperatorReader) -> Result<(), NoMemory>
+fn push_form(
+    readers: &mut Vec<List<OperatorReader>>,
+    form: &Form,
+    reader: OperatorReader,
+) -> Result<(), NoMemory>
     ensures { OnOk result
         (readers.new.items ≡ filed_all reader readers.old.items (atoms_of form.now)) }
 {

@@ -13,7 +13,10 @@ use std::alloc::Global;
 /// Puts the conditions that `and` alone joins in a condition behind those found.
 #[cycle(conditions)]
 #[tactic(auto, using(crate::proofs::PossibleLemmas::condition_laws))]
-fn push_joined<'t>(found: &mut Vec<&'t NumberedCondition>, condition: &'t NumberedCondition) -> Result<(), NoMemory>
+fn push_joined<'t>(
+    found: &mut Vec<&'t NumberedCondition>,
+    condition: &'t NumberedCondition,
+) -> Result<(), NoMemory>
     ensures { OnOk result (Joins condition.now found.old.items found.new.items) }
 {
     match condition {
@@ -45,7 +48,10 @@ fn push_all_joined<'t>(
 /// Puts the conditions that `and` alone joins in a precondition behind those found.
 #[cycle(goals)]
 #[tactic(auto, using(crate::proofs::PossibleLemmas::goal_laws))]
-fn push_conjuncts<'t>(found: &mut Vec<&'t NumberedCondition>, goal: &'t NumberedGoal) -> Result<(), NoMemory>
+fn push_conjuncts<'t>(
+    found: &mut Vec<&'t NumberedCondition>,
+    goal: &'t NumberedGoal,
+) -> Result<(), NoMemory>
     ensures { OnOk result (JoinsGoal goal.now found.old.items found.new.items) }
 {
     match goal {
@@ -64,7 +70,10 @@ fn push_conjuncts<'t>(found: &mut Vec<&'t NumberedCondition>, goal: &'t Numbered
 
 /// Puts the conditions that `and` alone joins in each of the parts behind those found.
 #[cycle(goals)]
-fn push_all_conjuncts<'t>(found: &mut Vec<&'t NumberedCondition>, parts: &'t [NumberedGoal]) -> Result<(), NoMemory>
+fn push_all_conjuncts<'t>(
+    found: &mut Vec<&'t NumberedCondition>,
+    parts: &'t [NumberedGoal],
+) -> Result<(), NoMemory>
     ensures { OnOk result (JoinsAllGoals parts.now found.old.items found.new.items) }
 {
     for part in parts {
@@ -74,7 +83,10 @@ fn push_all_conjuncts<'t>(found: &mut Vec<&'t NumberedCondition>, parts: &'t [Nu
 }
 
 /// The conditions that `and` alone joins in a precondition.
-fn conjuncts_of<'t>(alloc: Global, goal: &'t NumberedGoal) -> Result<Vec<&'t NumberedCondition>, NoMemory>
+fn conjuncts_of<'t>(
+    alloc: Global,
+    goal: &'t NumberedGoal,
+) -> Result<Vec<&'t NumberedCondition>, NoMemory>
     ensures { IfOk result (λ conjuncts. AreConjuncts goal.now conjuncts.items) }
 {
     let mut conjuncts = Vec::new(alloc);

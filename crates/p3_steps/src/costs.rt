@@ -17,7 +17,7 @@ ghost use Rattle.p3_steps.specs.Costs.{
 
 use p3_base::{NoMemory, TooLarge};
 use p3_names::{Digest, Key};
-use p3_numbers::{NumberedArgument, NumberedAmount, NumberedEffect, NumberedValue, units_at};
+use p3_numbers::{NumberedAmount, NumberedArgument, NumberedEffect, NumberedValue, units_at};
 use std::alloc::Global;
 use std::collections::HashMap;
 

@@ -1,5 +1,5 @@
 -- Why the constraints and preferences of a plan are satisfied or not: for each operator the visited states that show it (the PDDL3 report).
-use Rattle.std.specs.Prelude.{ℕ, ◌-◌, Bool, not, List, ◌++◌, map, flat_map, filter, length, slice_get, Option, option_and_then}
+use Rattle.std.specs.Prelude.{ℕ, ◌-◌, Bool, not, List, ◌++◌, map, flat_map, filter, length, slice_get, Option, None, option_and_then}
 use Rattle.std.specs.List.{enumerate_from}
 use Rattle.p3_base.specs.declared.showing.Reason.{Reason}
 use Rattle.p3_base.specs.declared.showing.Showing.{Showing}
@@ -54,3 +54,13 @@ instance_name T number = option_and_then (λ (instance : Instance). instance.nam
 -- the name of a precondition preference of a step, where it has one
 abbrev pub pref_name : Task → Step → ℕ → Option Name
 pref_name T step number = option_and_then (λ (pref : StatePref). pref.name) (slice_get (step_prefs T step) number)
+
+-- the same of a step that is counted from 1
+abbrev pub name_in_step : Task → Plan → ℕ → ℕ → Option Name
+name_in_step T plan step number = option_and_then (λ own. pref_name T own number) (slice_get plan (step - 1))
+
+-- the name of the preference that a reason is of, where it has one
+abbrev pub subject_name : Task → Plan → Subject → Option Name
+subject_name T plan (Hard number) = None
+subject_name T plan (Soft instance part) = instance_name T instance
+subject_name T plan (Pre step pref) = name_in_step T plan step pref

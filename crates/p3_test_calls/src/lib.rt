@@ -10,6 +10,8 @@ mod forms;
 #[cfg(test)]
 mod judged;
 #[cfg(test)]
+mod monitored;
+#[cfg(test)]
 mod outlines;
 #[cfg(test)]
 mod outside;
@@ -17,7 +19,5 @@ mod outside;
 mod reached;
 #[cfg(test)]
 mod regressions;
-#[cfg(test)]
-mod monitored;
 #[cfg(test)]
 mod written;

@@ -2,7 +2,7 @@
 
 use crate::complaint::Stop;
 use crate::flaw::Flaw;
-use crate::heads::{LineFound, Head, head_of};
+use crate::heads::{Head, LineFound, head_of};
 use crate::pieces::{Known, Named, Texts, add_piece, is_piece};
 use crate::quoted::first_word;
 use crate::row::{Line, Row, Sheet, Step};

@@ -21,7 +21,7 @@ ghost use Rattle.p3_types.specs.Tables.{
 };
 ghost use Rattle.p3_types.specs.Texts.{HasTexts, has_short_numbers};
 
-use crate::parts::{CostScale, Orders, CheckedParts};
+use crate::parts::{CheckedParts, CostScale, Orders};
 use p3_base::{Name, Side};
 use p3_numbers::NumberedTask;
 use p3_task::Task;

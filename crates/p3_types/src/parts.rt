@@ -92,7 +92,12 @@ fn costs_of(alloc: Global, task: &Task, numbered: &NumberedTask) -> Result<CostS
 }
 
 /// The parts together.
-fn joined(numbered: NumberedTask, first_steps: Vec<u32>, orders: Orders, costs: CostScale) -> CheckedParts
+fn joined(
+    numbered: NumberedTask,
+    first_steps: Vec<u32>,
+    orders: Orders,
+    costs: CostScale,
+) -> CheckedParts
     ensures { result ≡ record {
       numbered = numbered;
       first_steps = first_steps;

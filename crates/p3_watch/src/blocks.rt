@@ -9,8 +9,8 @@ ghost use Rattle.p3_watch.specs.Lines.{IsInLine, IsToldThere};
 ghost use Rattle.p3_watch.specs.Watching.{OfAnswer};
 
 use crate::evaluated::put_judged;
-use crate::run_report::named_fault;
 use crate::lines::LineStart;
+use crate::run_report::named_fault;
 use crate::watch::{Line, Watch};
 use p3_base::{Pos, Refusal, Sink, SinkFailed};
 use p3_reports::{PlacedRefusal, StackSink, put_fault, put_placed_refusal};

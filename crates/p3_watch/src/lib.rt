@@ -5,8 +5,8 @@
 mod blocks;
 mod evaluated;
 mod following;
-mod run_report;
 mod lines;
+mod run_report;
 mod watch;
 
 pub use following::{Followed, follow, line_numbers};

@@ -1,5 +1,5 @@
 -- What `explain` prints: whether a plan is valid, and for each constraint and preference what shows it.
-use Rattle.std.specs.Prelude.{ℕ, ◌-◌, List, ◌++◌, flat_map, slice_get, codes, Option, Some, None, option_and_then}
+use Rattle.std.specs.Prelude.{List, ◌++◌, flat_map, codes, Option, Some, None}
 use Rattle.std.specs.Fmt.{decimal}
 use Rattle.p3_base.specs.declared.showing.Reason.{Reason}
 use Rattle.p3_base.specs.declared.showing.Showing.{Showing}
@@ -8,21 +8,16 @@ use Rattle.p3_base.specs.declared.showing.Subject.{Subject}
 use Rattle.p3_base.specs.declared.showing.Subject.TheVariants.{Hard, Soft, Pre}
 use Rattle.p3_task.specs.Names.{Name}
 use Rattle.p3_task.specs.Plans.{Plan}
-use Rattle.p3_task.specs.Explanations.{instance_name, pref_name, reasons}
+use Rattle.p3_task.specs.Explanations.{instance_name, name_in_step, reasons}
 use Rattle.p3_task.specs.Validity.{Fault, first_fault}
 use Rattle.p3_tree.specs.Reports.Lines.{line}
 use Rattle.p3_tree.specs.Reports.Plans.{fault_line}
-use Rattle.p3_task.specs.declared.task.Step.{Step}
 use Rattle.p3_task.specs.declared.task.Task.{Task}
 
 -- the name of a preference, or `-` for an unnamed one
 abbrev pub shown_name : Option Name → List ℕ
 shown_name None = codes "-"
 shown_name (Some name) = name
-
--- the name of a preference of a step that is counted from 1
-abbrev pub name_in_step : Task → Plan → ℕ → ℕ → Option Name
-name_in_step T plan step number = option_and_then (λ own. pref_name T own number) (slice_get plan (step - 1))
 
 abbrev pub subject_text : Task → Plan → Subject → List ℕ
 subject_text T plan (Hard number) = codes "constraint " ++ decimal number

@@ -1,7 +1,7 @@
 use Rattle.std.proofs.Common.{◌∙◌, ◌-◌, ap, sym}
 use Rattle.std.proofs.Math.Logic.{∥∥₁_elim}
 use Rattle.p3_task.proofs.StepNumberLaws.{steps_have_numbers}
-use Rattle.p3_reports.specs.Explained.{subject_name}
+use Rattle.p3_task.specs.Explanations.{subject_name}
 use Rattle.p3_eval.proofs.WholeRuns.{grounded_together}
 use Rattle.p3_explain.specs.Naming.{name_numbered}
 use Rattle.p3_explain.proofs.NamingLaws.{first_named}
