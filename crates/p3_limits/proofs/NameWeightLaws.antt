@@ -39,7 +39,7 @@ counted_for measure w N name = share_of measure w.by_name (option_map (number_in
 module _ (T : Task) (N : Numbers) where
   -- ---- the names of the preferences of a goal that is known
 
-  is_known : Option Name → Bool
+  abbrev is_known : Option Name → Bool
   is_known None = true
   is_known (Some name) = has_name N.preferences name
 
