@@ -1,9 +1,10 @@
 -- How sets of atoms grow by what steps may add.
-use Rattle.std.proofs.Common.{◌≡◌, ◌∙◌, ℕ, zero, suc, ◌+◌, ◌<◌, Bool, true, ◌&&◌, List, [], ◌∷◌, length, take, set, get_or, sym, ap}
+use Rattle.std.proofs.Common.{◌≡◌, ◌∙◌, ℕ, zero, suc, ◌+◌, ◌<◌, Bool, true, ◌&&◌, List, [], ◌∷◌, length, take, set, get_or, slice_get, Some, refl, sym, ap, false}
+use Rattle.std.proofs.lemmas.Option.{get_or_from_slice_get, slice_get_within}
 use Rattle.std.specs.List.{list_all}
 use Rattle.std.proofs.lemmas.Bool.{and_parts}
 use Rattle.std.proofs.lemmas.List.{length-set}
-use Rattle.std.proofs.lemmas.List.Folds.{list_all_more}
+use Rattle.std.proofs.lemmas.List.Folds.{list_all_at, list_all_more}
 use Rattle.p3_formula.specs.Forms.{State, is_set}
 use Rattle.p3_formula.specs.declared.form.Change.{Change}
 use Rattle.p3_formula.specs.declared.task.GroundStep.{GroundStep}
@@ -22,6 +23,31 @@ grown_join first second both old mid new is one two = record {
   least = λ other kept within.
       let parts = and_parts (first other) (second other) (sym (is other) ∙ kept) in
       two.least other parts.1 (one.least other parts.0 within);
+}
+
+-- twice by the same
+pub grown_again : (keeps : State → Bool) (old mid new : State) → IsGrown keeps old mid → IsGrown keeps mid new → IsGrown keeps old new
+grown_again keeps old mid new one two = record {
+  size = two.size ∙ one.size;
+  within = λ atom has. two.within atom (one.within atom has);
+  least = λ other kept within. two.least other kept (one.least other kept within);
+}
+
+in_all : {X : Type 0} (test : X → Bool) (items : List X) (i : ℕ) (item : X) → slice_get items i ≡ Some item → list_all test items ≡ true → test item ≡ true
+in_all test items i item here all = by (test item) refl
+  where
+    by : (b : Bool) → test item ≡ b → test item ≡ true
+    by true is = is
+    by false is =
+        absurd (let bad : true ≡ false = sym all ∙ list_all_at test items i item (slice_get_within items i item here) (ap test (get_or_from_slice_get items i item item here) ∙ is) in cc)
+
+-- by one of a list
+pub grown_among : {X : Type 0} (keeps : State → X → Bool) (items : List X) (i : ℕ) (item : X) (old new : State) → slice_get items i ≡ Some item
+    → IsGrown (λ atoms. keeps atoms item) old new → IsGrown (λ atoms. list_all (keeps atoms) items) old new
+grown_among keeps items i item old new here one = record {
+  size = one.size;
+  within = one.within;
+  least = λ other kept within. one.least other (in_all (keeps other) items i item here kept) within;
 }
 
 -- by one more of a list

@@ -4,8 +4,9 @@
 mod leading;
 mod may;
 mod model;
-mod passes;
 mod reach;
+mod rounds;
 mod rules;
+mod waiting;
 
 pub use reach::{Marks, reachable};

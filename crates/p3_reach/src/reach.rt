@@ -10,7 +10,7 @@ ghost use Rattle.p3_reach.specs.Models.{Says};
 use crate::leading::lead_step;
 use crate::may::may_hold;
 use crate::model::least_model;
-use crate::passes::closed_by_passes;
+use crate::rounds::closed_by_rounds;
 use crate::rules::Theory;
 use p3_base::{List, NoMemory};
 use p3_formula::{Bits, GroundStep, GroundTask};
@@ -82,14 +82,17 @@ fn closed_by_rules(alloc: Global, task: &GroundTask) -> Result<Bits, NoMemory>
     first_bits(alloc, &least_model(alloc, &theory)?, task.atoms)
 }
 
-/// The least closed set of atoms. Most tasks have it after a few passes over their steps.
+/// How many rounds are tried before the rules, which take more time and memory, whatever the task.
+const ROUNDS: u32 = 16;
+
+/// The least closed set of atoms. Nearly all tasks have it after a few rounds.
 fn closed(alloc: Global, task: &GroundTask) -> Result<Bits, NoMemory>
     requires atoms { HasAtomsBelow task.now }
     requires bits { length task.now.initial ≡ task.now.atoms }
     ensures closed { IfOk result (IsClosed task.now) }
     ensures least { IfOk result (IsInEachClosed task.now) }
 {
-    match closed_by_passes(alloc, task, 8)? {
+    match closed_by_rounds(alloc, task, ROUNDS)? {
         Some(atoms) => Ok(atoms),
         None => closed_by_rules(alloc, task),
     }

@@ -1,7 +1,7 @@
 use Rattle.std.proofs.Common.{◌≡◌, drop}
 use Rattle.std.specs.List.{list_all}
 use Rattle.p3_reach.specs.Closed.{change_keeps}
-use Rattle.p3_reach.proofs.passes.keeps_changes.Given as goal
+use Rattle.p3_reach.proofs.rounds.keeps_changes.Given as goal
 
 -- the changes that are left decide
 abbrev pub invariant-loop-change : goal.invariant-loop-change

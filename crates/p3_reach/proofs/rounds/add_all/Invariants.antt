@@ -2,7 +2,7 @@ use Rattle.std.proofs.Common.{take}
 use Rattle.std.specs.List.{list_all}
 use Rattle.p3_reach.specs.Closed.{change_keeps}
 use Rattle.p3_reach.specs.Grown.{IsGrown}
-use Rattle.p3_reach.proofs.passes.grow_by_changes.Given as goal
+use Rattle.p3_reach.proofs.rounds.add_all.Given as goal
 
 -- they have grown by the changes passed
 abbrev pub invariant-loop-change : goal.invariant-loop-change
