@@ -1,11 +1,13 @@
 -- What is cut early is the same once all is cut.
 use Rattle.std.proofs.Common.{◌≡◌, ◌∙◌, ℕ, ◌+◌, ◌*◌, ◌-◌, ◌<◌, ◌≤◌, ◌^◌, min, nat_lt, List, [], ◌∷◌, map, sum, length, refl, sym, ap, arith, zero, suc, ◌⊎◌, inl, inr}
 use Rattle.std.specs.Prelude.{fold}
+use Rattle.std.proofs.Math.Nat.{mul_assoc}
 use Rattle.std.proofs.lemmas.Bool.{cases_lt}
 use Rattle.std.proofs.lemmas.Bool.Decides.{nat_tests}
+use Rattle.p3_numbers.specs.Choices.{choice_count}
 use Rattle.p3_numbers.specs.Slots.{range_at}
 use Rattle.p3_numbers.specs.declared.numbers.Numbers.{Numbers}
-use Rattle.p3_limits.specs.Cuts.{cut, choice_count, cut_choices, cut_sum}
+use Rattle.p3_limits.specs.Cuts.{cut, cut_choices, cut_sum}
 use Rattle.p3_limits.specs.Sizes.{above, above_two, above_each}
 
 -- ---- sums and products
@@ -73,13 +75,15 @@ cut-total-zero sizes = let e : 0 + sum sizes ≡ sum sizes = omega arith in ap (
 
 module _ (N : Numbers) where
   cut-choices-from : (start : ℕ) (ranges : List ℕ)
-      → fold (λ product range. cut (product * length (range_at N range))) (cut start) ranges ≡ cut (fold (λ product range. product * length (range_at N range)) start ranges)
-  cut-choices-from start [] = refl
+      → fold (λ product range. cut (product * length (range_at N range))) (cut start) ranges ≡ cut (start * choice_count N ranges)
+  unfolding choice_count
+  cut-choices-from start [] = let one : start ≡ start * 1 = omega arith in ap cut one
   cut-choices-from start (range ∷ ranges) =
       ap (λ n. fold (λ product range. cut (product * length (range_at N range))) n ranges) (cut-times start (length (range_at N range))) ∙ cut-choices-from (start * length (range_at N range)) ranges
+      ∙ ap cut (mul_assoc start (length (range_at N range)) (choice_count N ranges))
 
   pub cut-choices : (ranges : List ℕ) → cut_choices N ranges ≡ cut (choice_count N ranges)
-  cut-choices ranges = ap (λ n. fold (λ product range. cut (product * length (range_at N range))) n ranges) cut-one ∙ cut-choices-from 1 ranges
+  cut-choices ranges = ap (λ n. fold (λ product range. cut (product * length (range_at N range))) n ranges) cut-one ∙ cut-choices-from 1 ranges ∙ ap cut (let one : 1 * choice_count N ranges ≡ choice_count N ranges = omega arith in one)
 
   -- an empty range makes the product 0, whatever was cut before
   pub cut-each : (ranges : List ℕ) (count : ℕ) → cut (cut_choices N ranges * cut count) ≡ cut (choice_count N ranges * count)

@@ -21,6 +21,7 @@ use Rattle.p3_task.specs.declared.goal.PreGoal.{PreGoal, Row_of-PreGoal, end_of-
 use Rattle.p3_task.specs.declared.goal.PreGoal.TheVariants as goal
 use Rattle.p3_task.specs.declared.task.Task.{Task}
 use Rattle.p3_task.specs.declared.term.Typed.{Typed}
+use Rattle.p3_numbers.specs.Choices.{choice_count}
 use Rattle.p3_numbers.proofs.JoinLemmas.{joined}
 use Rattle.p3_numbers.specs.Conditions.{condition_of, is_known_formula}
 use Rattle.p3_numbers.specs.Constraints.{constraint_of, constraint_layer, is_known_constraint, known_constraint_layer}
@@ -32,7 +33,7 @@ use Rattle.p3_numbers.specs.declared.constraint.NumberedConstraint.TheVariants a
 use Rattle.p3_numbers.specs.declared.goal.NumberedGoal.{NumberedGoal, Row_of-NumberedGoal, end_of-NumberedGoal, more_of-NumberedGoal}
 use Rattle.p3_numbers.specs.declared.goal.NumberedGoal.TheVariants as numbered_goal
 use Rattle.p3_numbers.specs.declared.numbers.Numbers.{Numbers}
-use Rattle.p3_limits.specs.Cuts.{cut, choice_count, cut_choices, cut_sum}
+use Rattle.p3_limits.specs.Cuts.{cut, cut_choices, cut_sum}
 use Rattle.p3_limits.specs.Preferences.{repeated, goal_offsets_layer, goal_offsets, constraint_offsets_layer, constraint_offsets, goal_count_layer, goal_count, constraint_count_layer, constraint_count}
 use Rattle.p3_limits.proofs.CutLaws.{cut-zero, cut-one, sum-cons, cut-total-zero, cut-each}
 use Rattle.p3_limits.proofs.PreferenceLemmas.{length-repeated, goal_offsets-Both, goal_offsets-Each, constraint_offsets-Both, constraint_offsets-Each}

@@ -8,6 +8,7 @@ use Rattle.std.proofs.lemmas.List.Folds.{flat_map-map}
 use Rattle.std.proofs.lemmas.Nat.{div-add-mod', mod_below, mul-le}
 use Rattle.std.proofs.lemmas.Option.{slice_get_past}
 use denote.Hole.Carrier.{hidden}
+use Rattle.p3_numbers.specs.Choices.{choice_count}
 use Rattle.p3_numbers.specs.Folds.{fold_goal, fold_constraint}
 use Rattle.p3_numbers.specs.declared.condition.NumberedCondition.{NumberedCondition}
 use Rattle.p3_numbers.specs.declared.goal.NumberedPreference.{NumberedPreference}
@@ -19,7 +20,7 @@ use Rattle.p3_numbers.specs.declared.constraint.NumberedConstraint.{NumberedCons
 use Rattle.p3_numbers.specs.declared.constraint.NumberedConstraint.TheBlock.{hidden-the_row-NumberedConstraint-1}
 use Rattle.p3_numbers.specs.declared.constraint.NumberedConstraint.TheVariants as constraint
 use Rattle.p3_numbers.specs.declared.numbers.Numbers.{Numbers}
-use Rattle.p3_limits.specs.Cuts.{cut, choice_count, cut_choices, cut_total, cut_sum}
+use Rattle.p3_limits.specs.Cuts.{cut, cut_choices, cut_total, cut_sum}
 use Rattle.p3_limits.specs.Preferences.{repeated, goal_offsets_layer, goal_offsets, constraint_offsets_layer, constraint_offsets, goal_count_layer, goal_count, constraint_count_layer, constraint_count, place_behind, place_within, item_at}
 use Rattle.p3_limits.proofs.CutLaws.{cut-below, cut-least, cut-cases, cut-empty}
 use Rattle.p3_limits.proofs.SizeLemmas.{hidden_goals, hidden_constraints, cut_total-map}

@@ -4,12 +4,13 @@ use Rattle.std.specs.Option.{option_map}
 use Rattle.std.specs.Prelude.{flat_map, slice_get}
 use Rattle.std.proofs.lemmas.List.{at_drop_more, length-map}
 use Rattle.std.proofs.lemmas.Option.{slice_get-map}
+use Rattle.p3_numbers.specs.Choices.{choice_count}
 use Rattle.p3_numbers.specs.declared.constraint.NumberedConstraint.{NumberedConstraint}
 use Rattle.p3_numbers.specs.declared.constraint.NumberedConstraint.TheVariants as constraint
 use Rattle.p3_numbers.specs.declared.goal.NumberedGoal.{NumberedGoal}
 use Rattle.p3_numbers.specs.declared.goal.NumberedGoal.TheVariants as goal
 use Rattle.p3_numbers.specs.declared.numbers.Numbers.{Numbers}
-use Rattle.p3_limits.specs.Cuts.{cut, choice_count, cut_choices}
+use Rattle.p3_limits.specs.Cuts.{cut, cut_choices}
 use Rattle.p3_limits.specs.Preferences.{goal_offsets, constraint_offsets, goal_count, constraint_count, place_behind, place_within, item_at}
 use Rattle.p3_limits.proofs.CutLaws.{cut-choices}
 use Rattle.p3_limits.proofs.PreferenceLaws.{goal-counted, constraint-counted}

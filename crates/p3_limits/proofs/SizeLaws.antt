@@ -2,6 +2,7 @@
 use Rattle.std.proofs.Common.{◌≡◌, ◌∙◌, ℕ, ◌+◌, ◌*◌, true, List, [], ◌∷◌, ◌++◌, map, sum, length, refl, sym, ap, arith}
 use Rattle.std.specs.Prelude.{fold}
 use Rattle.std.specs.List.{list_all}
+use Rattle.std.proofs.Math.Nat.{mul_assoc}
 use Rattle.std.proofs.lemmas.Bool.{and_parts}
 use Rattle.std.proofs.lemmas.List.{length-map}
 use mathlib.Core.Former.{Count}
@@ -22,6 +23,7 @@ use Rattle.p3_task.specs.declared.goal.PreGoal.TheVariants as goal
 use Rattle.p3_task.specs.declared.task.Task.{Task}
 use Rattle.p3_task.specs.declared.term.Ref.{Ref}
 use Rattle.p3_task.specs.declared.term.Typed.{Typed}
+use Rattle.p3_numbers.specs.Choices.{choice_count}
 use Rattle.p3_numbers.specs.Conditions.{condition_of, condition_layer, is_known_formula, known_formula_layer}
 use Rattle.p3_numbers.specs.Constraints.{constraint_of, constraint_layer, modal_of, is_known_modal, is_known_constraint, known_constraint_layer}
 use Rattle.p3_numbers.specs.Effects.{effect_of, effect_layer, amount_of, is_known_amount, is_known_effect, known_effect_layer}
@@ -29,7 +31,7 @@ use Rattle.p3_numbers.specs.Goals.{goal_of, goal_layer, numbered_name, is_known_
 use Rattle.p3_numbers.specs.Places.{Variables, number_in, numbered_term, numbered_terms, range_of, ranges_of, words_of, has_types, are_known_types, IsNumbering}
 use Rattle.p3_numbers.specs.Slots.{name_at, range_at}
 use Rattle.p3_numbers.specs.declared.numbers.Numbers.{Numbers}
-use Rattle.p3_limits.specs.Cuts.{cut, choice_count, cut_choices, cut_sum}
+use Rattle.p3_limits.specs.Cuts.{cut, cut_choices, cut_sum}
 use Rattle.p3_limits.specs.Sizes.{above, above_two, above_each, condition_size, effect_size, goal_size, modal_size, constraint_size}
 use Rattle.p3_limits.proofs.CutLaws.{cut-one, cut-total-one, cut-above, cut-above_two, cut-above_each}
 use Rattle.p3_limits.proofs.SizeLemmas as built
@@ -42,16 +44,20 @@ module _ (T : Task) (N : Numbers) (ties : IsNumbering T N) where
   range-length types known = sym (length-map (range_at N (range_of N types)) (name_at N.objects)) ∙ ap length (ties.named types known)
 
   choices-from : (start : ℕ) (variables : List Typed) → are_known_types N variables ≡ true
-      → fold (λ product range. product * length (range_at N range)) start (ranges_of N variables) ≡ fold (λ product variable. product * length (objects T variable.types)) start variables
-  choices-from start [] known = refl
+      → start * choice_count N (ranges_of N variables) ≡ fold (λ product variable. product * length (objects T variable.types)) start variables
+  unfolding choice_count
+  choices-from start [] known = omega arith
   choices-from start (variable ∷ variables) known =
       let parts = and_parts (has_types N variable.types) (are_known_types N variables) known in
-      ap (λ n. fold (λ product range. product * length (range_at N range)) (start * n) (ranges_of N variables)) (range-length variable.types parts.0)
+      ap (λ n. start * (n * choice_count N (ranges_of N variables))) (range-length variable.types parts.0)
+      ∙ sym (mul_assoc start (length (objects T variable.types)) (choice_count N (ranges_of N variables)))
       ∙ choices-from (start * length (objects T variable.types)) variables parts.1
 
   pub choices-are : (variables : List Typed) → are_known_types N variables ≡ true → choice_count N (ranges_of N variables) ≡ binding_count T variables
   unfolding binding_count
-  choices-are variables known = choices-from 1 variables known
+  choices-are variables known =
+      let once : choice_count N (ranges_of N variables) ≡ 1 * choice_count N (ranges_of N variables) = omega arith in
+      once ∙ choices-from 1 variables known
 
   each-is : (variables : List Typed) (body size : ℕ) → are_known_types N variables ≡ true → body ≡ cut size → above_each (cut_choices N (ranges_of N variables)) body ≡ cut (1 + binding_count T variables * size)
   each-is variables body size known is =

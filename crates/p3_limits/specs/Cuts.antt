@@ -6,11 +6,7 @@ use Rattle.p3_numbers.specs.declared.numbers.Numbers.{Numbers}
 unfoldable pub cut : ℕ → ℕ
 cut n = min n (2 ^ 64 - 1)
 
--- how many choices there are of one object of each range
-abbrev pub choice_count : Numbers → List ℕ → ℕ
-choice_count N ranges = fold (λ product range. product * length (range_at N range)) 1 ranges
-
--- the same with each product cut
+-- how many choices there are of one object of each range, with each product cut
 abbrev pub cut_choices : Numbers → List ℕ → ℕ
 cut_choices N ranges = fold (λ product range. cut (product * length (range_at N range))) 1 ranges
 

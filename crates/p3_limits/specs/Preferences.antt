@@ -1,12 +1,13 @@
 -- The words `preference` of the instances of numbered trees, in the order of the instances, and how one is found by counting.
 use Rattle.std.specs.Prelude.{ℕ, ◌*◌, ◌-◌, ◌/◌, ◌%◌, nat_lt, List, [], ◌∷◌, ◌++◌, flat_map, slice_get, zero, suc, Option, Some, None, if◌then◌else◌}
+use Rattle.p3_numbers.specs.Choices.{choice_count}
 use Rattle.p3_numbers.specs.Folds.{fold_goal, fold_constraint}
 use Rattle.p3_numbers.specs.declared.constraint.NumberedConstraint.{NumberedConstraint}
 use Rattle.p3_numbers.specs.declared.constraint.NumberedConstraint.TheOpen as constraint
 use Rattle.p3_numbers.specs.declared.goal.NumberedGoal.{NumberedGoal}
 use Rattle.p3_numbers.specs.declared.goal.NumberedGoal.TheOpen as goal
 use Rattle.p3_numbers.specs.declared.numbers.Numbers.{Numbers}
-use Rattle.p3_limits.specs.Cuts.{cut, choice_count, cut_choices, cut_sum}
+use Rattle.p3_limits.specs.Cuts.{cut, cut_choices, cut_sum}
 
 -- ---- their offsets
 
