@@ -1,7 +1,6 @@
 -- The refusals of numbers of too many units, in effects, actions and entries.
-use Rattle.std.proofs.Common.{◌≡◌, ◌∙◌, ℕ, refl, sym, ap, Bool, true, false, cond, List, [], ◌∷◌, ◌++◌, map, Option, Some, None}
+use Rattle.std.proofs.Common.{◌≡◌, ◌∙◌, ℕ, refl, sym, ap, Bool, true, false, cond, List, [], ◌∷◌, ◌++◌, map, Option, None}
 use Rattle.std.specs.Prelude.{fold, filter, filter_map, flat_map, option_map, if◌then◌else◌}
-use Rattle.std.specs.List.{cons_option}
 use Rattle.std.proofs.lemmas.List.Elements.{filter_map-append}
 use Rattle.std.proofs.lemmas.List.Sums.{fold-append}
 use Rattle.p3_base.specs.declared.refusal.Refusal.{Refusal}
@@ -10,7 +9,7 @@ use Rattle.p3_base.specs.declared.refusal.Side.{Side}
 use Rattle.p3_task.proofs.MeaningLemmas.{increases-All}
 use Rattle.p3_task.specs.Costs.{amount_numeral, amount_numerals, cost_places, increases, value_numeral, value_numerals}
 use Rattle.p3_task.specs.Refusals.Metric.{dear_at, least_numeral}
-use Rattle.p3_task.specs.Sides.{Half, InDomain, InProblem, role_of}
+use Rattle.p3_task.specs.Sides.{InDomain, InProblem, role_of}
 use Rattle.p3_task.specs.declared.effect.Amount.{Amount}
 use Rattle.p3_task.specs.declared.effect.Effect.{Effect}
 use Rattle.p3_task.specs.declared.effect.Effect.TheVariants as effect

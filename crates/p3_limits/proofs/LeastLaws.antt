@@ -1,5 +1,5 @@
 -- The refusal of least offset is that of the item of least offset.
-use Rattle.std.proofs.Common.{◌≡◌, ◌∙◌, ℕ, nat_lt, Bool, true, false, refl, ap, List, [], ◌∷◌, map, Option, Some, None}
+use Rattle.std.proofs.Common.{◌≡◌, ◌∙◌, ℕ, nat_lt, Bool, true, false, refl, ap, List, [], ◌∷◌, map, Some}
 use Rattle.std.specs.Prelude.{fold, if◌then◌else◌}
 use Rattle.p3_base.specs.declared.refusal.Refusal.{Refusal}
 use Rattle.p3_limits.specs.Least.{with_least}

@@ -1,6 +1,6 @@
 -- The weights by number are those of the names of an action's preferences, and the sums of these.
 use Rattle.std.proofs.Common.{◌≡◌, ◌∙◌, ℕ, ◌+◌, ◌*◌, refl, sym, ap, Bool, true, ◌&&◌, List, [], ◌∷◌, ◌++◌, map, sum_by, arith, Option, Some, None, pos, ◌+ℤ◌, ◌*ℤ◌}
-use Rattle.std.specs.Prelude.{flat_map, fold, int_lt, nat_lt, option_map, slice_get, slice_index_or, if◌then◌else◌}
+use Rattle.std.specs.Prelude.{flat_map, fold, int_lt, option_map, slice_get, if◌then◌else◌}
 use Rattle.std.specs.List.{list_all}
 use Rattle.std.proofs.lemmas.Bool.{and_parts}
 use Rattle.std.proofs.lemmas.Int.{ints}
@@ -18,7 +18,6 @@ use Rattle.p3_task.specs.Costs.{increases}
 use Rattle.p3_task.specs.Folds.{fold_goals}
 use Rattle.p3_task.specs.Goals.{StatePref, named, pref_names, prefs, prefs_layer}
 use Rattle.p3_task.specs.Limits.{action_prefs, cost_bound, greatest_amount, weight_of, width}
-use Rattle.p3_task.specs.Metrics.{weight}
 use Rattle.p3_task.specs.Names.{Name, has_name}
 use Rattle.p3_task.specs.PreferenceNames.{ordered_names}
 use Rattle.p3_task.specs.States.{Environment}
@@ -27,7 +26,7 @@ use Rattle.p3_task.specs.declared.goal.PreGoal.TheVariants as goal
 use Rattle.p3_task.specs.declared.task.Action.{Action}
 use Rattle.p3_task.specs.declared.task.Task.{Task}
 use Rattle.p3_task.specs.declared.term.Ref.{Ref}
-use Rattle.p3_limits.specs.Bounds.{share, share_of, weight_at}
+use Rattle.p3_limits.specs.Bounds.{share_of}
 use Rattle.p3_limits.specs.Weights.{HasWeights}
 use Rattle.p3_limits.specs.declared.measure.Measure.{Measure}
 use Rattle.p3_limits.specs.declared.measure.Measure.TheVariants.{Cost, Width}

@@ -1,5 +1,5 @@
 -- The number of least offset that has too many units, of the numbers so far.
-use Rattle.std.specs.Prelude.{ℕ, nat_le, Bool, false, List, fold, filter_map, if◌then◌else◌, Option, Some, None}
+use Rattle.std.specs.Prelude.{ℕ, nat_le, Bool, false, fold, filter_map, if◌then◌else◌, Option}
 use Rattle.std.specs.Option.{option_map_or}
 use Rattle.p3_base.specs.declared.refusal.Code.TheVariants.{CostTooLarge}
 use Rattle.p3_base.specs.declared.refusal.Refusal.{Refusal}

@@ -5,7 +5,6 @@ ghost use Rattle.p3_task.specs.Costs.{
   amount_numeral,
   amount_numerals,
   cost_places,
-  value_numeral,
   value_numerals,
 };
 ghost use Rattle.p3_task.specs.Refusals.Metric.{dear_at};
