@@ -27,7 +27,7 @@ use Rattle.p3_formula.specs.declared.target.TargetAction.{TargetAction}
 use Rattle.p3_formula.specs.declared.target.Weights.{Weights}
 use Rattle.p3_formula.specs.declared.task.GroundTask.{GroundTask}
 use Rattle.p3_formula.proofs.NamedLaws.{translates, well_named}
-use Rattle.p3_metric.proofs.ShortNames.{has_short_name, have_short_names}
+use Rattle.p3_limits.proofs.ShortNames.{has_short_name, have_short_names}
 use Rattle.p3_flat.specs.Conditions.{is_too_wide}
 use Rattle.p3_flat.specs.Flattened.{IsFlattened, first_too_wide}
 use Rattle.p3_flat.proofs.FlatLaws.{can_be_flattened, flat_free, flat_sized, flat_translates, flat_well_named}

@@ -33,8 +33,8 @@ use p3_compile::compile;
 use p3_eval::Whole;
 use p3_flat::{FlatFail, flatten};
 use p3_formula::Target;
+use p3_limits::refusal_at;
 use p3_task::{Action, Ref, Task};
-use p3_types::refusal_at;
 use std::alloc::Global;
 use std::mem::forget;
 

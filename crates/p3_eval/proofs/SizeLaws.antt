@@ -30,8 +30,8 @@ use Rattle.p3_task.specs.declared.task.Action.{Action}
 use Rattle.p3_task.specs.declared.task.Init.{Init}
 use Rattle.p3_task.specs.declared.task.Init.TheVariants as init
 use Rattle.p3_task.specs.declared.task.Task.{Task}
-use Rattle.p3_types.proofs.CutLaws.{sum-cons}
-use Rattle.p3_types.proofs.PreferenceLaws.{length-bind}
+use Rattle.p3_limits.proofs.CutLaws.{sum-cons}
+use Rattle.p3_limits.proofs.PreferenceLaws.{length-bind}
 use Rattle.p3_types.specs.Texts.{has_short_numbers, is_short, metric_numerals}
 
 -- ---- how many preferences and increases there are

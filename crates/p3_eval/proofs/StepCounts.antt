@@ -13,7 +13,7 @@ use Rattle.p3_task.specs.Refusals.First.{task_refusal}
 use Rattle.p3_task.specs.declared.task.Action.{Action}
 use Rattle.p3_task.specs.declared.task.Task.{Task}
 use Rattle.p3_task.specs.Sides.{step_count_limit}
-use Rattle.p3_types.proofs.PreferenceLaws.{length-bind}
+use Rattle.p3_limits.proofs.PreferenceLaws.{length-bind}
 use Rattle.p3_eval.proofs.RefusalLaws.{each_none, no_size, unmapped}
 
 module _ (T : Task) where

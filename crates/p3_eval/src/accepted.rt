@@ -14,8 +14,9 @@ use crate::{Grounded, WholeFail};
 use p3_base::NoMemory;
 use p3_formula::{GroundTask, Weights};
 use p3_ground::ground_among;
-use p3_metric::{bounds, normalise};
-use p3_types::{Checked, size_refusal};
+use p3_limits::{bounds, size_refusal};
+use p3_metric::normalise;
+use p3_types::Checked;
 use std::alloc::Global;
 
 /// A checked task with the weights of its metric. Nothing is refused of it.

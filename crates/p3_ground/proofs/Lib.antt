@@ -3,7 +3,6 @@ pub mod Counts
 pub mod ExpandedLaws
 pub mod Extras
 pub mod GroundingLaws
-pub mod InitialLemmas
 pub mod KnownNames
 pub mod Lifts
 pub mod MayFitLaws

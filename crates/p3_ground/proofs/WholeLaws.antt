@@ -1,6 +1,6 @@
 -- A ground task of the wanted steps that may begin, and the limit on its steps.
 use Rattle.std.proofs.Common.{◌≡◌, ◌∙◌, ℕ, ◌+◌, ◌-◌, ◌*◌, ◌≤◌, Bool, true, false, ◌&&◌, nat_lt, if◌then◌else◌, List, [], ◌∷◌, ◌++◌, Option, Some, None, get_or, length, map, min, refl, sym, ap, subst, arith}
-use Rattle.std.specs.Prelude.{fold, drop, option_map, slice_index_or, IsTrue}
+use Rattle.std.specs.Prelude.{fold, drop, option_map, slice_index_or}
 use Rattle.std.specs.List.{list_all}
 use Rattle.std.specs.Option.{option_or}
 use Rattle.std.proofs.lemmas.Bool.{and_parts, ltb-false}
@@ -35,8 +35,6 @@ use Rattle.p3_numbers.specs.Tasks.{IsNumberedTask, numbered_action}
 use Rattle.p3_numbers.specs.declared.numbers.Numbers.{Numbers}
 use Rattle.p3_numbers.specs.declared.task.NumberedTask.{NumberedTask}
 use Rattle.p3_numbers.proofs.KnownLaws.{task-known}
-use Rattle.p3_types.specs.Texts.{has_short_numbers}
-use Rattle.p3_types.proofs.CostLemmas.{few_places}
 use Rattle.p3_steps.specs.Steps.{StepIsMade, StepsAreMade, MakesSteps, count_of_steps}
 use Rattle.p3_steps.proofs.StepLemmas.{made-keeps}
 use Rattle.p3_reach.specs.Closed.{IsClosed, IsInEachClosed, steps_that_may}
@@ -129,10 +127,6 @@ few-steps T X side well is none =
     ap (count_of_steps X.numbers) is.actions ∙ counts-are T X.numbers is.numbering T.domain.actions (task-known T X.numbers well is.covers).actions
     in
     omega (arith, count, passes-none (λ (action : Action). binding_count T action.params) step_count_limit T.domain.actions here)
-
--- short numbers have few places
-pub few_places_of : (side : Side) (T : Task) → IsTrue (has_short_numbers side T) → cost_places T ≤ 6
-few_places_of side T short = few_places side T short
 
 -- ---- the parts
 

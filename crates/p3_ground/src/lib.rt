@@ -5,7 +5,6 @@
 mod error;
 mod expanded;
 mod grounding;
-mod initial;
 mod laws;
 mod parts;
 mod planned;

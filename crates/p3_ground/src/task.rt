@@ -18,8 +18,9 @@ use crate::rest::{Rest, Taken};
 use crate::whole::whole;
 use p3_base::{List, NoMemory};
 use p3_formula::{GroundStep, GroundTask};
+use p3_limits::size_refusal;
 use p3_reach::reachable;
-use p3_types::{Checked, size_refusal};
+use p3_types::Checked;
 use std::alloc::Global;
 
 /// The step goes last where it is marked.

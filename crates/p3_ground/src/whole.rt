@@ -1,8 +1,9 @@
 //! A ground task of all steps that may begin, or of those of some numbers.
 
-ghost use Rattle.std.specs.Prelude.{◌≡◌, ◌≤◌, ℕ, List, [], Option, IfOk, IfSome};
+ghost use Rattle.std.specs.Prelude.{◌≡◌, ◌≤◌, ◌^◌, ℕ, List, [], Option, IfOk, IfSome};
 ghost use Rattle.std.specs.List.Sorted.{IsStrictlyIncreasing};
 ghost use Rattle.std.specs.Option.{option_copied};
+ghost use Rattle.std.specs.Result.{MatchResult};
 ghost use Rattle.p3_task.specs.Costs.{cost_places as places_of_costs, initial_cost as cost_at_start};
 ghost use Rattle.p3_task.specs.Offences.{WellFormed};
 ghost use Rattle.p3_expansion.specs.Statics.{AreStatics, start_bits};
@@ -10,9 +11,8 @@ ghost use Rattle.p3_steps.specs.Steps.{MakesSteps};
 ghost use Rattle.p3_ground.specs.Planned.{wanted_steps};
 ghost use Rattle.p3_ground.specs.Whole.{ArePartsOf, IsWhole, HasFewSteps};
 
-use crate::initial::{initial_cost, places_of};
 use crate::parts::ExpandedParts;
-use p3_base::{List, NoMemory};
+use p3_base::{List, NoMemory, TooLarge};
 use p3_expansion::{
     Atoms, Statics, Work, hard_constraints, hard_form, initial_bits, soft_constraints,
 };
@@ -79,6 +79,21 @@ fn parts_of(
 struct GroundStart {
     initial: Bits,
     cost: u64,
+}
+
+/// The total cost before the first step, in units of the last decimal place of the task's costs.
+///
+/// # Errors
+///
+/// `TooLarge` exactly from 2 ^ 64 units on; from 10^18 units on a task is refused with its metric.
+fn initial_cost(task: &Checked) -> Result<u64, TooLarge>
+    ensures { MatchResult result (λ cost. cost ≡ cost_at_start task.now.task)
+        (λ _. 2 ^ 64 ≤ cost_at_start task.now.task) }
+{
+    match u64::try_from(task.initial_cost()) {
+        Ok(cost) => Ok(cost),
+        Err(_) => Err(TooLarge),
+    }
 }
 
 /// How the task starts, over these atoms.
@@ -161,7 +176,7 @@ pub(crate) fn whole(
 {
     let numbered = task.numbered();
     let statics = Statics::of(alloc, numbered)?;
-    let costs = EffectCosts::of(alloc, numbered.values.items(), places_of(task))?;
+    let costs = EffectCosts::of(alloc, numbered.values.items(), task.cost_places())?;
     let whole = whole_by(alloc, task, &statics, &costs, wanted)?;
     Ok(whole)
 }

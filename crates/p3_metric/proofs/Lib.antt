@@ -14,16 +14,9 @@ pub mod FitLemmas
 pub mod StepLemmas
 pub mod CutLaws
 pub mod WordLaws
-pub mod DearLaws
 pub mod MetricLemmas
-pub mod StartLaws
 pub mod WeightLaws
 pub mod ShortLemmas
 pub mod CheapLemmas
 pub mod SignLaws
-pub mod ShortNames
-pub mod ShareLaws
-pub mod IncreaseLaws
-pub mod NameWeightLaws
-pub mod ActionLaws
 pub mod PlacesLaws

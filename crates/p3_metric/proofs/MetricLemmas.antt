@@ -1,33 +1,20 @@
 -- What is said of a task's metric, by its expression.
 use Rattle.std.proofs.Common.{◌≡◌, ◌∙◌, ℕ, ◌≤◌, refl, sym, ap, Bool, true, false, arith, Option, Some, None}
-use Rattle.std.specs.Prelude.{nat_lt, filter, option_map, if◌then◌else◌}
+use Rattle.std.specs.Prelude.{nat_lt, option_map, if◌then◌else◌}
 use Rattle.std.specs.Option.{option_and_then}
 use Rattle.std.proofs.lemmas.Bool.{ltb-true, ltb-false}
 use Rattle.p3_base.specs.declared.refusal.Role.{Role}
 use Rattle.p3_base.specs.declared.refusal.Side.{Side}
-use Rattle.p3_task.specs.Costs.{amount_numerals, value_numerals}
 use Rattle.p3_task.specs.Names.{Name}
 use Rattle.p3_task.specs.Metrics.{no_counts, metric_places, metric_quantity, quantity, quantity_by}
-use Rattle.p3_task.specs.Refusals.Metric.{is_dear, least_numeral, nonlinear, nonlinear_at, too_many_places_at}
+use Rattle.p3_task.specs.Refusals.Metric.{nonlinear, nonlinear_at, too_many_places_at}
 use Rattle.p3_task.specs.Sides.{InProblem, role_of}
 use Rattle.p3_task.specs.declared.metric.Metric.{Metric}
 use Rattle.p3_task.specs.declared.task.Task.{Task}
 use Rattle.p3_metric.specs.Cut.{cut, cut_places}
-use Rattle.p3_metric.specs.Dear.{dear_in_actions, dear_in_init}
 use Rattle.p3_metric.specs.Evaluation.{IsFit, refused_at}
 use Rattle.p3_metric.specs.Refused.{nonlinear_of, too_many_places_of}
 use Rattle.p3_metric.proofs.AcceptedLaws.{no_product}
-use Rattle.p3_metric.proofs.DearLaws.{least_is}
-
--- ---- costs
-
-pub amounts_are : (side : Side) (T : Task) → dear_in_actions side T T.domain.actions ≡ least_numeral (filter (is_dear side T) (amount_numerals T))
-unfolding dear_in_actions
-amounts_are side T = least_is (is_dear side T) (amount_numerals T)
-
-pub values_are : (side : Side) (T : Task) → dear_in_init side T T.problem.init ≡ least_numeral (filter (is_dear side T) (value_numerals T))
-unfolding dear_in_init
-values_are side T = least_is (is_dear side T) (value_numerals T)
 
 -- ---- the expression
 

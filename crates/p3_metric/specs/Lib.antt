@@ -5,8 +5,5 @@ pub mod Operations
 pub mod Forms
 pub mod Evaluation
 pub mod Cut
-pub mod Start
 pub mod Refused
-pub mod Dear
 pub mod Signs
-pub mod Bounds

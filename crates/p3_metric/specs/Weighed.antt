@@ -2,26 +2,14 @@
 use Rattle.std.specs.Prelude.{◌≡◌, ℕ, ◌+◌, ◌*◌, pos, ◌+ℤ◌, List, [], length, slice_index_or, slice_get, sum_by, Some}
 use Rattle.std.specs.List.{range_with_len}
 use Rattle.p3_formula.specs.declared.target.Weights.{Weights}
+pub use Rattle.p3_limits.specs.Weights.{HasWeightsOf, HasWeights}
 use Rattle.p3_task.specs.Names.{Name}
 use Rattle.p3_task.specs.Costs.{initial_cost}
-use Rattle.p3_task.specs.Metrics.{direction, loss_at, base_loss, weight, cost_weight}
+use Rattle.p3_task.specs.Metrics.{direction, loss_at, base_loss}
 use Rattle.p3_task.specs.PreferenceNames.{ordered_names}
 use Rattle.p3_task.specs.Refusals.Metric.{nonlinear}
 use Rattle.p3_task.specs.declared.metric.Metric.{Metric}
 use Rattle.p3_task.specs.declared.task.Task.{Task}
-
--- the weights by their definitions: what one count of each of the names, or one unit of the total cost, adds to the loss
-pub record HasWeightsOf (names : List Name) (T : Task) (w : Weights) : Type 0 where
-  -- one for each of them, in their order
-  pub count : length w.by_name ≡ length names
-  pub by_name : (place : ℕ) (name : Name) → slice_get names place ≡ Some name → pos (slice_index_or w.by_name place 0) ≡ weight T name
-  pub total_cost : pos w.total_cost ≡ cost_weight T
-  pub base : w.base ≡ base_loss T
-  pub direction : w.direction ≡ direction T
-
--- one for each preference name, in the order of their numbers
-abbrev pub HasWeights : Task → Weights → Type 0
-HasWeights T = HasWeightsOf (ordered_names T) T
 
 -- the counts of the names, each times its weight
 abbrev pub weighed : List ℕ → List Name → (Name → ℕ) → ℕ

@@ -2,7 +2,7 @@
 
 ghost use Rattle.std.specs.Prelude.{◌≡◌, ◌≤◌, true, false, IfOk, IfErr, OnOk, OnErr};
 ghost use Rattle.p3_base.specs.declared.refusal.Code.TheVariants.{CostTooLarge};
-ghost use Rattle.p3_task.specs.Costs.{cost_places as places_of_costs};
+ghost use Rattle.p3_task.specs.Costs.{cost_places as places_of_costs, initial_cost as cost_at_start};
 ghost use Rattle.p3_task.specs.Refusals.Metric.{operations};
 ghost use Rattle.p3_task.specs.Refusals.Places.{refusal_at};
 ghost use Rattle.p3_task.specs.Sides.{InProblem, role_of};
@@ -10,6 +10,7 @@ ghost use Rattle.p3_task.specs.declared.metric.Num.TheVariants as num;
 ghost use Rattle.p3_metric.specs.Evaluation.{IsEvaluated, IsFailure, IsFit};
 ghost use Rattle.p3_metric.specs.Forms.{IsBounded};
 ghost use Rattle.p3_metric.specs.declared.error.MetricFail.TheVariants as fail;
+ghost use Rattle.p3_limits.specs.Cuts.{cut};
 
 use crate::MetricFail;
 use crate::leaves::{constant, count, total_cost};
@@ -33,8 +34,12 @@ pub(crate) struct Evaluator<'t> {
     pub(crate) role: Role,
     /// The decimal places of the task's costs.
     pub(crate) cost_places: u32,
+    /// The total cost before the first step, or `u64::MAX` where it is more.
+    pub(crate) initial_cost: u64,
     ghost sided: { role ≡ role_of side InProblem },
     ghost counted: { cost_places ≡ places_of_costs task.now },
+    ghost few: { cost_places ≤ 6 },
+    ghost started: { initial_cost ≡ cut (cost_at_start task.now) },
 }
 
 /// The form where it is small, else the refusal.

@@ -1,30 +1,23 @@
-//! The metric of a task as weights, and the actions that they make too dear or too wide.
+//! The metric of a task as weights.
 #![tactic(auto)]
 
-mod actions;
-mod dear;
 mod entries;
 mod error;
 mod evaluate;
 mod factors;
-mod goals;
-mod increases;
 mod laws;
 mod leaves;
 mod linear;
-mod measure;
 mod metric;
 mod negative;
 mod places;
 mod refused;
 mod spot;
-mod start;
-mod units;
 mod weights;
 mod words;
 
-pub use actions::bounds;
 pub use error::MetricFail;
 pub use laws::{accepted_metrics_are_linear, losses_are_weighed};
 pub use metric::normalise;
+pub use p3_limits::bounds;
 pub use places::metric_places;

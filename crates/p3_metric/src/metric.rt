@@ -10,8 +10,9 @@ ghost use Rattle.p3_metric.specs.Weighed.{HasWeights, IsWeights};
 use crate::MetricFail;
 use crate::evaluate::Evaluator;
 use p3_formula::Weights;
+use p3_limits::{cut_units, problem_role};
 use p3_names::{Key, listed_key};
-use p3_types::{Checked, problem_role};
+use p3_types::Checked;
 use std::alloc::Global;
 
 /// The key of the names of a checked task's preferences.
@@ -48,6 +49,7 @@ pub fn normalise(alloc: Global, task: &Checked) -> Result<Weights, MetricFail>
         side,
         role: problem_role(side),
         cost_places: task.cost_places(),
+        initial_cost: cut_units(task.initial_cost()),
     };
     evaluator.weights(task.numbered().numbers.preferences.items())
 }

@@ -13,17 +13,14 @@ ghost use Rattle.std.specs.Prelude.{
   OnOk,
   if◌then◌else◌,
 };
-ghost use Rattle.p3_base.specs.declared.refusal.Code.TheVariants.{CostTooLarge, NonLinear};
+ghost use Rattle.p3_base.specs.declared.refusal.Code.TheVariants.{NonLinear};
 ghost use Rattle.p3_task.specs.Refusals.Metric.{nonlinear_at, too_many_places_at};
 ghost use Rattle.p3_task.specs.Refusals.Places as places;
-ghost use Rattle.p3_task.specs.Sides.{InDomain, InProblem, role_of};
 ghost use Rattle.p3_metric.specs.Cut.{cut_places};
 ghost use Rattle.p3_metric.specs.Evaluation.{IsMetricForm, refused_at};
 ghost use Rattle.p3_metric.specs.Refused.{
   IsRefusal,
   large_of,
-  dear_amount_of,
-  dear_value_of,
   early_refusals,
   nonlinear_of,
   too_many_places_of,
@@ -36,22 +33,11 @@ use crate::leaves::constant;
 use crate::linear::Linear;
 use crate::words::refusal_at_operator;
 use p3_base::{Code, NoMemory, Refusal, Role};
-use p3_task::{Num, Numeral};
-use p3_types::{domain_role, refusal_at};
+use p3_limits::{dear_amount, dear_value, refusal_at};
+use p3_task::Num;
 
 /// The decimal places that a metric may have.
 const METRIC_PLACE_LIMIT: u32 = 6;
-
-/// The refusal of an amount or a value of too many units.
-fn dear_refusal(role: Role, numeral: Option<Numeral>) -> Option<Refusal>
-    ensures { result ≡ option_map
-        (λ numeral. places.refusal_at CostTooLarge role numeral.at numeral.len) numeral }
-{
-    match numeral {
-        None => None,
-        Some(numeral) => Some(refusal_at(Code::CostTooLarge, role, numeral.at, numeral.len)),
-    }
-}
 
 /// The refusal of a product of two quantities.
 fn product_refusal(role: Role, product: Option<u32>) -> Option<Refusal>
@@ -106,24 +92,6 @@ impl<'t> Evaluator<'t> {
         }
     }
 
-    /// The first amount of too many units.
-    fn dear_amount(&self) -> Option<Refusal>
-        ensures { result ≡ dear_amount_of self.now.side self.now.task.now }
-    {
-        let found = self.dear_in_actions(self.side, self.task.domain.actions.items());
-        dear_refusal(domain_role(self.side), found)
-    }
-
-    /// The first value of too many units.
-    fn dear_value(&self) -> Option<Refusal>
-        ensures { result ≡ dear_value_of self.now.side self.now.task.now }
-    {
-        dear_refusal(
-            self.role,
-            self.dear_in_init(self.side, self.task.problem.init.items()),
-        )
-    }
-
     /// The first refusal that is looked for before the metric is evaluated.
     pub(crate) fn early_refusal(&self) -> Result<Option<Refusal>, NoMemory>
         ensures { IfOk result (λ found.
@@ -135,9 +103,9 @@ impl<'t> Evaluator<'t> {
         if let Some(refusal) = self.many_places()? {
             return Ok(Some(refusal));
         }
-        match self.dear_amount() {
+        match dear_amount(self.side, self.task, self.cost_places) {
             Some(refusal) => Ok(Some(refusal)),
-            None => Ok(self.dear_value()),
+            None => Ok(dear_value(self.side, self.task, self.cost_places)),
         }
     }
 

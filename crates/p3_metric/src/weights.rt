@@ -34,7 +34,7 @@ use crate::negative::first_negative;
 use crate::spot::Spot;
 use p3_base::{Code, Direction, List, Name, NoMemory, Refusal, Role, as_number};
 use p3_formula::Weights;
-use p3_types::refusal_at;
+use p3_limits::refusal_at;
 use std::alloc::Global;
 
 /// The absolute value of a number below the bound of weights.
@@ -146,7 +146,7 @@ impl<'t> Evaluator<'t> {
         } = form;
         let by_name = weights_of(self.alloc, &counts, names)?;
         let direction = self.direction();
-        let base = loss_of(direction, at_start(constant, cost, self.initial_cost()));
+        let base = loss_of(direction, at_start(constant, cost, self.initial_cost));
         let total_cost = magnitude(cost);
         Ok(Weights {
             total_cost,

@@ -4,8 +4,8 @@ ghost use Rattle.std.specs.Prelude.{◌≡◌, IfOk};
 ghost use Rattle.p3_metric.specs.Evaluation.{refused_at};
 
 use p3_base::{Code, NoMemory, Refusal, Role};
+use p3_limits::{name_len, refusal_at};
 use p3_task::Num;
-use p3_types::{name_len, refusal_at};
 
 /// The refusal of an expression that is too large, at its operator or at its only word.
 #[tactic(auto, using(crate::proofs::WordLaws::refused_words))]

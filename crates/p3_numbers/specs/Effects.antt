@@ -159,7 +159,7 @@ numbered_literal_meaning N literal = record {
 }
 
 abbrev pub literal_meaning : Task → literal.Literal → LiteralMeaning
-literal_meaning T entry = record { add = entry.add; fact = entry.fact; conditions = map (λ (condition : literal.NumberedCondition). λ s. holds T s condition.env condition.formula) entry.conditions }
+literal_meaning T entry = record { add = entry.add; fact = entry.fact; conditions = map (λ (condition : literal.Condition). λ s. holds T s condition.env condition.formula) entry.conditions }
 
 -- the literals are the same, in the same order
 abbrev pub LiteralsAreKept : Task → Numbers → Type 0

@@ -11,3 +11,4 @@ pub mod Starts
 pub mod Tasks
 pub mod Worked
 pub mod NumberedModal
+pub mod Units

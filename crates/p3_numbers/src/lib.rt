@@ -1,5 +1,5 @@
 //! The trees of a task with numbers in the place of names and slots in the place of variables, and
-//! what they mean.
+//! what they mean; and costs in units.
 #![tactic(auto)]
 
 mod condition;
@@ -9,6 +9,7 @@ mod goal;
 mod laws;
 mod numbers;
 mod task;
+mod units;
 
 pub use condition::{NumberedArgument, NumberedCondition};
 pub use constraint::{NumberedConstraint, NumberedModal};
@@ -22,3 +23,4 @@ pub use laws::{
 };
 pub use numbers::Numbers;
 pub use task::{NumberedAction, NumberedFact, NumberedTask, NumberedValue};
+pub use units::units_at;

@@ -12,6 +12,7 @@ use denote.Hole.Carrier.{hidden}
 use Rattle.p3_task.specs.Costs.{total}
 use Rattle.p3_numbers.specs.Effects.{numbered_increases}
 use Rattle.p3_numbers.specs.Slots.{Slots}
+use Rattle.p3_numbers.specs.Units.{units_at}
 use Rattle.p3_numbers.specs.declared.effect.NumberedAmount.{NumberedAmount}
 use Rattle.p3_numbers.specs.declared.effect.NumberedEffect.{NumberedEffect}
 use Rattle.p3_numbers.specs.declared.effect.NumberedEffect.TheVariants.{Add, Del, All, Each, If, Cost}
@@ -19,7 +20,7 @@ use Rattle.p3_numbers.specs.declared.condition.NumberedArgument.{NumberedArgumen
 use Rattle.p3_numbers.specs.declared.condition.NumberedCondition.{NumberedCondition}
 use Rattle.p3_numbers.specs.declared.task.NumberedValue.{NumberedValue}
 use Rattle.p3_numbers.proofs.EffectLemmas.{numbered_increases-All}
-use Rattle.p3_steps.specs.Costs.{Key, key, is_same_key, units_at, units_given, given_at, amount_at, cost_of, HasValues, AddsValue, entry_at}
+use Rattle.p3_steps.specs.Costs.{Key, key, is_same_key, units_given, given_at, amount_at, cost_of, HasValues, AddsValue, entry_at}
 
 -- ---- the first value
 

@@ -1,26 +1,22 @@
 -- What steps cost, by numbers: amounts, and the values that the initial state gives, in units.
-use Rattle.std.specs.Prelude.{◌≡◌, ℕ, ◌-◌, ◌*◌, ◌^◌, ◌==◌, Bool, true, ◌&&◌, List, ◌∷◌, map, filter_map, slice_get, if◌then◌else◌, Option, Some, None, bytes_eq}
+use Rattle.std.specs.Prelude.{◌≡◌, ℕ, ◌==◌, Bool, true, ◌&&◌, List, ◌∷◌, map, filter_map, slice_get, if◌then◌else◌, Option, Some, None, bytes_eq}
 use Rattle.std.specs.Option.{option_or}
 use Rattle.std.specs.HashMap.{HashMap, get}
 use denote.Ref.{Bor}
 use Rattle.p3_task.specs.Costs.{cost_places, effect_cost, total}
 use Rattle.p3_task.specs.Offences.{WellFormed}
 use Rattle.p3_task.specs.declared.effect.Effect.{Effect}
-use Rattle.p3_task.specs.declared.effect.Numeral.{Numeral}
 use Rattle.p3_task.specs.declared.task.Task.{Task}
 use Rattle.p3_numbers.specs.Effects.{effect_of, is_known_effect, numbered_increases}
 use Rattle.p3_numbers.specs.Places.{Variables, Fills, environment_of}
 use Rattle.p3_numbers.specs.Slots.{Slots, values_of}
 use Rattle.p3_numbers.specs.Tasks.{IsNumberedTask}
+use Rattle.p3_numbers.specs.Units.{units_at}
 use Rattle.p3_numbers.specs.declared.effect.NumberedAmount.{NumberedAmount}
 use Rattle.p3_numbers.specs.declared.effect.NumberedAmount.TheVariants.{Number, Value}
 use Rattle.p3_numbers.specs.declared.effect.NumberedEffect.{NumberedEffect}
 use Rattle.p3_numbers.specs.declared.task.NumberedTask.{NumberedTask}
 use Rattle.p3_numbers.specs.declared.task.NumberedValue.{NumberedValue}
-
--- a number in units of the last of so many decimal places
-abbrev pub units_at : ℕ → Numeral → ℕ
-units_at places numeral = numeral.digits * 10 ^ (places - numeral.places)
 
 -- ---- values
 

@@ -13,13 +13,11 @@ ghost use Rattle.p3_steps.specs.Costs.{
   cost_of,
   given_at,
   numbers_in,
-  units_at as units_at_places,
 };
 
 use p3_base::{NoMemory, TooLarge};
 use p3_names::{Digest, Key};
-use p3_numbers::{NumberedAmount, NumberedArgument, NumberedEffect, NumberedValue};
-use p3_task::Numeral;
+use p3_numbers::{NumberedAmount, NumberedArgument, NumberedEffect, NumberedValue, units_at};
 use std::alloc::Global;
 use std::collections::HashMap;
 
@@ -35,14 +33,6 @@ pub struct EffectCosts<'t> {
     table: Table<'t>,
     pub ghost few: { places ≤ 6 },
     ghost told: { HasValues places values.now table },
-}
-
-/// The number in units of the last of so many decimal places.
-pub fn units_at(number: &Numeral, places: u32) -> u128
-    requires { places ≤ 6 }
-    ensures { result ≡ units_at_places places number.now }
-{
-    u128::from(number.digits) * 10u128.pow(places.saturating_sub(number.places))
 }
 
 /// A value goes into the table where none is there for its function and objects.

@@ -14,4 +14,4 @@ mod possible;
 pub use actions::{steps, steps_among};
 pub use candidate_laws::{candidates_have_possible_atoms, what_is_left_out_never_begins};
 pub use cost_laws::effects_cost_alike_by_number;
-pub use costs::{EffectCosts, units_at};
+pub use costs::EffectCosts;

@@ -2,7 +2,7 @@
 use denote.Hole.Carrier.{hidden}
 use Rattle.std.proofs.Common.{◌≡◌, ◌∙◌, ℕ, ◌<◌, ◌≤◌, ◌==◌, max, refl, sym, ap, subst, Bool, true, false, if◌then◌else◌, List, [], ◌∷◌, ◌++◌, fold, length, Option, Some, None, arith}
 use borrow.Author.Tests.{leb-true}
-use Rattle.std.specs.Prelude.{◌^◌, nat_lt, filter_map, flat_map, unwrap_or}
+use Rattle.std.specs.Prelude.{◌^◌, IsTrue, nat_lt, filter_map, flat_map, unwrap_or}
 use Rattle.p3_base.specs.declared.refusal.Side.{Side}
 use Rattle.p3_base.specs.declared.refusal.Side.TheVariants.{Source, Written}
 use Rattle.p3_task.specs.Sides.{digit_limit, place_limit}
@@ -41,11 +41,12 @@ use Rattle.p3_numbers.specs.Places.{number_in}
 use Rattle.p3_numbers.specs.Slots.{name_at}
 use Rattle.p3_numbers.specs.Starts.{entry_value, initial_values_of, is_known_entry}
 use Rattle.p3_numbers.specs.Tasks.{HasNames}
+use Rattle.p3_numbers.specs.Units.{units_at}
 use Rattle.p3_numbers.specs.declared.numbers.Numbers.{Numbers}
 use Rattle.p3_numbers.specs.declared.task.NumberedValue.{NumberedValue}
 use Rattle.p3_types.proofs.NameOrderLemmas.{slice_at}
 use Rattle.p3_types.specs.Tables.{greatest_value_of, greatest_values}
-use Rattle.p3_types.specs.Costs.{most_of, amount_places, entry_places, effect_places, action_places, units_at, units_of, greatest_of, greatest_of_all}
+use Rattle.p3_types.specs.Costs.{most_of, amount_places, entry_places, effect_places, action_places, units_of, greatest_of, greatest_of_all}
 
 -- ---- the greatest of some numbers
 
@@ -149,7 +150,7 @@ few_of : (side : Side) → unwrap_or (place_limit side) 0 ≤ 6
 few_of Source = omega arith
 few_of Written = omega arith
 
-pub few_places : (side : Side) (T : Task) → has_short_numbers side T ≡ true → cost_places T ≤ 6
+pub few_places : (side : Side) (T : Task) → IsTrue (has_short_numbers side T) → cost_places T ≤ 6
 unfolding has_short_numbers cost_places
 few_places side T short =
     let costs = amount_numerals T ++ value_numerals T in

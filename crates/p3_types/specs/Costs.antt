@@ -1,5 +1,5 @@
 -- The decimal places of a task's costs, and the greatest values of its functions, as one pass finds them.
-use Rattle.std.specs.Prelude.{ℕ, ◌-◌, ◌*◌, ◌^◌, ◌==◌, max, List, map, fold, if◌then◌else◌, Option}
+use Rattle.std.specs.Prelude.{ℕ, ◌==◌, max, List, map, fold, if◌then◌else◌, Option}
 use Rattle.std.specs.List.{range_with_len}
 use Rattle.std.specs.Option.{option_map_or}
 use Rattle.p3_task.specs.Costs.{increases, amount_numeral, value_numeral}
@@ -8,6 +8,7 @@ use Rattle.p3_task.specs.declared.effect.Effect.{Effect}
 use Rattle.p3_task.specs.declared.effect.Numeral.{Numeral}
 use Rattle.p3_task.specs.declared.task.Action.{Action}
 use Rattle.p3_task.specs.declared.task.Init.{Init}
+use Rattle.p3_numbers.specs.Units.{units_at}
 use Rattle.p3_numbers.specs.declared.task.NumberedValue.{NumberedValue}
 
 -- the greatest of the numbers that the items give, 0 where there is no item
@@ -34,10 +35,6 @@ abbrev pub action_places : Action → ℕ
 action_places action = effect_places action.effect.body
 
 -- ---- values
-
--- a number in units of the last of so many places
-abbrev pub units_at : ℕ → Numeral → ℕ
-units_at places numeral = numeral.digits * 10 ^ (places - numeral.places)
 
 -- the units that the value has, where it is of the function of that number
 abbrev pub units_of : ℕ → ℕ → NumberedValue → ℕ

@@ -1,12 +1,8 @@
 pub mod Checks
 pub mod Costs
-pub mod Cuts
-pub mod Excess
 pub mod Finds
 pub mod FirstSteps
 pub mod NameOrders
 pub mod Parts
-pub mod Preferences
-pub mod Sizes
 pub mod Tables
 pub mod Texts

@@ -1,6 +1,6 @@
 //! A task whose names are checked.
 
-ghost use Rattle.std.specs.Prelude.{◌≡◌, ◌<◌, ◌^◌, length, slice_get, IsTrue};
+ghost use Rattle.std.specs.Prelude.{◌≡◌, ◌<◌, ◌≤◌, ◌^◌, length, slice_get, IsTrue};
 ghost use Rattle.std.specs.Coded.{Coded-set};
 ghost use Rattle.std.specs.Option.{option_copied};
 ghost use Rattle.std.proofs.Props.{props};
@@ -131,8 +131,10 @@ impl Checked {
     }
 
     /// How many decimal places the task's costs have at most.
+    #[tactic(auto, using(crate::proofs::CostLemmas::few_places))]
     pub fn cost_places(&self) -> u32
-        ensures { result ≡ places_of_costs self.now.task }
+        ensures places { result ≡ places_of_costs self.now.task }
+        ensures few { result ≤ 6 }
     {
         self.cost_places
     }

@@ -9,13 +9,12 @@ ghost use Rattle.p3_types.specs.Costs.{
   entry_places as places_of_entry,
   effect_places as places_of_effect,
   action_places as places_of_action,
-  units_at as units_at_places,
   greatest_of_all,
 };
 
 use p3_base::NoMemory;
-use p3_numbers::NumberedValue;
-use p3_task::{Action, Amount, Effect, Init, Numeral, Task};
+use p3_numbers::{NumberedValue, units_at};
+use p3_task::{Action, Amount, Effect, Init, Task};
 use std::alloc::Global;
 
 /// The decimal places of an amount that is a number, 0 for others.
@@ -95,14 +94,6 @@ pub(crate) fn cost_places(task: &Task) -> u32
 {
     let amounts = actions_places(task.domain.actions.items());
     amounts.max(entries_places(task.problem.init.items()))
-}
-
-/// The number in units of the last of so many decimal places.
-fn units_at(number: &Numeral, places: u32) -> u128
-    requires { places ≤ 6 }
-    ensures { result ≡ units_at_places places number.now }
-{
-    u128::from(number.digits) * 10u128.pow(places.saturating_sub(number.places))
 }
 
 /// Raises the number at the place to that one where it is smaller.

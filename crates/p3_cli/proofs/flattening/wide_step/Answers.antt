@@ -9,7 +9,7 @@ use Rattle.p3_task.specs.Plans.{action_named}
 use Rattle.p3_task.specs.StepNumbers.{HasNumber}
 use Rattle.p3_task.specs.declared.task.Step.{Step}
 use Rattle.p3_task.specs.declared.task.Task.{Task}
-use Rattle.p3_metric.proofs.ShortNames.{short_names}
+use Rattle.p3_limits.proofs.ShortNames.{short_names}
 use Rattle.p3_types.specs.declared.checked.Checked.{Checked}
 use Rattle.p3_cli.specs.Flattening.{IsOfWideStep}
 use Rattle.p3_cli.proofs.FlatteningLemmas.{named_short, number_small, refused_by_name, same_step, some_action}

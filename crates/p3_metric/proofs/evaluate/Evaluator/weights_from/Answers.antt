@@ -8,7 +8,7 @@ use Rattle.p3_task.specs.Costs.{initial_cost}
 use Rattle.p3_task.specs.Metrics.{signed}
 use Rattle.p3_task.specs.Names.{Name}
 use Rattle.p3_metric.specs.Entries.{number_at}
-use Rattle.p3_types.specs.Cuts.{cut}
+use Rattle.p3_limits.specs.Cuts.{cut}
 use Rattle.p3_metric.proofs.WeightLaws.{base_is, cost_weighs, count_weighs, length_mapped, mapped_at}
 use Rattle.p3_metric.proofs.evaluate.Evaluator.weights_from.Goals as goal
 
@@ -26,7 +26,7 @@ returns c =
     let cost : SFits w128 form.cost = search rules in
     let start : SFits w128 c.at_start.result = search rules in
     let base : SFits w128 c.loss_of-base.result = search rules in
-    let initial = c.initial_cost.ensures ∙ whole_units (initial_cost T) c.requires.start in
+    let initial = c.args.self.now.started ∙ whole_units (initial_cost T) c.requires.start in
     record {
       count = ap length weights ∙ length_mapped weight_of c.args.names.now;
       by_name = λ place name there.

@@ -1,0 +1,14 @@
+pub mod ActionLaws
+pub mod CutLaws
+pub mod DearLaws
+pub mod ExcessLaws
+pub mod IncreaseLaws
+pub mod LeastLaws
+pub mod NameWeightLaws
+pub mod PreferenceLaws
+pub mod PreferenceLemmas
+pub mod ShareLaws
+pub mod ShortNames
+pub mod SizeFindLemmas
+pub mod SizeLaws
+pub mod SizeLemmas

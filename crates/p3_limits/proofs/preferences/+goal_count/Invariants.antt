@@ -1,0 +1,8 @@
+use Rattle.std.proofs.Common.{◌≡◌, drop}
+use Rattle.p3_limits.specs.Cuts.{cut_total}
+use Rattle.p3_limits.specs.Preferences.{goal_count}
+use Rattle.p3_limits.proofs.preferences.+goal_count.Given as goal
+
+-- the parts that are left give the rest of the sum
+abbrev pub invariant-goals_count-loop-part : goal.invariant-goals_count-loop-part
+invariant-goals_count-loop-part l = cut_total (goal_count l.numbers) l.total (drop l.part-index l.parts) ≡ cut_total (goal_count l.numbers) 0 l.parts

@@ -1,8 +1,0 @@
-use Rattle.std.proofs.Common.{◌≡◌, drop}
-use Rattle.p3_types.specs.Cuts.{cut_total}
-use Rattle.p3_types.specs.Sizes.{condition_size}
-use Rattle.p3_types.proofs.sizes.+condition.Given as goal
-
--- the parts that are left give the rest of the sum
-abbrev pub invariant-conditions_size-loop-part : goal.invariant-conditions_size-loop-part
-invariant-conditions_size-loop-part l = cut_total (condition_size l.numbers) l.total (drop l.part-index l.parts) ≡ cut_total (condition_size l.numbers) 1 l.parts
