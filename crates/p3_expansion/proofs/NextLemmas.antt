@@ -86,7 +86,7 @@ module _ (pick : Bool → Bool) (s : State) (fact : Fact) where
   literals-named : (T : Task) (found : List Literal) → list_any seen (map (literal_meaning T) found) ≡ list_any (λ (literal : Literal). pick literal.add && named.takes_place T s literal && same_fact literal.fact fact) found
   literals-named T [] = refl
   literals-named T (literal ∷ found) =
-      λ i. (pick literal.add && list_all-map (λ (holds : State → Bool). holds s) (λ (condition : named.NumberedCondition). λ s. holds T s condition.env condition.formula) literal.conditions i && same_fact literal.fact fact) || literals-named T found i
+      λ i. (pick literal.add && list_all-map (λ (holds : State → Bool). holds s) (λ (condition : named.Condition). λ s. holds T s condition.env condition.formula) literal.conditions i && same_fact literal.fact fact) || literals-named T found i
 
 module _ (N : Numbers) (S : Statics) (atoms : List GroundAtom) (distinct : AreDistinct atoms) (apart : NamesApart N) (all_named : list_all (is_named N) atoms ≡ true) (s : State) (b : List Bool) (settled : IsSettled N S s) (tells : Tells N atoms s b) (k : ℕ) (atom : GroundAtom) (here : slice_get atoms k ≡ Some atom) where
   same-place : (number : ℕ) (other : GroundAtom) → slice_get atoms number ≡ Some other → (number == k) ≡ same_fact (fact_of N other) (fact_of N atom)
@@ -238,7 +238,7 @@ meant-under T (literal ∷ found) =
     count-cons is_seen_under (literal_meaning T literal) (map (literal_meaning T) found) ∙ (λ i. cond (not (same literal.conditions i)) 1 0 + meant-under T found i)
     ∙ sym (count-cons (λ (literal : Literal). not (names.is_empty literal.conditions)) literal found)
   where
-    same : (conditions : List named.NumberedCondition) → names.is_empty {A = State → Bool} (map (λ (condition : named.NumberedCondition). λ s. holds T s condition.env condition.formula) conditions) ≡ names.is_empty conditions
+    same : (conditions : List named.Condition) → names.is_empty {A = State → Bool} (map (λ (condition : named.Condition). λ s. holds T s condition.env condition.formula) conditions) ≡ names.is_empty conditions
     same [] = refl
     same (condition ∷ conditions) = refl
 
