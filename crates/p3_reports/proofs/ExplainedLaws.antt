@@ -5,7 +5,7 @@ use Rattle.std.proofs.lemmas.List.Folds.{flat_map-map}
 use Rattle.p3_base.specs.declared.showing.Reason.{Reason}
 use Rattle.p3_base.specs.declared.showing.Subject.{Subject}
 use Rattle.p3_base.specs.declared.showing.Subject.TheVariants.{Hard, Soft, Pre}
-use Rattle.p3_task.specs.Explanations.{reasons}
+use Rattle.p3_task.specs.Explanations.{reasons, subject_name}
 use Rattle.p3_task.specs.Plans.{Plan}
 use Rattle.p3_tree.specs.Reports.Explanations.{explained_lines, reason_line, showing_text, subject_text, verdict_line}
 use Rattle.p3_tree.specs.Reports.Lines.{line}
