@@ -6,6 +6,5 @@ pub mod ObjectLemmas
 pub mod ReachLemmas
 pub mod SpanLemmas
 pub mod PlaceLemmas
-pub mod UseLemmas
 pub mod TypingLemmas
 pub mod RisingLemmas

@@ -1,8 +1,9 @@
 -- A table of names as the list of its keys.
-use Rattle.std.proofs.Common.{◌≡◌, ◌∙◌, ℕ, ◌+◌, Bool, true, false, not, if◌then◌else◌, cond, List, [], ◌∷◌, ◌++◌, map, length, Some, None, refl, sym, ap, subst, nat_lt, ◌&&◌, ◌||◌, ◌<◌, get_or, take, true≢false}
+use Rattle.std.proofs.Common.{◌≡◌, ◌∙◌, ℕ, ◌+◌, Bool, true, false, not, if◌then◌else◌, cond, List, [], ◌∷◌, ◌++◌, map, length, Some, None, refl, sym, ap, subst, nat_lt, ◌&&◌, ◌||◌, ◌<◌, get_or, take, true≢false, ◌≤◌, arith}
 use Rattle.std.specs.Prelude.{bytes_eq, position}
 use Rattle.std.specs.List.{list_any, position_or_len}
 use Rattle.std.specs.Cmp.Lexicographic.{pointwise, nat_list_eq_equiv}
+use Rattle.std.proofs.lemmas.Bool.{ltb-false}
 use Rattle.std.proofs.lemmas.List.{map-append, length-map}
 use Rattle.std.specs.Prelude.{flat_map}
 use Rattle.std.proofs.lemmas.List.{take_more, append-nil}
@@ -12,6 +13,7 @@ use Rattle.std.proofs.lemmas.Slice.Eq.{bytes_eq-Decides}
 use Rattle.p3_names.specs.Names.{Adds}
 use Rattle.p3_task.specs.Names.{Name, same_name, same_names, has_name}
 use Rattle.p3_task.proofs.MeaningLemmas.{list_any-map}
+use Rattle.p3_task.proofs.OnceLemmas.{Some-injective}
 use Rattle.indexmap.specs.IndexSet.{insert_key}
 
 -- ---- tables of keys, seen as what is read off each
@@ -96,3 +98,34 @@ adds-more f old now new xs i x within read before after =
     (adds-append old now new (flat_map f (take i xs)) (f x) before after)
 
 pub ruleset adds_laws = (adds-none, adds-append, adds-more)
+
+-- ---- what is at no place
+
+place_at_most : {A : Type 0} (test : A → Bool) (xs : List A) → position_or_len test xs ≤ length xs
+place_at_most test [] = omega arith
+place_at_most test (x ∷ xs) = by (test x) (place_at_most test xs)
+  where
+    by : (here : Bool) → position_or_len test xs ≤ length xs → cond (not here) (1 + position_or_len test xs) 0 ≤ length (x ∷ xs)
+    by true later = omega arith
+    by false later = omega (arith, later)
+
+-- what is at no place has the number behind the last
+pub place_behind : {A : Type 0} (test : A → Bool) (xs : List A) → position test xs ≡ None → position_or_len test xs ≡ length xs
+place_behind test xs none = by (nat_lt (position_or_len test xs) (length xs)) refl none
+  where
+    by : (within : Bool) → nat_lt (position_or_len test xs) (length xs) ≡ within → cond within (Some (position_or_len test xs)) None ≡ None → position_or_len test xs ≡ length xs
+    by true is none = absurd (cc)
+    by false is none =
+        let most = place_at_most test xs in
+        let least = ltb-false (position_or_len test xs) (length xs) is in
+        omega (arith, most, least)
+
+-- what is at a place has its number
+pub place_found : {A : Type 0} (test : A → Bool) (xs : List A) (place : ℕ) → position test xs ≡ Some place → place ≡ position_or_len test xs
+place_found test xs place is = by (nat_lt (position_or_len test xs) (length xs)) is
+  where
+    by : (within : Bool) → cond within (Some (position_or_len test xs)) None ≡ Some place → place ≡ position_or_len test xs
+    by true found = Some-injective _ _ (sym found)
+    by false found = absurd (cc)
+
+pub ruleset number_laws = (place_behind)

@@ -6,7 +6,6 @@ use Rattle.std.specs.Hash.FoldHasher as folding
 use Rattle.std.specs.declared.hash.FoldHasher.{FoldHasher}
 use Rattle.std.specs.declared.hash.DefaultHasher.{DefaultHasher}
 use Rattle.p3_task.specs.Names.{Name}
-use Rattle.p3_task.specs.PreferenceNames.{Named}
 use Rattle.p3_task.specs.States.{meanings}
 use Rattle.p3_task.specs.Types.{names_of}
 use Rattle.p3_task.specs.declared.task.Init.{Init}
@@ -26,10 +25,6 @@ told_number told number = fold sip.write told (fed.u32 number)
 
 abbrev pub told_numbers : DefaultHasher → List ℕ → DefaultHasher
 told_numbers told numbers = fold told_number told numbers
-
--- the names of preferences more
-abbrev pub told_named : DefaultHasher → List Named → DefaultHasher
-told_named told named = fold (λ before (one : Named). told_more before one.name) told named
 
 -- the hasher with which a key begins: it has read what was made of all words
 abbrev pub start_after : DefaultHasher → FoldHasher

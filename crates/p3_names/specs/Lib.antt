@@ -7,6 +7,4 @@ pub mod Walks
 pub mod Nexts
 pub mod Reaches
 pub mod Spans
-pub mod Uses
-pub mod Preferences
 pub mod Typings

@@ -1,6 +1,6 @@
 //! Lists of types, numbered in the order in which they were first seen.
 
-ghost use Rattle.std.specs.Prelude.{◌≡◌, [], map, take, length, IfOk, OnOk, OnErr};
+ghost use Rattle.std.specs.Prelude.{◌≡◌, [], map, take, length, position, IfOk, OnOk, OnErr};
 ghost use Rattle.std.specs.List.{position_or_len};
 ghost use Rattle.p3_task.specs.Names.{same_names};
 ghost use Rattle.p3_task.specs.Types.{names_of};
@@ -66,6 +66,30 @@ impl<'t> TypeLists<'t> {
     {
         let words = words_of(alloc, types)?;
         let (number, _) = self.keys.insert_full(words)?;
+        Ok(number)
+    }
+
+    /// The number of the list, which is the number of lists where it is none of them.
+    #[tactic(auto, using(crate::proofs::NameLemmas::number_laws))]
+    pub fn find(&self, alloc: Global, types: &'t [Ref]) -> Result<usize, NoMemory>
+        ensures { IfOk result
+            (λ number. number
+            ≡ position_or_len (λ other. same_names other (names_of types.now)) self.now) }
+    {
+        match self.place(alloc, types)? {
+            Some(place) => Ok(place),
+            None => Ok(self.len()),
+        }
+    }
+
+    /// The place of the list.
+    fn place(&self, alloc: Global, types: &'t [Ref]) -> Result<Option<usize>, NoMemory>
+        ensures { IfOk result
+            (λ place. place
+            ≡ position (λ other. same_names other (names_of types.now)) self.now) }
+    {
+        let words = words_of(alloc, types)?;
+        let number = self.keys.get_index_of(&words);
         Ok(number)
     }
 }

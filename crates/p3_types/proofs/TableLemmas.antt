@@ -1,6 +1,6 @@
 -- What the ghost fields of a checked task say.
 use Rattle.std.proofs.Common.{◌≡◌, refl, IsTrue, ap, ◌∙◌, [], Option, Some, None, ◌<◌, ℕ, List, length}
-use Rattle.std.specs.Prelude.{is_none, option_map, slice_index_or}
+use Rattle.std.specs.Prelude.{is_none, slice_index_or}
 use Rattle.std.proofs.lemmas.List.{get_or-map}
 use Rattle.p3_task.proofs.OffenceLemmas.{well_formed_where_no_offence}
 use Rattle.p3_task.specs.FirstOffence.{first_offence}
@@ -12,9 +12,6 @@ use Rattle.p3_numbers.specs.Places.{IsNumbering}
 use Rattle.p3_numbers.specs.Slots.{name_at}
 use Rattle.p3_numbers.specs.Tasks.{HasNames, IsNumberedTask}
 use Rattle.p3_numbers.specs.declared.task.NumberedTask.{NumberedTask}
-use Rattle.p3_base.specs.declared.refusal.Side.{Side}
-use Rattle.p3_task.specs.Refusals.First.{refusal_of}
-use Rattle.p3_types.specs.Checks.{offence_refusal}
 use Rattle.p3_types.specs.Tables.{task_over, is_well_formed, greatest_value_of, greatest_values}
 
 none_from : {A : Type 0} (found : Option A) → IsTrue (is_none found) → found ≡ None
@@ -30,13 +27,6 @@ none_test (Some x) none = absurd (cc)
 
 pub well_formed_test : (T : Task) → WellFormed T → IsTrue (is_well_formed T)
 well_formed_test T well = none_test (first_offence T) ((well_formed_where_no_offence T).0 well)
-
-unmapped : {A B : Type 0} (f : A → B) (found : Option A) → option_map f found ≡ None → found ≡ None
-unmapped f None none = refl
-unmapped f (Some x) none = absurd (cc)
-
-pub well_formed_unrefused : (side : Side) (T : Task) → offence_refusal side T ≡ None → WellFormed T
-well_formed_unrefused side T none = (well_formed_where_no_offence T).1 (unmapped (refusal_of side) (first_offence T) none)
 
 pub greatest_at : (T : Task) (functions : List Name) (values : List ℕ) (k : ℕ) (d : ℕ) → values ≡ greatest_values T functions → k < length functions → slice_index_or values k d ≡ greatest_value_of T (name_at functions k)
 greatest_at T functions values k d is within = ap (λ (all : List ℕ). slice_index_or all k d) is ∙ get_or-map (greatest_value_of T) functions k [] d within

@@ -12,7 +12,6 @@ use crate::costs::{cost_places, greatest_values};
 use crate::name_order::name_order;
 use crate::steps::first_steps;
 use p3_base::{Name, NoMemory, as_number};
-use p3_numbering::numbered;
 use p3_numbers::{NumberedTask, Numbers};
 use p3_task::{Action, Task};
 use std::alloc::Global;
@@ -113,13 +112,17 @@ fn joined(
     }
 }
 
-/// The parts of a task.
-pub(crate) fn parts_of(alloc: Global, task: &Task) -> Result<CheckedParts, NoMemory>
+/// The parts of a task, of which the numbered one is given.
+pub(crate) fn parts_of(
+    alloc: Global,
+    task: &Task,
+    numbered: NumberedTask,
+) -> Result<CheckedParts, NoMemory>
     requires well_formed { WellFormed task.now }
+    requires numbered { IsNumberedTask task.now numbered }
     requires short { places_of_costs task.now ≤ 6 }
     ensures { IfOk result (ArePartsOf task.now) }
 {
-    let numbered = numbered(alloc, task)?;
     let _count = as_number(numbered.numbers.preferences.len())?;
     let first_steps = first_steps(alloc, &numbered)?;
     let orders = orders_of(alloc, task, &numbered.numbers)?;

@@ -1,9 +1,0 @@
-use Rattle.p3_task.specs.PreferenceNames.{named_in_constraint}
-use Rattle.p3_task.specs.Uses.{constraint_uses}
-use Rattle.p3_names.proofs.UseLemmas.{named-more}
-use Rattle.p3_names.proofs.uses.Visits.+constraints.Goals as goal
-
-pub constraints-loop-part-preserved : goal.constraints-loop-part-preserved
-constraints-loop-part-preserved t c =
-    named-more constraint_uses named_in_constraint c.args.self.now c.loop-part.self c.constraint.new.self c.args.parts.now c.loop-part.part-index c.part-item.result
-    c.loop-part-test.true c.part-item.is c.loop-part.invariant c.in_ok-constraint.ensures

@@ -1,9 +1,0 @@
-use Rattle.p3_task.specs.PreferenceNames.{named_in_goal}
-use Rattle.p3_task.specs.Uses.{goal_uses}
-use Rattle.p3_names.proofs.UseLemmas.{named-more}
-use Rattle.p3_names.proofs.uses.Visits.+goals.Goals as goal
-
-pub goals-loop-part-preserved : goal.goals-loop-part-preserved
-goals-loop-part-preserved t c =
-    named-more goal_uses named_in_goal c.args.self.now c.loop-part.self c.goal.new.self c.args.parts.now c.loop-part.part-index c.part-item.result
-    c.loop-part-test.true c.part-item.is c.loop-part.invariant c.in_ok-goal.ensures

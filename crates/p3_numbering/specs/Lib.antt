@@ -1,4 +1,0 @@
-pub mod Listed
-pub mod Ranges
-pub mod Tables
-pub mod Words

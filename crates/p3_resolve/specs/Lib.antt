@@ -1,0 +1,15 @@
+pub mod Answers
+pub mod ByName
+pub mod Fitting
+pub mod Given
+pub mod Listed
+pub mod Numbers
+pub mod NumbersOf
+pub mod Order
+pub mod Ranges
+pub mod Spots
+pub mod Steps
+pub mod Tables
+pub mod Walk
+pub mod Wholes
+pub mod Words
