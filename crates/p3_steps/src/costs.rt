@@ -36,7 +36,7 @@ pub struct EffectCosts<'t> {
 }
 
 /// A value goes into the table where none is there for its function and objects.
-#[tactic(auto, unfolding(crate::specs::EffectCosts::entry_at))]
+#[tactic(auto, unfolding(crate::specs::Costs::entry_at))]
 fn note_value<'t>(
     table: &mut Table<'t>,
     places: u32,
@@ -76,7 +76,7 @@ fn value_key(values: &[NumberedValue]) -> Key
 }
 
 /// The table of the values.
-#[tactic(auto, unfolding(crate::specs::EffectCosts::entry_at))]
+#[tactic(auto, unfolding(crate::specs::Costs::entry_at))]
 fn table_of<'t>(
     alloc: Global,
     values: &'t [NumberedValue],
