@@ -1,5 +1,5 @@
 -- A task without an offence has the numbers of its tables.
-use Rattle.std.proofs.Common.{◌≡◌, ◌∙◌, ◌||◌, Bool, true, false, not, cond, List, [], ◌∷◌, ◌++◌, map, Option, Some, None, refl, sym, ap, subst, true≢false}
+use Rattle.std.proofs.Common.{◌≡◌, ◌∙◌, ◌||◌, Bool, true, false, not, cond, List, [], ◌∷◌, map, Option, Some, None, refl, sym, ap, subst, true≢false}
 use Rattle.std.specs.Prelude.{filter, option_map, All}
 use Rattle.std.proofs.lemmas.Simd.{map-map}
 use Rattle.std.proofs.lemmas.Slice.Eq.{bytes_eq-Decides}
@@ -17,13 +17,11 @@ use Rattle.p3_task.proofs.OffenceLemmas.{well_formed_where_no_offence}
 use Rattle.p3_task.specs.FirstOffence.{first_offence}
 use Rattle.p3_task.specs.Names.{Name, same_name, has_name}
 use Rattle.p3_task.specs.Offences.{WellFormed, domain_duplicates, problem_duplicates, header_words, repeated, repeated_after, unless}
-use Rattle.p3_task.specs.PreferenceNames.{ordered_names}
 use Rattle.p3_task.specs.Refusals.First.{refusal_of}
 use Rattle.p3_task.specs.Types.{once_each}
 use Rattle.p3_task.specs.declared.task.Header.{Header}
 use Rattle.p3_task.specs.declared.task.Task.{Task}
 use Rattle.p3_task.specs.declared.term.Ref.{Ref}
-use Rattle.p3_names.specs.Objects.{object_names}
 use Rattle.p3_resolve.proofs.CoverLemmas.{task-from}
 use Rattle.p3_resolve.proofs.HavingLemmas.{numbers-rise}
 use Rattle.p3_resolve.specs.Answers.{IsResolvedTask}

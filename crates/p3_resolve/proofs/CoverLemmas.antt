@@ -1,9 +1,8 @@
 -- The numbers cover what is declared, and the lists of types of all variables that are bound.
-use Rattle.std.proofs.Common.{◌≡◌, ◌∙◌, Bool, true, false, ◌||◌, ◌&&◌, if◌then◌else◌, nat_lt, List, [], ◌∷◌, ◌++◌, map, refl, sym, ap, subst}
-use Rattle.std.specs.Prelude.{fold, filter, not}
+use Rattle.std.proofs.Common.{◌≡◌, ◌∙◌, Bool, true, false, ◌||◌, ◌&&◌, if◌then◌else◌, List, [], ◌∷◌, ◌++◌, map, refl, sym, ap, subst}
+use Rattle.std.specs.Prelude.{fold}
 use Rattle.std.specs.List.{list_any, list_all}
 use Rattle.std.specs.Cmp.Lexicographic.{nat_list_eq_equiv, lists_equiv}
-use Rattle.std.proofs.lemmas.List.{map-append}
 use Rattle.std.proofs.lemmas.List.Folds.{list_any-append, list_all-append, list_all-map}
 use Rattle.p3_names.specs.Names.{with_list}
 use Rattle.p3_resolve.proofs.HavingLemmas.{numbering-from}
@@ -22,7 +21,7 @@ use Rattle.p3_numbers.specs.declared.numbers.Numbers.{Numbers}
 use Rattle.p3_task.proofs.MeaningLemmas.{list_any-map}
 use Rattle.p3_task.specs.Names.{Name, same_name, same_names, has_name}
 use Rattle.p3_task.specs.Offences.{is_declared}
-use Rattle.p3_task.specs.PreferenceNames.{Named, placed, in_text_order, named_in_domain, named_in_problem, preference_names, ordered_names}
+use Rattle.p3_task.specs.PreferenceNames.{in_text_order, named_in_domain, named_in_problem, preference_names, ordered_names}
 use Rattle.p3_task.specs.Types.{names_of, once_each, declared_objects}
 use Rattle.p3_task.specs.Uses.{Use, Objects, Variables, AtomUse, FunctionUse, SideUse, NameUse}
 use Rattle.p3_task.specs.declared.task.Header.{Header}

@@ -1,19 +1,15 @@
 -- What fits a list of types.
-use Rattle.std.proofs.Common.{◌≡◌, ◌∙◌, Bool, true, false, cond, ◌&&◌, ◌||◌, if◌then◌else◌, List, [], ◌∷◌, ◌++◌, map, refl, sym, ap, true≢false}
-use Rattle.std.specs.Prelude.{flat_map}
+use Rattle.std.proofs.Common.{◌≡◌, ◌∙◌, Bool, true, false, cond, ◌&&◌, ◌||◌, if◌then◌else◌, List, [], ◌∷◌, ◌++◌, refl, sym, ap, true≢false}
 use Rattle.std.specs.List.{list_any}
-use Rattle.std.proofs.lemmas.List.Folds.{flat_map-map}
 use Rattle.std.proofs.lemmas.Slice.Eq.{bytes_eq-Decides}
-use denote.Ref.{Bor}
 use Rattle.p3_task.specs.Names.{Name, same_name, has_name, object_type}
 use Rattle.p3_task.specs.Types.{below, declared_objects, is_below_some, is_object_of, names_of, type_names}
 use Rattle.p3_task.specs.declared.term.Ref.{Ref}
 use Rattle.p3_task.specs.declared.term.Typed.{Typed}
 use Rattle.p3_task.specs.declared.task.Task.{Task}
-use Rattle.p3_names.specs.Names.{Adds}
 use Rattle.p3_names.specs.Objects.{fits, is_among, name_of}
 use Rattle.p3_resolve.specs.ByName.{declared_as, is_repeated, repeated_in, repeated_items}
-use Rattle.p3_resolve.specs.Fitting.{name_where_fit, fitting_names, HasFitting, found_fits}
+use Rattle.p3_resolve.specs.Fitting.{fitting_names, HasFitting, found_fits}
 
 module _ (T : Task) (types : List Ref) (object : Name) where
   abbrev one_fits : Typed → Bool

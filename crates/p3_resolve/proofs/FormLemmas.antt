@@ -1,5 +1,5 @@
 -- What a walk over trees has come to, form by form.
-use Rattle.std.proofs.Common.{◌≡◌, ◌∙◌, ℕ, ◌+◌, ◌-◌, ◌<◌, length, take, drop, get_or, map, List, [], ◌∷◌, ◌++◌, Option, Some, None, refl, sym, ap, arith, length-append}
+use Rattle.std.proofs.Common.{◌≡◌, ◌∙◌, ℕ, ◌+◌, ◌-◌, ◌<◌, length, take, get_or, List, [], ◌∷◌, ◌++◌, Option, Some, None, refl, sym, ap, arith, length-append}
 use Rattle.std.specs.Prelude.{fold, flat_map}
 use Rattle.std.proofs.lemmas.List.{take_more, append-nil, drop_at, length-map}
 use Rattle.std.proofs.lemmas.List.Concat.{flat_map-append}
@@ -7,10 +7,10 @@ use Rattle.p3_task.proofs.Computes.{trees_compute}
 use Rattle.p3_task.proofs.FoldLemmas.{fold_num-Product}
 use Rattle.std.proofs.lemmas.List.Folds.{flat_map-map}
 use Rattle.p3_task.proofs.ShapeLemmas.{formula_uses-And, formula_uses-Or, effect_uses-All, goal_uses-Both, constraint_uses-Both}
-use Rattle.p3_task.specs.Names.{Name, total_cost}
+use Rattle.p3_task.specs.Names.{total_cost}
 use Rattle.p3_task.specs.Slots.{words_of}
 use Rattle.p3_task.specs.Types.{type_names}
-use Rattle.p3_task.specs.Uses.{Use, Scope, scope_of, Variables, AtomUse, FunctionUse, SideUse, formula_uses, effect_uses, amount_uses, goal_uses, modal_uses, constraint_uses, num_layer, num_uses, metric_uses, NameUse}
+use Rattle.p3_task.specs.Uses.{Use, Scope, scope_of, Variables, AtomUse, FunctionUse, SideUse, formula_uses, effect_uses, amount_uses, goal_uses, modal_uses, constraint_uses, num_layer, num_uses, NameUse}
 use Rattle.p3_task.specs.declared.metric.Metric.{Metric}
 use Rattle.p3_task.specs.declared.metric.Num.{Num}
 use Rattle.p3_task.specs.declared.metric.Num.TheVariants as num
@@ -40,7 +40,6 @@ use Rattle.p3_names.proofs.ScopeLemmas.{take_whole}
 use Rattle.p3_resolve.proofs.WalkLemmas.{fold-append}
 use Rattle.p3_resolve.specs.Spots.{use_step}
 use Rattle.p3_resolve.specs.Walk.{Walked, with_tree, with_variables, behind, uses_of_each, uses_of_action, uses_of_num, uses_of_metric}
-use Rattle.p3_resolve.specs.declared.spot.FirstOffences.{FirstOffences}
 
 -- ---- trees
 

@@ -15,7 +15,7 @@ use Rattle.p3_task.proofs.ShapeLemmas.{formula_uses-And, formula_uses-Or, effect
 use Rattle.p3_task.specs.Folds.{fold_formulas, fold_effects, fold_goals, fold_constraints}
 use Rattle.p3_task.specs.Modal.{Modal}
 use Rattle.p3_task.specs.PreferenceNames.{Named, named_at, named_in_goal, named_in_constraint, goal_names_layer, constraint_names_layer}
-use Rattle.p3_task.specs.Uses.{Use, Scope, scope_of, formula_layer, effect_layer, goal_layer, constraint_layer, formula_uses, effect_uses, goal_uses, modal_uses, constraint_uses, action_uses}
+use Rattle.p3_task.specs.Uses.{Use, Scope, scope_of, formula_layer, effect_layer, goal_layer, constraint_layer, formula_uses, effect_uses, goal_uses, modal_uses, constraint_uses}
 use Rattle.p3_task.specs.declared.constraint.Constraint.{Constraint, Row_of-Constraint, end_of-Constraint, more_of-Constraint}
 use Rattle.p3_task.specs.declared.constraint.Constraint.TheVariants as constraint
 use Rattle.p3_task.specs.declared.effect.Amount.{Amount}

@@ -1,5 +1,5 @@
 -- A predicate or a function at arguments, by the header that was found.
-use Rattle.std.proofs.Common.{◌≡◌, ◌∙◌, List, [], ◌∷◌, ◌++◌, ◌||◌, Bool, true, false, cond, Option, Some, None, refl, sym, ap}
+use Rattle.std.proofs.Common.{◌≡◌, ◌∙◌, List, [], ◌∷◌, ◌++◌, ◌||◌, Bool, true, false, cond, Option, Some, refl, sym}
 use Rattle.std.specs.Prelude.{fold, flat_map, is_some}
 use Rattle.std.specs.List.{list_any}
 use Rattle.p3_task.specs.Names.{Name, same_name}

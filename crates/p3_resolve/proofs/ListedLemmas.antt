@@ -6,7 +6,7 @@ use Rattle.std.proofs.lemmas.List.{append-nil, map-append}
 use Rattle.std.proofs.lemmas.List.Folds.{list_all-append}
 use denote.Ref.{Bor}
 use mathlib.Core.Former.{Count}
-use Rattle.p3_task.specs.Uses.{Use, goal_uses, constraint_uses, num_layer, num_uses, metric_uses, init_uses, problem_uses, action_uses}
+use Rattle.p3_task.specs.Uses.{goal_uses, constraint_uses, num_layer, num_uses, metric_uses, init_uses, problem_uses, action_uses}
 use Rattle.p3_task.specs.Folds.{fold_nums}
 use Rattle.p3_numbers.specs.Known.{tree_uses}
 use Rattle.p3_task.specs.declared.metric.Metric.{Metric}

@@ -1,9 +1,9 @@
 -- Lists of types, each once.
-use Rattle.std.proofs.Common.{◌≡◌, ◌∙◌, ℕ, ◌+◌, ◌<◌, Bool, true, false, if◌then◌else◌, List, [], ◌∷◌, ◌++◌, length, take, get_or, map, Some, None, refl, sym, ap, arith}
-use Rattle.std.specs.Prelude.{position, fold}
+use Rattle.std.proofs.Common.{◌≡◌, ◌∙◌, ℕ, ◌+◌, ◌<◌, List, [], ◌∷◌, ◌++◌, length, take, get_or, map, refl, sym, ap}
+use Rattle.std.specs.Prelude.{fold}
 use denote.Ref.{Bor}
 use Rattle.std.proofs.lemmas.List.{map-append, take_more}
-use Rattle.p3_task.specs.Names.{Name, same_names}
+use Rattle.p3_task.specs.Names.{Name}
 use Rattle.p3_names.specs.Names.{with_list}
 use Rattle.p3_resolve.specs.Listed.{lists_in}
 use Rattle.p3_resolve.specs.Numbers.{names_in}

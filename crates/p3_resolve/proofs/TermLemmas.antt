@@ -1,10 +1,9 @@
 -- Variables in scope, and arguments beside their parameters.
-use Rattle.std.proofs.Common.{◌≡◌, ◌∙◌, ◌++◌, ◌-◌, ◌||◌, ℕ, ◌+◌, ◌<◌, Bool, true, false, cond, length, take, drop, get_or, map, List, [], ◌∷◌, Option, Some, None, refl, sym, ap, subst, arith}
-use Rattle.std.specs.Prelude.{fold, flat_map, zip, find, is_some, slice_get, option_map, option_and_then}
+use Rattle.std.proofs.Common.{◌≡◌, ◌∙◌, ◌++◌, ◌-◌, ◌||◌, ℕ, ◌+◌, ◌<◌, Bool, true, false, cond, length, take, get_or, List, [], ◌∷◌, Option, Some, None, refl, sym, ap, arith}
+use Rattle.std.specs.Prelude.{fold, flat_map, zip, find, is_some, slice_get, option_and_then}
 use Rattle.std.specs.List.{list_any}
 use Rattle.std.proofs.lemmas.List.{map-append, append-nil, take_more, length-map, take-map, length-take-le}
 use Rattle.std.proofs.lemmas.List.Concat.{flat_map-append}
-use Rattle.p3_names.proofs.ScopeLemmas.{take_whole}
 use Rattle.p3_task.specs.Names.{Name, same_name}
 use Rattle.p3_task.specs.Offences.{clashes, is_declared, term_fits, unknown_term, unless, word_of}
 use Rattle.p3_task.specs.Types.{declared_objects, type_names}
@@ -17,7 +16,7 @@ use Rattle.p3_task.specs.declared.task.Header.{Header}
 use Rattle.p3_task.specs.declared.task.Task.{Task}
 use Rattle.p3_numbers.specs.Places.{words_of}
 use Rattle.p3_resolve.specs.Fitting.{object_fits_at, variable_fits_at}
-use Rattle.p3_resolve.specs.Numbers.{headers_of, parameter_at}
+use Rattle.p3_resolve.specs.Numbers.{parameter_at}
 use Rattle.p3_resolve.specs.Spots.{step}
 use Rattle.p3_resolve.specs.Steps.{argument_step, arguments_step, fits_beside, note_step, variable_fits_beside}
 use Rattle.p3_resolve.specs.Tables.{IsNumbered, header_of, parameter_of}

@@ -7,8 +7,6 @@ use Rattle.p3_task.specs.Offences.{repeated, repeated_values, header_words, acti
 use Rattle.p3_task.specs.Uses.{Use, Objects, Variables, scope_of, goal_uses, effect_uses, constraint_uses, metric_uses, header_uses, action_uses, init_uses, domain_uses, problem_uses}
 use Rattle.p3_task.specs.declared.term.Ref.{Ref}
 use Rattle.p3_task.specs.declared.task.Action.{Action}
-use Rattle.p3_task.specs.declared.task.Domain.{Domain}
-use Rattle.p3_task.specs.declared.task.Problem.{Problem}
 use Rattle.p3_task.specs.declared.task.Task.{Task}
 use Rattle.p3_resolve.specs.Spots.{spot_of, step, use_step}
 use Rattle.p3_resolve.specs.Walk.{outside, with_tree, uses_of_action, uses_of_each, uses_of_entry, uses_of_metric}

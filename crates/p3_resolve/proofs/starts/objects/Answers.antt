@@ -4,7 +4,7 @@ use Rattle.p3_numbers.specs.Places.{numbered_term}
 use Rattle.p3_numbers.specs.Slots.{value_of}
 use Rattle.p3_task.specs.declared.term.Term.{Term}
 use Rattle.p3_resolve.specs.NumbersOf.{numbers_of}
-use Rattle.p3_resolve.proofs.TermLemmas.{argument-more, no-arguments}
+use Rattle.p3_resolve.proofs.TermLemmas.{argument-more}
 use Rattle.p3_resolve.proofs.WalkLemmas.{map-more}
 use Rattle.p3_resolve.proofs.starts.objects.Goals as goal
 

@@ -1,4 +1,4 @@
-use Rattle.std.proofs.Common.{◌∙◌, ap, sym}
+use Rattle.std.proofs.Common.{◌∙◌, ap}
 use Rattle.std.specs.Prelude.{slice_get}
 use Rattle.p3_resolve.proofs.TableLemmas.{header-at, numbered-from}
 use Rattle.p3_resolve.proofs.tables.header_found.Goals as goal

@@ -1,4 +1,4 @@
-use Rattle.std.proofs.Common.{◌≡◌, ◌∙◌, Option, Some, None, Bool, refl, sym, ap}
+use Rattle.std.proofs.Common.{◌≡◌, ◌∙◌, Option, Some, None, refl}
 use Rattle.std.specs.Prelude.{find, is_some, option_map}
 use Rattle.p3_task.specs.Names.{same_name}
 use Rattle.p3_task.specs.Types.{type_names}

@@ -1,4 +1,4 @@
-use Rattle.std.proofs.Common.{◌∙◌, sym, ap}
+use Rattle.std.proofs.Common.{◌∙◌, sym}
 use Rattle.std.specs.Prelude.{position}
 use Rattle.p3_names.proofs.NameLemmas.{place_behind, place_found}
 use Rattle.p3_resolve.specs.Tables.{is_called}

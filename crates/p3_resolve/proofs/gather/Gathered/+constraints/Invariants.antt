@@ -1,4 +1,4 @@
-use Rattle.std.proofs.Common.{◌≡◌, take, []}
+use Rattle.std.proofs.Common.{◌≡◌, take}
 use Rattle.std.specs.Prelude.{flat_map}
 use Rattle.p3_task.specs.PreferenceNames.{named_in_constraint}
 use Rattle.p3_resolve.specs.Listed.{more, constraint_lists}
