@@ -1,0 +1,11 @@
+pub mod OutcomeLemmas
+pub mod GatheringLemmas
+pub mod SoundLemmas
+pub mod SoundLaws
+pub mod OnceLemmas
+pub mod MentionLemmas
+pub mod DecidedLaws
+pub mod Worked
+pub mod TruthLemmas
+pub mod EffectLemmas
+pub mod TellingLaws
