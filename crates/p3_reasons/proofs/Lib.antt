@@ -9,3 +9,5 @@ pub mod Worked
 pub mod TruthLemmas
 pub mod EffectLemmas
 pub mod TellingLaws
+pub mod VisitLaws
+pub mod EvidenceLaws

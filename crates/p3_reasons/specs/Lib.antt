@@ -5,3 +5,5 @@ pub mod Decided
 pub mod Worked
 pub mod Effects
 pub mod Telling
+pub mod Visits
+pub mod Evidences

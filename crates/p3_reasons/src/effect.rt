@@ -119,7 +119,7 @@ fn push_each_taken<F: Facts>(
 /// # Errors
 ///
 /// Want of memory.
-pub fn taken<F: Facts>(
+pub fn effect_literals<F: Facts>(
     alloc: Global,
     numbers: &Numbers,
     facts: &F,

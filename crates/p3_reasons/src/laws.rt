@@ -1,7 +1,9 @@
 //! Laws of literals that decide: each is the contract of a function without a body.
 
 ghost use Rattle.p3_reasons.specs.Decided.{FormulasAreDecided, HardPartsAreDecided};
+ghost use Rattle.p3_reasons.specs.Evidences.{WhatIsShownIsEvident};
 ghost use Rattle.p3_reasons.specs.Telling.{NextIsTold, StartIsTold};
+ghost use Rattle.p3_reasons.specs.Visits.{VisitsAreTold};
 ghost use Rattle.p3_reasons.specs.Worked.{
   ImplicationsThatAreDecided,
   PartsThatDecide,
@@ -16,10 +18,17 @@ pub fn deciding_literals_decide()
 {}
 
 /// The facts that are told at the start are those of the initial state, and where those of a state are
-/// told, they are after an effect those of the next state.
+/// told, they are after an effect those of the next state; so behind the steps of a plan they are those
+/// of the state that it leads to.
 pub fn facts_are_told()
     ensures start { StartIsTold }
     ensures next { NextIsTold }
+    ensures visits { VisitsAreTold }
+{}
+
+/// What is shown of an operator over the visited states is so there.
+pub fn what_is_shown_is_evident()
+    ensures { WhatIsShownIsEvident }
 {}
 
 /// Small formulas, and which literals decide them.

@@ -11,7 +11,7 @@ ghost use Rattle.p3_reasons.specs.Effects.{
   with_truth,
 };
 
-use crate::effect::taken;
+use crate::effect::effect_literals;
 use crate::{Facts, Literal};
 use indexmap::IndexMap;
 use p3_base::NoMemory;
@@ -124,7 +124,7 @@ impl StateFacts {
             ≡ changed (truth_of self.old)
             (literals_of numbers.now (truth_of self.old) slots.now effect.now) atom) }
     {
-        let literals = taken(alloc, numbers, &*self, slots, effect)?;
+        let literals = effect_literals(alloc, numbers, &*self, slots, effect)?;
         self.note_all(alloc, literals.items(), false)?;
         self.note_all(alloc, literals.items(), true)?;
         Ok(())
