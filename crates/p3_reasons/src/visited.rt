@@ -1,8 +1,8 @@
 //! The facts of the states that a plan visits.
 
-ghost use Rattle.std.specs.Prelude.{◌≡◌, ℕ, List as Items, OnOk};
+ghost use Rattle.std.specs.Prelude.{◌≡◌, ℕ, List as Items, IfOk, OnOk};
 ghost use Rattle.p3_reasons.specs.Effects.{truth_of};
-ghost use Rattle.p3_reasons.specs.Visits.{step_test};
+ghost use Rattle.p3_reasons.specs.Visits.{step_test, test_after};
 
 use crate::StateFacts;
 use p3_base::{List, NoMemory};
@@ -40,5 +40,25 @@ impl StateFacts {
             }
             None => Ok(()),
         }
+    }
+
+    /// The facts of the state behind these steps.
+    ///
+    /// # Errors
+    ///
+    /// Want of memory.
+    pub fn after(
+        alloc: Global,
+        task: &NumberedTask,
+        steps: &[PlacedStep],
+    ) -> Result<StateFacts, NoMemory>
+        ensures { IfOk result (λ facts. (atom : Items ℕ) → truth_of facts atom
+            ≡ test_after task.now steps.now atom) }
+    {
+        let mut facts = StateFacts::at_start(alloc, task)?;
+        for placed in steps {
+            facts.step(alloc, task, placed)?;
+        }
+        Ok(facts)
     }
 }
