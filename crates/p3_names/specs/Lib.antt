@@ -1,10 +1,3 @@
 pub mod Names
 pub mod Scopes
-pub mod Kinds
-pub mod Objects
 pub mod Keys
-pub mod Walks
-pub mod Nexts
-pub mod Reaches
-pub mod Spans
-pub mod Typings

@@ -7,7 +7,7 @@ ghost use Rattle.p3_task.specs.States.{meaning, meanings};
 ghost use Rattle.p3_task.specs.Types.{declared_objects, names_of};
 ghost use Rattle.p3_names.specs.Keys.{parameter_types, start_of, told_all, told_more, value_words};
 
-use crate::{Declaration, Digest, Key};
+use crate::{Digest, Key};
 use p3_base::Name;
 use p3_task::{Header, Init, Kind, Ref, Task, Term, Typed};
 
@@ -83,18 +83,6 @@ pub fn list_key(lists: &[&[Ref]]) -> Key
     let mut digest = Digest::new();
     for types in lists {
         digest.tell_types(*types);
-    }
-    digest.key()
-}
-
-/// The key of the types that declarations name.
-pub(crate) fn declaration_key(entries: &[Declaration]) -> Key
-    ensures { result.start
-        ≡ start_of (flat_map (λ entry. names_of entry.declared.now.types) entries.now) }
-{
-    let mut digest = Digest::new();
-    for entry in entries {
-        digest.tell_types(entry.declared.types.items());
     }
     digest.key()
 }

@@ -53,7 +53,7 @@ impl Digest {
     }
 
     /// The names of listed types more.
-    pub(crate) fn tell_types(&mut self, types: &[Ref])
+    pub fn tell_types(&mut self, types: &[Ref])
         ensures { self.new.told ≡ told_all self.old.told (names_of types.now) }
     {
         for kind in types {

@@ -7,8 +7,8 @@ use Rattle.p3_task.specs.Types.{below, declared_objects, is_below_some, is_objec
 use Rattle.p3_task.specs.declared.term.Ref.{Ref}
 use Rattle.p3_task.specs.declared.term.Typed.{Typed}
 use Rattle.p3_task.specs.declared.task.Task.{Task}
-use Rattle.p3_names.specs.Objects.{fits, is_among, name_of}
-use Rattle.p3_resolve.specs.ByName.{declared_as, is_repeated, repeated_in, repeated_items}
+use Rattle.p3_hierarchy.specs.Objects.{fits, is_among, name_of}
+use Rattle.p3_resolve.specs.ByNumber.{declared_as, is_repeated, repeated_in, repeated_items}
 use Rattle.p3_resolve.specs.Fitting.{fitting_names, HasFitting, found_fits}
 
 module _ (T : Task) (types : List Ref) (object : Name) where
@@ -57,8 +57,8 @@ module _ (T : Task) (types : List Ref) (object : Name) where
       by false once true is rest = absurd (true≢false (sym told ∙ ap (is_repeated all) (sym ((bytes_eq-Decides (name_of item) object).0 is)) ∙ once))
       by false once false is rest = rest ∙ (λ i. (sym is i && one_fits item) || some_fits items)
 
-  pub object-fits : (table : List Name) → HasFitting T types table → found_fits T types (declared_objects T) table object ≡ is_object_of T types object
-  object-fits table told = by (is_repeated all object) refl
+  pub object-fits : (table : List Name) → HasFitting T types table → (items : List Typed) → items ≡ declared_as object (declared_objects T) → found_fits T types items table object ≡ is_object_of T types object
+  object-fits table told items are = ap (λ found. found_fits T types found table object) are ∙ by (is_repeated all object) refl
     where
       all : List Typed
       all = declared_objects T

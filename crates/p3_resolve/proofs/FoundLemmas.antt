@@ -11,6 +11,7 @@ use Rattle.p3_task.specs.declared.term.Typed.{Typed}
 use Rattle.p3_task.specs.declared.task.Header.{Header}
 use Rattle.p3_task.specs.declared.task.Task.{Task}
 use Rattle.p3_task.proofs.OnceLemmas.{Some-injective}
+use Rattle.p3_resolve.specs.ByNumber.{declared_as}
 use Rattle.p3_resolve.specs.Fitting.{HasFitting, found_fits}
 use Rattle.p3_resolve.specs.Numbers.{AreAllNumbers, names_at, number_at}
 use Rattle.p3_resolve.proofs.FitLemmas.{object-fits, same-below, same-objects}
@@ -89,9 +90,10 @@ found-told P items (Some number) item told at = all-at P items number item told 
 -- ---- what it tells
 
 module _ (T other : Task) (same_task : other ≡ T) (types others : List Ref) (same : names_of types ≡ names_of others) where
-  pub object-told : (table : List Name) (object : Name) → HasFitting other types table → found_fits other types (declared_objects T) table object ≡ is_object_of T others object
-  object-told table object told =
-      (λ i. found_fits other types (declared_objects (sym same_task i)) table object) ∙ object-fits other types object table told
+  pub object-told : (table : List Name) (object : Name) (items : List Typed) → HasFitting other types table → items ≡ declared_as object (declared_objects T)
+      → found_fits other types items table object ≡ is_object_of T others object
+  object-told table object items told are =
+      object-fits other types object table told items (are ∙ (λ i. declared_as object (declared_objects (sym same_task i))))
       ∙ (λ i. is_object_of (same_task i) types object) ∙ same-objects T types others object same
 
   pub variable-told : (lows : List Name) → list_all (is_below_some other types) lows ≡ list_all (is_below_some T others) lows

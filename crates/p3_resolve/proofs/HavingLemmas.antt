@@ -7,7 +7,7 @@ use Rattle.std.proofs.lemmas.List.Elements.{All-nil, All-cons}
 use Rattle.std.proofs.lemmas.Option.{slice_get-get_or}
 use Rattle.std.proofs.lemmas.Slice.Eq.{bytes_eq-Decides, slice_eq-Decides}
 use denote.Ref.{Bor}
-use Rattle.p3_names.specs.Objects.{object_names, name_at}
+use Rattle.p3_hierarchy.specs.Objects.{object_names, name_at}
 use Rattle.p3_resolve.proofs.RangeLemmas.{names_in-more}
 use Rattle.p3_resolve.specs.Numbers.{names_in}
 use Rattle.p3_resolve.specs.Ranges.{IsRange, HaveRanges, AreNumbers}

@@ -1,5 +1,5 @@
 pub mod AnswerLemmas
-pub mod ByNameLemmas
+pub mod ByNumberLemmas
 pub mod ConditionLemmas
 pub mod ConstraintLemmas
 pub mod CoverLemmas

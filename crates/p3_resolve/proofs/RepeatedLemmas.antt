@@ -12,11 +12,11 @@ use Rattle.p3_task.specs.declared.term.Typed.{Typed}
 use Rattle.p3_task.specs.declared.task.Task.{Task}
 use Rattle.p3_task.proofs.OnceLemmas.{Some-injective}
 use Rattle.p3_names.specs.Names.{Adds}
-use Rattle.p3_names.specs.Objects.{fits, name_of}
-use Rattle.p3_names.specs.Typings.{AreFitting, IsFitting}
-use Rattle.p3_names.specs.declared.declarations.Declaration.{Declaration}
-use Rattle.p3_names.proofs.SearchLemmas.{has-contains, contains-has, same}
-use Rattle.p3_names.proofs.TypingLemmas.{flat-all, flat-contains}
+use Rattle.p3_hierarchy.specs.Objects.{fits, name_of}
+use Rattle.p3_hierarchy.specs.Typings.{AreFitting, IsFitting}
+use Rattle.p3_hierarchy.specs.declared.declarations.Declaration.{Declaration}
+use Rattle.p3_hierarchy.proofs.SearchLemmas.{has-contains, contains-has, same}
+use Rattle.p3_hierarchy.proofs.TypingLemmas.{flat-all, flat-contains}
 use Rattle.p3_resolve.specs.Fitting.{AreInPlace, AreNamesFitting, fitting_names, name_in, name_where_fit}
 
 module _ (T : Task) (types : List Ref) (entries : List Declaration) (placed : AreInPlace entries) (numbers : List ℕ) (fitting : AreFitting T types entries numbers) where

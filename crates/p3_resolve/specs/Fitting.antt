@@ -6,9 +6,9 @@ use Rattle.p3_task.specs.Types.{declared_objects, is_below_some, is_object_of, t
 use Rattle.p3_task.specs.declared.term.Ref.{Ref}
 use Rattle.p3_task.specs.declared.term.Typed.{Typed}
 use Rattle.p3_task.specs.declared.task.Task.{Task}
-use Rattle.p3_names.specs.Objects.{fits, name_of}
-use Rattle.p3_names.specs.declared.declarations.Declaration.{Declaration}
-use Rattle.p3_resolve.specs.ByName.{declared_as, is_repeated, repeated_items}
+use Rattle.p3_hierarchy.specs.Objects.{fits, name_of}
+use Rattle.p3_hierarchy.specs.declared.declarations.Declaration.{Declaration}
+use Rattle.p3_resolve.specs.ByNumber.{are_many, repeated_items}
 
 abbrev pub name_where_fit : Task → List Ref → Typed → List Name
 name_where_fit T types item = if fits T types item then name_of item ∷ [] else []
@@ -34,10 +34,9 @@ pub record AreInPlace (entries : List Declaration) : Type 0 where
 abbrev pub name_in : List Declaration → ℕ → Name
 name_in entries place = slice_index_or (map (λ (entry : Declaration). name_of entry.declared.now) entries) place []
 
--- what is found of an object: an entry of the table where its name is repeated more than a few times, or one of its declarations
+-- what is found of an object with these declarations: where they are more than a few it is in the table, and else one of them fits
 abbrev pub found_fits : Task → List Ref → List Typed → List Name → Name → Bool
-found_fits T types all table name =
-    if is_repeated all name then has_name table name else list_any (fits T types) (declared_as name all)
+found_fits T types items table name = if are_many items then has_name table name else list_any (fits T types) items
 
 -- whether an object is of the types of a parameter; where there is no parameter each is
 abbrev pub object_fits_at : Task → Option Typed → Name → Bool

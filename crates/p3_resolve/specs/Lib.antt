@@ -1,5 +1,5 @@
 pub mod Answers
-pub mod ByName
+pub mod ByNumber
 pub mod Fitting
 pub mod Given
 pub mod Listed
@@ -10,6 +10,7 @@ pub mod Ranges
 pub mod Spots
 pub mod Steps
 pub mod Tables
+pub mod TaskOf
 pub mod Walk
 pub mod Wholes
 pub mod Words

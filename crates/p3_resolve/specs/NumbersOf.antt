@@ -1,5 +1,5 @@
 -- What the numbers of a task's tables stand for.
-use Rattle.p3_names.specs.Objects.{object_names}
+use Rattle.p3_hierarchy.specs.Objects.{object_names}
 use Rattle.p3_numbers.specs.Tasks.{header_names}
 use Rattle.p3_numbers.specs.declared.numbers.Numbers.{Numbers}
 use Rattle.p3_resolve.specs.declared.tables.Tables.{Tables}

@@ -2,7 +2,7 @@
 use Rattle.std.specs.Prelude.{◌≡◌, ℕ, ◌<◌, List, [], ◌∷◌, map, fold, length, All}
 use Rattle.std.specs.List.Sorted.{IsStrictlyIncreasing}
 use Rattle.p3_names.specs.Names.{with_list}
-use Rattle.p3_names.specs.Objects.{object_names, name_at}
+use Rattle.p3_hierarchy.specs.Objects.{object_names, name_at}
 use Rattle.p3_numbers.specs.Tasks.{HasNames}
 use Rattle.p3_numbers.specs.declared.numbers.Numbers.{Numbers}
 use Rattle.p3_resolve.specs.Listed.{task_lists}

@@ -6,9 +6,8 @@ ghost use Rattle.p3_resolve.specs.NumbersOf.{numbers_of};
 ghost use Rattle.p3_resolve.specs.Walk.{with_tree, uses_of_action, uses_of_each};
 
 use crate::effects::numbered_effect;
-use crate::goals::numbered_goal;
+use crate::goals::boxed_goal;
 use crate::tables::Tables;
-use crate::terms::ranges;
 use crate::walk::Walk;
 use p3_base::{List, NoMemory};
 use p3_numbers::NumberedAction;
@@ -28,14 +27,13 @@ fn numbered_action<'t>(
         (walk.new ≡ with_tree tables.now.task.now (uses_of_action action.now) walk.old) }
     ensures made { IfOk result (λ made. made ≡ action_of (numbers_of tables.now) action.now) }
 {
-    let ranges = ranges(alloc, tables, action.params.items())?;
-    walk.enter(alloc, tables, action.params.items())?;
-    let pre = numbered_goal(alloc, tables, walk, &action.pre.body)?;
+    let ranges = walk.enter(alloc, tables, action.params.items())?;
+    let pre = boxed_goal(alloc, tables, walk, &action.pre.body)?;
     let effect = numbered_effect(alloc, tables, walk, &action.effect.body)?;
     walk.leave(action.params.items());
     Ok(NumberedAction {
         ranges,
-        pre,
+        pre: pre.into_inner(),
         effect,
     })
 }

@@ -9,7 +9,7 @@ ghost use Rattle.p3_resolve.specs.Walk.{with_tree, uses_of_each};
 
 use crate::atoms::{Placed, atom};
 use crate::tables::Tables;
-use crate::terms::{argument, ranges};
+use crate::terms::argument;
 use crate::walk::Walk;
 use p3_base::{Boxed, List, NoMemory};
 use p3_numbers::{NumberedArgument, NumberedCondition};
@@ -79,15 +79,13 @@ pub(crate) fn numbered_formula<'t>(
             Ok(NumberedCondition::Imply(first, second))
         }
         Formula::Exists(variables, body) => {
-            let ranges = ranges(alloc, tables, variables.items())?;
-            walk.enter(alloc, tables, variables.items())?;
+            let ranges = walk.enter(alloc, tables, variables.items())?;
             let body = boxed_formula(alloc, tables, walk, body.get())?;
             walk.leave(variables.items());
             Ok(NumberedCondition::Exists(ranges, body))
         }
         Formula::Forall(variables, body) => {
-            let ranges = ranges(alloc, tables, variables.items())?;
-            walk.enter(alloc, tables, variables.items())?;
+            let ranges = walk.enter(alloc, tables, variables.items())?;
             let body = boxed_formula(alloc, tables, walk, body.get())?;
             walk.leave(variables.items());
             Ok(NumberedCondition::Forall(ranges, body))
@@ -97,7 +95,7 @@ pub(crate) fn numbered_formula<'t>(
 
 /// A formula with numbers, in a box.
 #[cycle(conditions)]
-fn boxed_formula<'t>(
+pub(crate) fn boxed_formula<'t>(
     alloc: Global,
     tables: &Tables<'t>,
     walk: &mut Walk<'t>,

@@ -6,10 +6,9 @@ ghost use Rattle.p3_task.specs.Uses.{modal_uses, constraint_uses};
 ghost use Rattle.p3_resolve.specs.NumbersOf.{numbers_of};
 ghost use Rattle.p3_resolve.specs.Walk.{with_tree, uses_of_each};
 
-use crate::conditions::numbered_formula;
+use crate::conditions::{boxed_formula, numbered_formula};
 use crate::goals::numbered_name;
 use crate::tables::Tables;
-use crate::terms::ranges;
 use crate::walk::Walk;
 use p3_base::{Boxed, List, NoMemory, Operands};
 use p3_numbers::{NumberedConstraint, NumberedModal};
@@ -35,9 +34,9 @@ fn numbered_modal<'t>(
             Ok(kind.over(condition))
         }
         Operands::Two(kind, first, second) => {
-            let first = numbered_formula(alloc, tables, walk, first)?;
+            let first = boxed_formula(alloc, tables, walk, first)?;
             let second = numbered_formula(alloc, tables, walk, second)?;
-            Ok(kind.over(first, second))
+            Ok(kind.over(first.into_inner(), second))
         }
     }
 }
@@ -62,8 +61,7 @@ pub(crate) fn numbered_constraint<'t>(
             Ok(NumberedConstraint::Both(parts))
         }
         Constraint::Each(variables, body) => {
-            let ranges = ranges(alloc, tables, variables.items())?;
-            walk.enter(alloc, tables, variables.items())?;
+            let ranges = walk.enter(alloc, tables, variables.items())?;
             let body = boxed_constraint(alloc, tables, walk, body.get())?;
             walk.leave(variables.items());
             Ok(NumberedConstraint::Each(ranges, body))
@@ -86,7 +84,7 @@ pub(crate) fn numbered_constraint<'t>(
 
 /// A constraint with numbers, in a box.
 #[cycle(constraints)]
-fn boxed_constraint<'t>(
+pub(crate) fn boxed_constraint<'t>(
     alloc: Global,
     tables: &Tables<'t>,
     walk: &mut Walk<'t>,

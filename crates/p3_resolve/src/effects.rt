@@ -7,9 +7,8 @@ ghost use Rattle.p3_resolve.specs.NumbersOf.{numbers_of};
 ghost use Rattle.p3_resolve.specs.Walk.{with_tree, uses_of_each};
 
 use crate::atoms::{Placed, atom, function, total_cost};
-use crate::conditions::numbered_formula;
+use crate::conditions::boxed_formula;
 use crate::tables::Tables;
-use crate::terms::ranges;
 use crate::walk::Walk;
 use p3_base::{Boxed, List, NoMemory};
 use p3_numbers::{NumberedAmount, NumberedEffect};
@@ -78,16 +77,15 @@ pub(crate) fn numbered_effect<'t>(
             Ok(NumberedEffect::All(parts))
         }
         Effect::Each(variables, body) => {
-            let ranges = ranges(alloc, tables, variables.items())?;
-            walk.enter(alloc, tables, variables.items())?;
+            let ranges = walk.enter(alloc, tables, variables.items())?;
             let body = boxed_effect(alloc, tables, walk, body.get())?;
             walk.leave(variables.items());
             Ok(NumberedEffect::Each(ranges, body))
         }
         Effect::If(formula, body) => {
-            let condition = numbered_formula(alloc, tables, walk, formula)?;
+            let condition = boxed_formula(alloc, tables, walk, formula)?;
             let body = boxed_effect(alloc, tables, walk, body.get())?;
-            Ok(NumberedEffect::If(condition, body))
+            Ok(NumberedEffect::If(condition.into_inner(), body))
         }
         Effect::Cost(at, amount) => {
             total_cost(alloc, tables, walk, *at)?;

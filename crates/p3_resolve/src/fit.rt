@@ -1,17 +1,37 @@
 //! What fits a list of types.
 
 ghost use Rattle.std.specs.Prelude.{◌≡◌, map, IfOk};
-ghost use Rattle.std.specs.List.{list_all};
+ghost use Rattle.std.specs.List.{list_all, list_any};
 ghost use Rattle.p3_task.specs.Types.{declared_objects, type_names, is_below_some};
-ghost use Rattle.p3_resolve.specs.ByName.{repeated_items};
+ghost use Rattle.p3_hierarchy.specs.Objects.{fits};
+ghost use Rattle.p3_resolve.specs.ByNumber.{repeated_items};
 ghost use Rattle.p3_resolve.specs.Fitting.{HasFitting, found_fits};
 
-use crate::by_name::ByName;
+use crate::by_number::are_many;
 use crate::repeated::Repeated;
 use p3_base::{Name, NoMemory};
-use p3_names::{Below, Kinds, Names};
+use p3_hierarchy::{Below, Kinds};
+use p3_names::Names;
 use p3_task::{Ref, Typed};
 use std::alloc::Global;
+
+/// Whether one of the declarations fits, as they stand.
+fn any_fits(below: &Below, items: &[&Typed]) -> bool
+    ensures { result ≡ list_any
+        (λ item. fits below.now.task.now below.now.types.now item.now)
+        items.now }
+{
+    items.iter().any(|item| below.has_some(item.types.items()))
+}
+
+/// Whether one of the declarations fits.
+fn some_fits(below: &Below, items: &[&Typed]) -> bool
+    ensures { result ≡ list_any
+        (fits below.now.task.now below.now.types.now)
+        (map (λ item. item.now) items.now) }
+{
+    any_fits(below, items)
+}
 
 /// What fits a list of types.
 #[derive(Drop)]
@@ -40,19 +60,19 @@ impl<'t> Fit<'t> {
         Ok(Fit { below, repeated })
     }
 
-    /// Whether an object fits.
-    pub(crate) fn has_object(&self, declared: &ByName, name: &Name) -> bool
+    /// Whether an object with these declarations fits.
+    pub(crate) fn has_object(&self, declared: &[&Typed], name: &Name) -> bool
         ensures { result ≡ found_fits
             self.now.below.task.now
             self.now.below.types.now
-            (declared_objects declared.now.task.now)
+            (map (λ item. item.now) declared.now)
             self.now.repeated
             name.now }
     {
-        if declared.is_repeated(name) {
+        if are_many(declared) {
             return self.repeated.has(name.bytes());
         }
-        declared.has_fitting(&self.below, name)
+        some_fits(&self.below, declared)
     }
 
     /// Whether each of a variable's types is below one of the listed ones.

@@ -9,7 +9,6 @@ ghost use Rattle.p3_resolve.specs.Walk.{with_tree, uses_of_each};
 
 use crate::conditions::numbered_formula;
 use crate::tables::Tables;
-use crate::terms::ranges;
 use crate::walk::Walk;
 use p3_base::{Boxed, List, NoMemory};
 use p3_numbers::{NumberedGoal, NumberedPreference};
@@ -78,8 +77,7 @@ pub(crate) fn numbered_goal<'t>(
             Ok(NumberedGoal::Both(parts))
         }
         PreGoal::Each(variables, body) => {
-            let ranges = ranges(alloc, tables, variables.items())?;
-            walk.enter(alloc, tables, variables.items())?;
+            let ranges = walk.enter(alloc, tables, variables.items())?;
             let body = boxed_goal(alloc, tables, walk, body.get())?;
             walk.leave(variables.items());
             Ok(NumberedGoal::Each(ranges, body))
@@ -93,7 +91,7 @@ pub(crate) fn numbered_goal<'t>(
 
 /// A precondition or a goal with numbers, in a box.
 #[cycle(goals)]
-fn boxed_goal<'t>(
+pub(crate) fn boxed_goal<'t>(
     alloc: Global,
     tables: &Tables<'t>,
     walk: &mut Walk<'t>,

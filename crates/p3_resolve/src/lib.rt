@@ -4,7 +4,7 @@
 
 mod actions;
 mod atoms;
-mod by_name;
+mod by_number;
 mod conditions;
 mod constraints;
 mod declared_names;

@@ -11,7 +11,8 @@ ghost use Rattle.p3_task.specs.Types.{names_of};
 use crate::names_of_task::copied;
 use crate::numbers::number_of;
 use p3_base::{List, Name, NoMemory, as_number};
-use p3_names::{Kinds, Objects, TypeLists, list_key};
+use p3_hierarchy::{Kinds, Objects};
+use p3_names::{TypeLists, list_key};
 use p3_task::Ref;
 use std::alloc::Global;
 

@@ -5,7 +5,8 @@ ghost use Rattle.p3_names.specs.Names.{Adds};
 ghost use Rattle.p3_resolve.specs.Fitting.{AreInPlace, AreNamesFitting, name_in};
 
 use p3_base::{Name, NoMemory};
-use p3_names::{Below, Declaration, Declarations, Key, Names, item_key};
+use p3_hierarchy::{Below, Declaration, Declarations};
+use p3_names::{Key, Names, item_key};
 use p3_task::Typed;
 use std::alloc::Global;
 

@@ -7,13 +7,16 @@ ghost use Rattle.p3_numbers.specs.Starts.{start_of, initial_values_of};
 ghost use Rattle.p3_numbers.specs.Tasks.{numbered_action};
 ghost use Rattle.p3_resolve.specs.Answers.{IsResolved};
 ghost use Rattle.p3_resolve.specs.Order as order;
+ghost use Rattle.p3_resolve.specs.Listed.{task_lists};
 ghost use Rattle.p3_resolve.specs.NumbersOf.{numbers_of};
+ghost use Rattle.p3_resolve.specs.Ranges.{HaveRanges, lists_once};
 ghost use Rattle.p3_resolve.specs.Wholes.{domain_found, problem_found};
+ghost use Rattle.p3_resolve.specs.TaskOf.{task_of};
 
 use crate::first::in_order;
 use crate::tables::Tables;
 use crate::whole::{DomainTrees, ProblemTrees, domain_trees, problem_trees};
-use p3_base::{NoMemory, Refusal, Side};
+use p3_base::{Boxed, NoMemory, Refusal, Side};
 use p3_numbers::{NumberedTask, Numbers};
 use p3_task::Task;
 use std::alloc::Global;
@@ -35,7 +38,7 @@ struct Trees {
 }
 
 /// The trees of a task with numbers, and what was found in them.
-fn trees_of<'t>(alloc: Global, tables: &Tables<'t>) -> Result<Trees, NoMemory>
+fn trees_of<'t>(alloc: Global, tables: &Boxed<Tables<'t>>) -> Result<Trees, NoMemory>
     ensures domain_found { IfOk result
         (λ trees. trees.domain.found ≡ domain_found tables.now.task.now) }
     ensures problem_found { IfOk result
@@ -53,34 +56,47 @@ fn trees_of<'t>(alloc: Global, tables: &Tables<'t>) -> Result<Trees, NoMemory>
     ensures values { IfOk result (λ trees. trees.problem.start.values
         ≡ initial_values_of (numbers_of tables.now) tables.now.task.now) }
 {
-    let domain = domain_trees(alloc, tables)?;
-    let problem = problem_trees(alloc, tables)?;
+    let domain = domain_trees(alloc, tables.get())?;
+    let problem = problem_trees(alloc, tables.get())?;
     Ok(Trees { domain, problem })
 }
 
 /// The task of these numbers and trees.
 fn numbered_task(numbers: Numbers, trees: Trees) -> NumberedTask
-    ensures { result ≡ record {
-      numbers = numbers;
-      actions = trees.domain.actions;
-      domain_constraints = trees.domain.constraints;
-      problem_constraints = trees.problem.trees.constraints;
-      goal = trees.problem.trees.goal;
-      start = trees.problem.start.facts;
-      values = trees.problem.start.values;
-    } }
+    ensures { result ≡ task_of numbers trees }
 {
     let Trees { domain, problem } = trees;
     let ProblemTrees { start, trees, .. } = problem;
     NumberedTask {
         numbers,
         actions: domain.actions,
-        domain_constraints: domain.constraints,
-        problem_constraints: trees.constraints,
-        goal: trees.goal,
+        domain_constraints: domain.constraints.into_inner(),
+        problem_constraints: trees.constraints.into_inner(),
+        goal: trees.goal.into_inner(),
         start: start.facts,
         values: start.values,
     }
+}
+
+/// The task of these tables and trees.
+fn numbered(alloc: Global, tables: Tables, trees: Trees) -> Result<NumberedTask, NoMemory>
+    ensures { IfOk result (λ made. made ≡ task_of (numbers_of tables.entry) trees) }
+{
+    let numbers = tables.into_numbers(alloc)?;
+    Ok(numbered_task(numbers, trees))
+}
+
+/// The tables of a task, in a box.
+fn boxed_tables<'t>(alloc: Global, task: &'t Task) -> Result<Boxed<Tables<'t>>, NoMemory>
+    ensures task { IfOk result (λ tables. tables.task.now ≡ task.now) }
+    ensures types { IfOk result
+        (λ tables. tables.lists.types ≡ lists_once (task_lists task.now)) }
+    ensures ranges { IfOk result
+        (λ tables. HaveRanges task.now tables.lists.types tables.lists.ranges) }
+{
+    let tables = Tables::of(alloc, task)?;
+    let boxed = Boxed::new(alloc, tables)?;
+    Ok(boxed)
 }
 
 /// The first offence that was found in the trees.
@@ -103,7 +119,7 @@ fn first_in(side: Side, trees: &Trees) -> Result<Option<Refusal>, NoMemory>
 pub fn resolve(alloc: Global, side: Side, task: &Task) -> Result<Resolved, NoMemory>
     ensures { IfOk result (IsResolved side task.now) }
 {
-    let tables = Tables::of(alloc, task)?;
+    let tables = boxed_tables(alloc, task)?;
     let trees = trees_of(alloc, &tables)?;
     let first = first_in(side, &trees)?;
     match first {
@@ -112,8 +128,8 @@ pub fn resolve(alloc: Global, side: Side, task: &Task) -> Result<Resolved, NoMem
             Ok(Resolved::Refused(refusal))
         }
         None => {
-            let numbers = tables.into_numbers(alloc)?;
-            Ok(Resolved::Numbered(numbered_task(numbers, trees)))
+            let made = numbered(alloc, tables.into_inner(), trees)?;
+            Ok(Resolved::Numbered(made))
         }
     }
 }

@@ -8,7 +8,7 @@ ghost use Rattle.p3_task.specs.Names.{has_name};
 ghost use Rattle.p3_task.specs.Types.{declared_objects};
 ghost use Rattle.p3_task.specs.Offences.{is_declared, declared_types, header_named};
 ghost use Rattle.p3_task.specs.PreferenceNames.{preference_names, ordered_names};
-ghost use Rattle.p3_resolve.specs.Listed.{task_lists};
+ghost use Rattle.p3_resolve.specs.Listed.{lists_in, task_lists};
 ghost use Rattle.p3_resolve.specs.Ranges.{HaveRanges, lists_once};
 ghost use Rattle.p3_resolve.specs.Tables.{AreCounted, Has, IsNumbered, IsNumberedFrom, header_of};
 
@@ -17,8 +17,9 @@ use crate::firsts::Firsts;
 use crate::fits::Fits;
 use crate::names_of_task::{DeclaredInTrees, NameTable, copied_headers, declared_in_trees};
 use crate::ranges::Ranges;
-use p3_base::{Name, NoMemory, TooLarge, as_number};
-use p3_names::{Kinds, Names, Objects};
+use p3_base::{List, Name, NoMemory, TooLarge, as_number};
+use p3_hierarchy::{Kinds, Objects};
+use p3_names::Names;
 use p3_numbers::Numbers;
 use p3_task::{Header, Ref, Task};
 use std::alloc::Global;
@@ -139,28 +140,117 @@ fn header_found<'t>(
     }
 }
 
+/// The names of a task's headers and types.
+#[derive(Drop)]
+struct Words<'t> {
+    task: &'t Task,
+    predicates: Firsts<'t, Header>,
+    functions: Firsts<'t, Header>,
+    types: Names,
+    ghost predicates_told: { predicates.items.now ≡ task.now.domain.predicates },
+    ghost functions_told: { functions.items.now ≡ task.now.domain.functions },
+    ghost types_told: { Has types (declared_types task.now) },
+}
+
+/// The names of a task's headers and types.
+#[tactic(auto, using(crate::proofs::TableLemmas::table_laws))]
+fn words_of<'t>(alloc: Global, task: &'t Task) -> Result<Words<'t>, NoMemory>
+    ensures { IfOk result (λ words. words.task.now ≡ task.now) }
+{
+    let predicates = Firsts::of(alloc, task.domain.predicates.items())?;
+    let functions = Firsts::of(alloc, task.domain.functions.items())?;
+    let types = type_table(alloc, task)?;
+    Ok(Words {
+        task,
+        predicates,
+        functions,
+        types,
+    })
+}
+
+/// The objects of a task, and what is of which types.
+#[derive(Drop)]
+struct Typing<'t> {
+    task: &'t Task,
+    objects: Objects<'t>,
+    ranges: Ranges<'t>,
+    fits: Fits<'t>,
+    ghost objects_told: { objects.task.now ≡ task.now },
+    ghost fits_told: { fits.objects.task.now ≡ task.now },
+}
+
+/// The objects of a task, and what is of the listed types and of those of parameters.
+fn typing_of<'t>(alloc: Global, task: &'t Task, lists: &[&'t [Ref]]) -> Result<Typing<'t>, NoMemory>
+    ensures task { IfOk result (λ typing. typing.task.now ≡ task.now) }
+    ensures types { IfOk result
+        (λ typing. typing.ranges.types ≡ lists_once (lists_in lists.now)) }
+    ensures ranges { IfOk result
+        (λ typing. HaveRanges task.now typing.ranges.types typing.ranges.ranges) }
+{
+    let kinds = Kinds::of(alloc, task)?;
+    let objects = Objects::of(alloc, task)?;
+    let ranges = Ranges::of(alloc, &kinds, &objects, lists)?;
+    let fits = Fits::of(alloc, task, &kinds, &objects)?;
+    Ok(Typing {
+        task,
+        objects,
+        ranges,
+        fits,
+    })
+}
+
+/// Copies of the names of headers.
+#[derive(Drop)]
+struct HeaderNames {
+    predicates: List<Name>,
+    functions: List<Name>,
+}
+
+/// Copies of the names of a task's headers.
+fn copied_headers_of(alloc: Global, task: &Task) -> Result<HeaderNames, NoMemory>
+    ensures predicates { IfOk result
+        (λ names. names.predicates ≡ header_names task.now.domain.predicates) }
+    ensures functions { IfOk result
+        (λ names. names.functions ≡ header_names task.now.domain.functions) }
+{
+    let predicates = copied_headers(alloc, task.domain.predicates.items())?;
+    let functions = copied_headers(alloc, task.domain.functions.items())?;
+    Ok(HeaderNames {
+        predicates,
+        functions,
+    })
+}
+
 impl<'t> Tables<'t> {
     ghost use Rattle.p3_resolve.specs.NumbersOf.{numbers_of};
 
-    /// The tables of a task.
-    #[tactic(auto, using(crate::proofs::TableLemmas::table_laws))]
-    pub(crate) fn of(alloc: Global, task: &'t Task) -> Result<Tables<'t>, NoMemory>
-        ensures task { IfOk result (λ tables. tables.task.now ≡ task.now) }
-        ensures types { IfOk result
-            (λ tables. tables.lists.types ≡ lists_once (task_lists task.now)) }
-        ensures ranges { IfOk result
-            (λ tables. HaveRanges task.now tables.lists.types tables.lists.ranges) }
+    /// The tables of these parts.
+    fn joined(
+        task: &'t Task,
+        words: Words<'t>,
+        typing: Typing<'t>,
+        preferences: NameTable,
+    ) -> Tables<'t>
+        requires words { words.task.now ≡ task.now }
+        requires typing { typing.task.now ≡ task.now }
+        requires preferences { preferences.names ≡ ordered_names task.now }
+        requires counted { AreCounted task.now }
+        ensures task { result.task.now ≡ task.now }
+        ensures lists { result.lists ≡ typing.entry.ranges }
     {
-        let DeclaredInTrees { lists, preferences } = declared_in_trees(alloc, task)?;
-        let kinds = Kinds::of(alloc, task)?;
-        let objects = Objects::of(alloc, task)?;
-        let lists = Ranges::of(alloc, &kinds, &objects, &lists)?;
-        let predicates = Firsts::of(alloc, task.domain.predicates.items())?;
-        let functions = Firsts::of(alloc, task.domain.functions.items())?;
-        let types = type_table(alloc, task)?;
-        let fits = Fits::of(alloc, task, &kinds)?;
-        are_counted(task)?;
-        Ok(Tables {
+        let Words {
+            predicates,
+            functions,
+            types,
+            ..
+        } = words;
+        let Typing {
+            objects,
+            ranges,
+            fits,
+            ..
+        } = typing;
+        Tables {
             task,
             predicates,
             functions,
@@ -168,8 +258,23 @@ impl<'t> Tables<'t> {
             types,
             preferences,
             fits,
-            lists,
-        })
+            lists: ranges,
+        }
+    }
+
+    /// The tables of a task.
+    pub(crate) fn of(alloc: Global, task: &'t Task) -> Result<Tables<'t>, NoMemory>
+        ensures task { IfOk result (λ tables. tables.task.now ≡ task.now) }
+        ensures types { IfOk result
+            (λ tables. tables.lists.types ≡ lists_once (task_lists task.now)) }
+        ensures ranges { IfOk result
+            (λ tables. HaveRanges task.now tables.lists.types tables.lists.ranges) }
+    {
+        are_counted(task)?;
+        let words = words_of(alloc, task)?;
+        let DeclaredInTrees { lists, preferences } = declared_in_trees(alloc, task)?;
+        let typing = typing_of(alloc, task, &lists)?;
+        Ok(Tables::joined(task, words, typing, preferences))
     }
 
     /// A predicate's name, looked up.
@@ -235,12 +340,14 @@ impl<'t> Tables<'t> {
         self.lists.number_of(alloc, types)
     }
 
-    /// What the numbers stand for.
-    pub(crate) fn into_numbers(self, alloc: Global) -> Result<Numbers, NoMemory>
-        ensures { IfOk result (λ numbers. numbers ≡ numbers_of self.entry) }
+    /// What the numbers stand for, beside these names of headers.
+    fn with_headers(self, headers: HeaderNames) -> Numbers
+        requires predicates { headers.predicates
+            ≡ header_names self.task.now.domain.predicates }
+        requires functions { headers.functions
+            ≡ header_names self.task.now.domain.functions }
+        ensures { result ≡ numbers_of self.entry }
     {
-        let predicates = copied_headers(alloc, self.task.domain.predicates.items())?;
-        let functions = copied_headers(alloc, self.task.domain.functions.items())?;
         let Tables {
             objects,
             preferences,
@@ -248,13 +355,21 @@ impl<'t> Tables<'t> {
             ..
         } = self;
         let (types, ranges) = lists.into_lists();
-        Ok(Numbers {
-            predicates,
-            functions,
+        Numbers {
+            predicates: headers.predicates,
+            functions: headers.functions,
             objects: objects.into_names(),
             preferences: preferences.names,
             types,
             ranges,
-        })
+        }
+    }
+
+    /// What the numbers stand for.
+    pub(crate) fn into_numbers(self, alloc: Global) -> Result<Numbers, NoMemory>
+        ensures { IfOk result (λ numbers. numbers ≡ numbers_of self.entry) }
+    {
+        let headers = copied_headers_of(alloc, self.task)?;
+        Ok(self.with_headers(headers))
     }
 }

@@ -70,10 +70,18 @@ fn variable_fits(
     }
 }
 
-/// Whether an object fits the parameter at a place of a header, where there is one.
+/// Whether the object with the number fits the parameter at a place of a header, where there is
+/// one.
 #[tactic(auto, using(crate::proofs::TermLemmas::beside_laws))]
-fn object_fits(tables: &Tables, declared: Option<Declared>, place: usize, object: &Name) -> bool
-    requires { IsNumbered tables.now.task.now declared }
+fn object_fits(
+    tables: &Tables,
+    declared: Option<Declared>,
+    place: usize,
+    number: u32,
+    object: &Name,
+) -> bool
+    requires declared { IsNumbered tables.now.task.now declared }
+    requires number { number ≡ number_in (numbers_of tables.now).objects object.now }
     ensures { result ≡ object_fits_at
         tables.now.task.now
         (parameter_of declared.entry place)
@@ -81,7 +89,9 @@ fn object_fits(tables: &Tables, declared: Option<Declared>, place: usize, object
 {
     match declared {
         None => true,
-        Some(header) => tables.fits.object_fits(header.number, place, object),
+        Some(header) => tables
+            .fits
+            .object_fits(header.number, place, number as usize, object),
     }
 }
 
@@ -140,7 +150,7 @@ fn object_argument(
         (λ made. made ≡ number_in (numbers_of tables.now).objects object.now.name) }
 {
     let known = tables.object(&object.name)?;
-    let fits = object_fits(tables, declared, place, &object.name);
+    let fits = object_fits(tables, declared, place, known.number, &object.name);
     note(found, known.is_declared, fits, object);
     Ok(known.number)
 }

@@ -1,12 +1,15 @@
 //! What a walk over trees has come to.
 
-ghost use Rattle.std.specs.Prelude.{◌≡◌, length, OnOk};
+ghost use Rattle.std.specs.Prelude.{◌≡◌, length, IfOk, OnOk};
+ghost use Rattle.p3_numbers.specs.Places.{ranges_of};
+ghost use Rattle.p3_resolve.specs.NumbersOf.{numbers_of};
 ghost use Rattle.p3_resolve.specs.Walk.{outside, with_variables, behind};
 
 use crate::notes::variables_noted;
 use crate::spot::FirstOffences;
 use crate::tables::Tables;
-use p3_base::NoMemory;
+use crate::terms::ranges;
+use p3_base::{List, NoMemory};
 use p3_names::Scope;
 use p3_task::Typed;
 use std::alloc::Global;
@@ -51,21 +54,23 @@ impl<'t> Walk<'t> {
         }
     }
 
-    /// Variables are declared, and in scope from here on.
+    /// Variables are declared, and in scope from here on; their ranges.
     #[tactic(auto, using(crate::proofs::TermLemmas::scope_laws), unfolding(crate::specs::Walk::with_variables))]
     pub(crate) fn enter(
         &mut self,
         alloc: Global,
         tables: &Tables<'t>,
         variables: &'t [Typed],
-    ) -> Result<(), NoMemory>
-        ensures { OnOk result
+    ) -> Result<List<u32>, NoMemory>
+        ensures walk { OnOk result
             (self.new ≡ with_variables tables.now.task.now variables.now self.old) }
+        ensures ranges { IfOk result
+            (λ ranges. ranges ≡ ranges_of (numbers_of tables.now) variables.now) }
     {
         self.found = variables_noted(alloc, self.found, tables, variables)?;
         self.slots.bind(variables)?;
         self.scope.enter(variables)?;
-        Ok(())
+        ranges(alloc, tables, variables)
     }
 
     /// Behind the tree that these variables are bound in.

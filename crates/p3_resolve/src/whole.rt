@@ -15,16 +15,16 @@ ghost use Rattle.p3_resolve.specs.Wholes.{domain_start, problem_start};
 ghost use Rattle.p3_resolve.specs.Wholes as specs;
 
 use crate::actions::numbered_actions;
-use crate::constraints::numbered_constraint;
+use crate::constraints::boxed_constraint;
 use crate::given::values_repeated;
-use crate::goals::numbered_goal;
+use crate::goals::boxed_goal;
 use crate::metric::metric_noted;
 use crate::notes::{objects_noted, variables_noted, words_repeated};
 use crate::spot::{FirstOffences, Spot, unless};
 use crate::starts::{InitialState, initial_state};
 use crate::tables::Tables;
 use crate::walk::Walk;
-use p3_base::{List, NoMemory};
+use p3_base::{Boxed, List, NoMemory};
 use p3_numbers::{NumberedAction, NumberedConstraint, NumberedGoal};
 use p3_task::{Domain, Header, Problem};
 use std::alloc::Global;
@@ -121,7 +121,7 @@ fn domain_declared(
 #[derive(Drop)]
 pub(crate) struct DomainTrees {
     pub(crate) actions: List<NumberedAction>,
-    pub(crate) constraints: NumberedConstraint,
+    pub(crate) constraints: Boxed<NumberedConstraint>,
     pub(crate) found: FirstOffences,
 }
 
@@ -139,7 +139,7 @@ pub(crate) fn domain_trees<'t>(alloc: Global, tables: &Tables<'t>) -> Result<Dom
     let found = domain_begun(alloc, domain)?;
     let found = domain_declared(alloc, found, tables, domain)?;
     let mut walk = Walk::new(alloc, found);
-    let constraints = numbered_constraint(alloc, tables, &mut walk, &domain.constraints.body)?;
+    let constraints = boxed_constraint(alloc, tables, &mut walk, &domain.constraints.body)?;
     let actions = numbered_actions(alloc, tables, &mut walk, domain.actions.items())?;
     Ok(DomainTrees {
         actions,
@@ -164,8 +164,8 @@ fn problem_begun(alloc: Global, problem: &Problem) -> Result<FirstOffences, NoMe
 /// The goal and the constraints of a problem with numbers.
 #[derive(Drop)]
 pub(crate) struct GoalTrees {
-    pub(crate) goal: NumberedGoal,
-    pub(crate) constraints: NumberedConstraint,
+    pub(crate) goal: Boxed<NumberedGoal>,
+    pub(crate) constraints: Boxed<NumberedConstraint>,
 }
 
 /// The goal and the constraints of a problem with numbers, outside all variables; what is found in
@@ -186,8 +186,8 @@ fn goal_trees<'t>(
     ensures constraints { IfOk result (λ trees. trees.constraints
         ≡ constraint_of (numbers_of tables.now) problem.now.constraints.body []) }
 {
-    let goal = numbered_goal(alloc, tables, walk, &problem.goal.body)?;
-    let constraints = numbered_constraint(alloc, tables, walk, &problem.constraints.body)?;
+    let goal = boxed_goal(alloc, tables, walk, &problem.goal.body)?;
+    let constraints = boxed_constraint(alloc, tables, walk, &problem.constraints.body)?;
     Ok(GoalTrees { goal, constraints })
 }
 

@@ -9,7 +9,7 @@ use Rattle.p3_resolve.proofs.fits.fits_of.Goals as goal
 pub loop-types-preserved : goal.loop-types-preserved
 loop-types-preserved c = record {
   tasks = rw c.in_ok-push.ensures.items
-      (All-push (λ (fit : Fit). fit.below.task.now ≡ c.args.objects.now.task.now) c.loop-types.fits.items c.in_ok-fit.fit c.loop-types.invariant.tasks (c.in_ok-fit.ensures.task ∙ c.requires));
+      (All-push (λ (fit : Fit). fit.below.task.now ≡ c.args.kinds.now.task.now) c.loop-types.fits.items c.in_ok-fit.fit c.loop-types.invariant.tasks c.in_ok-fit.ensures.task);
   types =
       ap (map (λ (fit : Fit). names_of fit.below.types.now)) c.in_ok-push.ensures.items
       ∙ map-append (λ (fit : Fit). names_of fit.below.types.now) c.loop-types.fits.items (c.in_ok-fit.fit ∷ [])

@@ -6,6 +6,6 @@ use Rattle.p3_resolve.proofs.fits.fits_of.Given as goal
 
 abbrev pub invariant-loop-types : goal.invariant-loop-types
 invariant-loop-types l = record {
-  tasks : All (λ fit. fit.below.task.now ≡ l.objects.task.now) l.fits.items;
+  tasks : All (λ fit. fit.below.task.now ≡ l.kinds.task.now) l.fits.items;
   types : map (λ fit. names_of fit.below.types.now) l.fits.items ≡ names_in (take l.types-index l.lists);
 }

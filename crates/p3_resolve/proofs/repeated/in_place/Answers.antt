@@ -1,5 +1,5 @@
 use Rattle.std.proofs.Common.{ap, map, refl, arith}
-use Rattle.p3_names.specs.declared.declarations.Declaration.{Declaration}
+use Rattle.p3_hierarchy.specs.declared.declarations.Declaration.{Declaration}
 use Rattle.p3_resolve.proofs.RepeatedLemmas.{declared-more, in-place-none, in-place-more}
 use Rattle.p3_resolve.proofs.repeated.in_place.Goals as goal
 

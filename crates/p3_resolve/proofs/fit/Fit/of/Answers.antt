@@ -1,6 +1,6 @@
 use Rattle.std.proofs.Common.{◌∙◌, subst, sym}
 use Rattle.p3_task.specs.Types.{declared_objects}
-use Rattle.p3_resolve.specs.ByName.{repeated_items}
+use Rattle.p3_resolve.specs.ByNumber.{repeated_items}
 use Rattle.p3_resolve.specs.Fitting.{AreNamesFitting}
 use Rattle.p3_resolve.proofs.fit.Fit.of.Goals as goal
 

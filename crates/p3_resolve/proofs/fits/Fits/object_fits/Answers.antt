@@ -22,4 +22,4 @@ returns-in-Some c =
     (λ declared same. c.has_object.ensures ∙ ∥∥₁_elim self.tasks (Bool-set _ _) (λ tasks.
     object-told self.objects.task.now fit.below.task.now
     (found-told (λ one. one.below.task.now ≡ self.objects.task.now) self.fits.items (number_at numbers c.args.header c.args.parameter) fit tasks c.in-Some.ensures)
-    fit.below.types.now declared.types same fit.repeated c.args.object.now fit.told))
+    fit.below.types.now declared.types same fit.repeated c.args.object.now (map (λ item. item.now) c.of_object.result.now) fit.told (c.of_object.ensures c.args.object.now c.requires)))

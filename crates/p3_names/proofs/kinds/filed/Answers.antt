@@ -1,5 +1,0 @@
-use Rattle.p3_names.proofs.KindLemmas.{filed-more}
-use Rattle.p3_names.proofs.kinds.filed.Goals as goal
-
-pub loop-kind-preserved : goal.loop-kind-preserved
-loop-kind-preserved c = filed-more c.args.kinds.now c.loop-kind.kind-index c.kind-item.result _ _ c.loop-kind-test.true c.kind-item.is c.loop-kind.invariant c.in_ok-file_kind.ensures
