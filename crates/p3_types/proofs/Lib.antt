@@ -5,6 +5,7 @@ pub mod Gives
 pub mod InitialLemmas
 mod NameOrderLemmas
 mod NumberLemmas
+mod PlacedLemmas
 pub mod ShortNumbers
 pub mod ShortTasks
 pub mod SpelledNumbers

@@ -8,6 +8,7 @@ use Rattle.p3_task.specs.StepNumbers.{HasNumber}
 use Rattle.p3_task.specs.declared.task.Action.{Action}
 use Rattle.p3_task.specs.declared.task.Step.{Step}
 use Rattle.p3_task.specs.declared.task.Task.{Task}
+use Rattle.p3_numbers.specs.Places.{Fills, words_of}
 use Rattle.p3_numbers.specs.Slots.{name_at, object_names, range_at}
 use Rattle.p3_numbers.specs.declared.numbers.Numbers.{Numbers}
 use Rattle.p3_numbers.specs.Choices.{choice_count, choice}
@@ -28,6 +29,14 @@ abbrev pub IsFound : Task → Step → Found → Type 0
 IsFound T step (Number number) = HasNumber T step number
 IsFound T step UnknownAction = action_named T step.action ≡ None
 IsFound T step Arguments = HasOtherArguments T step
+
+-- the step of a number by numbers: the place of its action, and objects that fill the parameters
+pub record IsStepAt (T : Task) (N : Numbers) (number : ℕ) (place : ℕ) (objects : List ℕ) : Type 0 where
+  pub action : Action
+  pub at : slice_get T.domain.actions place ≡ Some action
+  pub named : action_named T action.name.name ≡ Some action
+  pub fills : Fills N (words_of action.params) objects
+  pub step : HasNumber T (record { action = action.name.name; args = object_names N objects }) number
 
 -- ---- a choice, object by object
 

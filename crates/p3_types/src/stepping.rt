@@ -9,15 +9,15 @@ ghost use Rattle.p3_task.specs.PlanTexts.{IsPlanText};
 ghost use Rattle.p3_task.specs.Sides.{byte_limit, step_count_limit};
 ghost use Rattle.p3_task.specs.StepNumbers.{HasNumber};
 ghost use Rattle.p3_task.specs.declared.task.Step.{Step as PlanStep};
-ghost use Rattle.p3_types.specs.Finds.{IsBlockAt, IsFound, IsNumberAt};
+ghost use Rattle.p3_types.specs.Finds.{IsBlockAt, IsFound, IsNumberAt, IsStepAt};
 ghost use Rattle.p3_types.specs.FirstSteps.{too_many};
 
 use crate::finding::{Block, choice_number};
 use crate::name_order::find_name;
-use crate::steps::{arguments, copied, interval_of};
+use crate::steps::{chosen, copied, interval_of, names_of};
 use crate::words::choice_of_words;
 use crate::{Checked, Found};
-use p3_base::{Name, NoMemory};
+use p3_base::{List, Name, NoMemory, as_number};
 use p3_lexer::Lexer;
 use p3_task::Step;
 use std::alloc::Global;
@@ -43,25 +43,43 @@ impl Checked {
         table[table.len() - 1]
     }
 
-    /// The step of a number.
-    pub fn step(&self, alloc: Global, number: u32) -> Result<Step, NoMemory>
+    /// The step of a number by numbers: the place of its action, and its objects.
+    ///
+    /// # Errors
+    ///
+    /// Want of memory.
+    pub fn placed(&self, alloc: Global, number: u32) -> Result<(u32, List<u32>), NoMemory>
         requires few { count_of_steps self.now.task ≤ step_count_limit }
         requires within { number < count_of_steps self.now.task }
-        ensures { IfOk result (λ step. HasNumber self.now.task step number) }
+        ensures { IfOk result (λ placed. IsStepAt
+            self.now.task self.now.numbered.numbers number placed.0 placed.1) }
     {
         let table = self.table();
         let place = interval_of(table, number);
         let first = table[place];
         let count = table[place + 1] - first;
         let numbered = &self.numbered.actions.items()[place];
-        let args = arguments(
+        let objects = chosen(
             alloc,
             &self.numbered.numbers,
             numbered.ranges.items(),
             number - first,
             count,
         )?;
-        let action = copied(alloc, &self.task.domain.actions.items()[place].name.name)?;
+        let action = as_number(place)?;
+        Ok((action, List::from(objects)))
+    }
+
+    /// The step of a number.
+    pub fn step(&self, alloc: Global, number: u32) -> Result<Step, NoMemory>
+        requires few { count_of_steps self.now.task ≤ step_count_limit }
+        requires within { number < count_of_steps self.now.task }
+        ensures { IfOk result (λ step. HasNumber self.now.task step number) }
+    {
+        let (place, objects) = self.placed(alloc, number)?;
+        let args = names_of(alloc, &self.numbered.numbers, objects.items())?;
+        let actions = self.task.domain.actions.items();
+        let action = copied(alloc, &actions[place as usize].name.name)?;
         Ok(Step { action, args })
     }
 

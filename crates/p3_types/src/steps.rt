@@ -1,6 +1,6 @@
 //! Steps by number.
 
-ghost use Rattle.std.specs.Prelude.{◌≡◌, ℕ, ◌+◌, ◌*◌, ◌/◌, ◌-◌, ◌<◌, ◌≤◌, min, length};
+ghost use Rattle.std.specs.Prelude.{◌≡◌, ◌+◌, ◌*◌, ◌/◌, ◌-◌, ◌<◌, ◌≤◌, min, length};
 ghost use Rattle.std.specs.Prelude.{slice_index_or, IfOk};
 ghost use Rattle.std.specs.List.{All};
 ghost use Rattle.p3_numbers.specs.Slots.{range_at, name_at, object_names};
@@ -99,22 +99,19 @@ fn first_object(objects: &[u32], number: usize, choices: usize) -> u32
     objects[number / choices]
 }
 
-/// The objects of a choice by its number among so many.
-pub(crate) fn arguments(
+/// The numbers of the objects of a choice by its number among so many.
+pub(crate) fn chosen(
     alloc: Global,
     numbers: &Numbers,
     ranges: &[u32],
     number: u32,
     count: u32,
-) -> Result<List<Name>, NoMemory>
-    requires objects { (range : ℕ)
-        → All (λ object. object < length numbers.now.objects) (range_at numbers.now range) }
+) -> Result<Vec<u32>, NoMemory>
     requires count { count ≡ choice_count numbers.now ranges.now }
     requires within { number < count }
-    ensures { IfOk result
-        (λ args. args ≡ object_names numbers.now (choice numbers.now ranges.now number)) }
+    ensures { IfOk result (λ objects. objects.items ≡ choice numbers.now ranges.now number) }
 {
-    let mut args = List::new(alloc);
+    let mut chosen = Vec::new(alloc);
     let mut rest = number as usize;
     let mut block = count as usize;
     for range in ranges {
@@ -122,9 +119,26 @@ pub(crate) fn arguments(
         block /= objects.len();
         let object = first_object(objects, rest, block);
         rest %= block;
-        args.push(copied(alloc, &numbers.objects.items()[object as usize])?)?;
+        chosen.push(object)?;
     }
-    Ok(args)
+    Ok(chosen)
+}
+
+/// The names of the objects.
+pub(crate) fn names_of(
+    alloc: Global,
+    numbers: &Numbers,
+    objects: &[u32],
+) -> Result<List<Name>, NoMemory>
+    requires { All (λ object. object < length numbers.now.objects) objects.now }
+    ensures { IfOk result (λ names. names ≡ object_names numbers.now objects.now) }
+{
+    let mut names = List::new(alloc);
+    for object in objects {
+        let name = copied(alloc, &numbers.objects.items()[*object as usize])?;
+        names.push(name)?;
+    }
+    Ok(names)
 }
 
 /// A copy of a name.
