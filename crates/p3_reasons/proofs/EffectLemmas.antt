@@ -47,7 +47,7 @@ module _ (N : Numbers) (test : Test) (slots : Slots) where
   taken-Cost amount = refl
 
 -- one part more
-pub taken-more : {A : Type 0} (take_of : A → List Literal) (parts : List A) (i : ℕ) (part : A) (before now after : List Literal) → i < length parts → part ≡ get_or parts i part
+pub taken-more : {A B : Type 0} (take_of : A → List B) (parts : List A) (i : ℕ) (part : A) (before now after : List B) → i < length parts → part ≡ get_or parts i part
     → now ≡ before ++ flat_map take_of (take i parts) → after ≡ now ++ take_of part → after ≡ before ++ flat_map take_of (take (i + 1) parts)
 taken-more take_of parts i part before now after within here is more =
     more ∙ ap (λ front. front ++ take_of part) is ∙ append_assoc before (flat_map take_of (take i parts)) (take_of part)
