@@ -44,7 +44,7 @@ use Rattle.p3_expansion.proofs.NamedAtoms.{atom-named}
 use Rattle.p3_expansion.proofs.StaticLemmas.{tell-statics, start-told}
 use Rattle.p3_steps.specs.Possible as possible
 use Rattle.p3_steps.specs.Possible.{is_chosen, are_chosen, joined_atoms, joined_atoms_layer, goal_joined_atoms, goal_joined_layer, may_begin}
-use Rattle.p3_steps.proofs.PossibleLaws.{goal-possible}
+use Rattle.p3_steps.proofs.PossibleLaws.{begins-possible}
 use Rattle.p3_task.specs.Mentions.{conjuncts_by}
 use Rattle.p3_ground.specs.Sparse.{is_possible}
 use Rattle.p3_ground.specs.StepParts.{IsKnownWhole, OfSteps, WantsWhatIsPossible}
@@ -189,4 +189,4 @@ wants-what-is-possible T X S action slots step whole is may =
     let atoms = goal_joined_atoms slots (numbered_action X.numbers action).pre in
     ap (λ found. list_all (is_possible T) (conjuncts_by step found)) is.named
     ∙ ap (λ env. list_all (is_possible T) (map (conjunct env) (goal_conjuncts action.pre.body))) (step-env T X whole.well whole.numbered action slots step is)
-    ∙ ap (list_all (is_possible T)) (sym joined.same) ∙ list_all-map (is_possible T) (fact_of X.numbers) atoms ∙ all-alike T X S whole atoms joined.named ∙ goal-possible X.numbers S slots (numbered_action X.numbers action).pre may
+    ∙ ap (list_all (is_possible T)) (sym joined.same) ∙ list_all-map (is_possible T) (fact_of X.numbers) atoms ∙ all-alike T X S whole atoms joined.named ∙ begins-possible X.numbers S slots (numbered_action X.numbers action).pre may

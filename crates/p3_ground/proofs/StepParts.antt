@@ -2,7 +2,6 @@
 use Rattle.std.proofs.Common.{◌≡◌, ◌∙◌, Bool, true, false, ◌&&◌, [], refl, sym, ap, true≢false}
 use Rattle.std.specs.Prelude.{option_and_then}
 use Rattle.std.proofs.lemmas.Bool.{and_parts}
-use Rattle.std.proofs.lemmas.List.{append-nil}
 use Rattle.p3_task.specs.Bindings.{extended}
 use Rattle.p3_task.specs.Costs.{cost_places, effect_cost}
 use Rattle.p3_task.specs.Goals.{hard_holds}
@@ -73,7 +72,7 @@ never-begins T X S action slots step whole is cannot s reached =
     by : (met : Bool) → hard_met X.numbers s slots (numbered_action X.numbers action).pre ≡ met → TellStatics T X.numbers S → met ≡ false
     by true holds told =
         absurd (true≢false (
-        sym (may-begin-where-met X.numbers S s (told.settled s reached) slots [] (numbered_action X.numbers action).pre (ap (λ all. hard_met X.numbers s all (numbered_action X.numbers action).pre) (append-nil slots) ∙ holds)) ∙ cannot
+        sym (may-begin-where-met X.numbers S s (told.settled s reached) slots (numbered_action X.numbers action).pre holds) ∙ cannot
         ))
     by false holds told = refl
 

@@ -14,8 +14,8 @@ use Rattle.p3_numbers.specs.Slots.{range_at}
 use Rattle.p3_numbers.specs.declared.goal.NumberedGoal.{NumberedGoal}
 use Rattle.p3_numbers.specs.declared.numbers.Numbers.{Numbers}
 use Rattle.p3_expansion.specs.declared.statics.Statics.{Statics}
-use Rattle.p3_steps.specs.Candidates.{first_candidates, candidates_of, may_take, first_taken, taken_behind}
-use Rattle.p3_steps.specs.Possible.{may_begin}
+use Rattle.p3_steps.specs.Candidates.{first_open, open_choices, may_take, first_taken, taken_behind}
+use Rattle.p3_steps.specs.Possible.{may_yet_begin}
 use Rattle.p3_steps.proofs.PossibleLaws.{cannot-narrower}
 
 -- ---- numbers that pass a test
@@ -54,10 +54,9 @@ range-below count k d within =
     let inside : k < count = subst (λ n. k < n) (length-range_with_len 0 count) within in
     subst (λ n. n < count) (sym (get_or-range_with_len 0 count k d inside)) (omega (arith, inside))
 
--- those that may begin are numbers of choices
-pub candidates-below : (N : Numbers) (S : Statics) (ranges : List ℕ) (goal : NumberedGoal) → All (λ number. number < choice_count N ranges) (candidates_of N S ranges goal)
-candidates-below N S ranges goal =
-    All-filter (λ number. may_begin N S (choice N ranges number) goal) (λ number. number < choice_count N ranges) (range_with_len 0 (choice_count N ranges)) (range-below (choice_count N ranges))
+-- those that pass a test are below the count of all
+pub passing-below : (test : ℕ → Bool) (count : ℕ) → All (λ number. number < count) (filter test (range_with_len 0 count))
+passing-below test count = All-filter test (λ number. number < count) (range_with_len 0 count) (range-below count)
 
 -- ---- choices of some ranges and then others
 
@@ -114,6 +113,12 @@ module _ (N : Numbers) where
   unfolding choice_count choice
   choice-one range place = ap (λ n. get_or (range_at N range) n 0 ∷ []) (omega arith)
 
+  -- of one range alone
+  pub choice-single : (ranges : List ℕ) (number : ℕ) → 1 ≤ length ranges → length ranges < 2 → choice N ranges number ≡ get_or (range_at N (get_or ranges 0 0)) number 0 ∷ []
+  choice-single [] number some few = absurd (omega (arith, some))
+  choice-single (range ∷ []) number some few = choice-one range number
+  choice-single (range ∷ other ∷ more) number some few = absurd (omega (arith, few))
+
   pub count-more : (ranges : List ℕ) (place : ℕ) → place < length ranges → choice_count N (take (place + 1) ranges) ≡ choice_count N (take place ranges) * length (range_at N (get_or ranges place 0))
   count-more ranges place within =
       ap (choice_count N) (take_more ranges place 0 within) ∙ count-append (take place ranges) (get_or ranges place 0 ∷ []) ∙ ap (λ n. choice_count N (take place ranges) * n) (count-one (get_or ranges place 0))
@@ -146,47 +151,47 @@ module _ (N : Numbers) (S : Statics) (goal : NumberedGoal) (start ones : List �
       ∙ choice-append N (start ++ ones) (range ∷ []) q place (omega (arith, below, count-before)) (omega (arith, within, count-one N range))
       ∙ ap (λ more. choice N (start ++ ones) q ++ more) (choice-one N range place)
 
-  behind-fails : (q place : ℕ) → q < choice_count N start → place < length objects → may_begin N S (choice N start q) goal ≡ false
-      → may_begin N S (choice N ((start ++ ones) ++ range ∷ []) (q * length objects + place)) goal ≡ false
+  behind-fails : (q place : ℕ) → q < choice_count N start → place < length objects → may_yet_begin N S (choice N start q) goal ≡ false
+      → may_yet_begin N S (choice N ((start ++ ones) ++ range ∷ []) (q * length objects + place)) goal ≡ false
   behind-fails q place below within fails =
-      ap (λ slots. may_begin N S slots goal)
+      ap (λ slots. may_yet_begin N S slots goal)
       (choice-behind q place below within ∙ ap (λ slots. slots ++ get_or objects place 0 ∷ []) (choice-before q below) ∙ append_assoc (choice N start q) (choice N ones 0) (get_or objects place 0 ∷ []))
       ∙ cannot-narrower N S (choice N start q) (choice N ones 0 ++ get_or objects place 0 ∷ []) goal fails
 
   abbrev wide : ℕ → List ℕ
-  wide n = first_candidates N S ((start ++ ones) ++ range ∷ []) goal n
+  wide n = first_open N S ((start ++ ones) ++ range ∷ []) goal n
 
   up-to : (count : ℕ) → count ≤ choice_count N start
-      → flat_map (taken_behind N S goal (start ++ ones) objects) (first_candidates N S start goal count) ≡ first_candidates N S ((start ++ ones) ++ range ∷ []) goal (count * length objects)
-  up-to zero within = ap (first_candidates N S ((start ++ ones) ++ range ∷ []) goal) none
+      → flat_map (taken_behind N S goal (start ++ ones) objects) (first_open N S start goal count) ≡ first_open N S ((start ++ ones) ++ range ∷ []) goal (count * length objects)
+  up-to zero within = ap (first_open N S ((start ++ ones) ++ range ∷ []) goal) none
     where
       none : 0 ≡ 0 * length (range_at N range)
       none = omega arith
   up-to (suc count) within =
-      ap (λ n. flat_map (taken_behind N S goal (start ++ ones) objects) (first_candidates N S start goal n)) (sym (add-one count))
-      ∙ ap (flat_map (taken_behind N S goal (start ++ ones) objects)) (filter-more (λ number. may_begin N S (choice N start number) goal) count)
-      ∙ flat_map-append (taken_behind N S goal (start ++ ones) objects) (first_candidates N S start goal count) _
-      ∙ ap (λ front. front ++ flat_map (taken_behind N S goal (start ++ ones) objects) (if may_begin N S (choice N start count) goal then count ∷ [] else [])) (up-to count (omega (arith, within)))
-      ∙ by (may_begin N S (choice N start count) goal) refl
-      ∙ ap (first_candidates N S ((start ++ ones) ++ range ∷ []) goal) whole
+      ap (λ n. flat_map (taken_behind N S goal (start ++ ones) objects) (first_open N S start goal n)) (sym (add-one count))
+      ∙ ap (flat_map (taken_behind N S goal (start ++ ones) objects)) (filter-more (λ number. may_yet_begin N S (choice N start number) goal) count)
+      ∙ flat_map-append (taken_behind N S goal (start ++ ones) objects) (first_open N S start goal count) _
+      ∙ ap (λ front. front ++ flat_map (taken_behind N S goal (start ++ ones) objects) (if may_yet_begin N S (choice N start count) goal then count ∷ [] else [])) (up-to count (omega (arith, within)))
+      ∙ by (may_yet_begin N S (choice N start count) goal) refl
+      ∙ ap (first_open N S ((start ++ ones) ++ range ∷ []) goal) whole
     where
       whole : count * length (range_at N range) + length (range_at N range) ≡ suc count * length (range_at N range)
       whole = omega (arith, suc-mul count (length (range_at N range)))
 
-      by : (may : Bool) → may_begin N S (choice N start count) goal ≡ may
+      by : (may : Bool) → may_yet_begin N S (choice N start count) goal ≡ may
           → wide (count * length objects) ++ flat_map (taken_behind N S goal (start ++ ones) objects) (if may then count ∷ [] else []) ≡ wide (count * length objects + length objects)
       by true is =
           ap (λ more. wide (count * length objects) ++ more) (append-nil (taken_behind N S goal (start ++ ones) objects count))
-          ∙ sym (filter-behind (λ number. may_begin N S (choice N ((start ++ ones) ++ range ∷ []) number) goal) (may_take N S goal (choice N (start ++ ones) count) objects) (count * length objects) (length objects)
-          (λ place below. ap (λ slots. may_begin N S slots goal) (choice-behind count place (omega (arith, within)) below)))
+          ∙ sym (filter-behind (λ number. may_yet_begin N S (choice N ((start ++ ones) ++ range ∷ []) number) goal) (may_take N S goal (choice N (start ++ ones) count) objects) (count * length objects) (length objects)
+          (λ place below. ap (λ slots. may_yet_begin N S slots goal) (choice-behind count place (omega (arith, within)) below)))
       by false is =
           append-nil (wide (count * length objects))
-          ∙ sym (none-behind (λ number. may_begin N S (choice N ((start ++ ones) ++ range ∷ []) number) goal) (count * length objects) (length objects) (λ place below. behind-fails count place (omega (arith, within)) below is))
+          ∙ sym (none-behind (λ number. may_yet_begin N S (choice N ((start ++ ones) ++ range ∷ []) number) goal) (count * length objects) (length objects) (λ place below. behind-fails count place (omega (arith, within)) below is))
 
-  all-behind : flat_map (taken_behind N S goal (start ++ ones) objects) (candidates_of N S start goal) ≡ candidates_of N S ((start ++ ones) ++ range ∷ []) goal
+  all-behind : flat_map (taken_behind N S goal (start ++ ones) objects) (open_choices N S start goal) ≡ open_choices N S ((start ++ ones) ++ range ∷ []) goal
   all-behind =
       up-to (choice_count N start) (omega arith)
-      ∙ ap (first_candidates N S ((start ++ ones) ++ range ∷ []) goal) (sym (count-append N (start ++ ones) (range ∷ []) ∙ (λ i. count-before i * count-one N range i)))
+      ∙ ap (first_open N S ((start ++ ones) ++ range ∷ []) goal) (sym (count-append N (start ++ ones) (range ∷ []) ∙ (λ i. count-before i * count-one N range i)))
 
 -- ---- places of ranges
 
@@ -225,12 +230,12 @@ module _ (N : Numbers) (ranges : List ℕ) where
     count-between = ap (choice_count N) (before-last place last on within) ∙ count-before N S goal (take place ranges) (drop place (take last ranges)) 0 ones
 
     -- the candidates of all ranges up to the last are those that come behind the ones of the ranges before the place
-    pub candidates-more : flat_map (taken_behind N S goal (take last ranges) (range_at N (get_or ranges last 0))) (candidates_of N S (take place ranges) goal) ≡ candidates_of N S (take (last + 1) ranges) goal
+    pub candidates-more : flat_map (taken_behind N S goal (take last ranges) (range_at N (get_or ranges last 0))) (open_choices N S (take place ranges) goal) ≡ open_choices N S (take (last + 1) ranges) goal
     candidates-more =
-        ap (λ before. flat_map (taken_behind N S goal before (range_at N (get_or ranges last 0))) (candidates_of N S (take place ranges) goal)) (before-last place last on within)
+        ap (λ before. flat_map (taken_behind N S goal before (range_at N (get_or ranges last 0))) (open_choices N S (take place ranges) goal)) (before-last place last on within)
         ∙ all-behind N S goal (take place ranges) (drop place (take last ranges)) (get_or ranges last 0) ones
-        ∙ ap (λ front. candidates_of N S (front ++ get_or ranges last 0 ∷ []) goal) (sym (before-last place last on within))
-        ∙ ap (λ all. candidates_of N S all goal) (sym (take_more ranges last 0 within))
+        ∙ ap (λ front. open_choices N S (front ++ get_or ranges last 0 ∷ []) goal) (sym (before-last place last on within))
+        ∙ ap (λ all. open_choices N S all goal) (sym (take_more ranges last 0 within))
 
     -- how many choices of all ranges up to the last there are
     module _ (items : List ℕ) (count : ℕ) (here : items ≡ range_at N (get_or ranges last 0)) (counted : count ≡ choice_count N (take place ranges)) where
@@ -261,6 +266,6 @@ taken-by N S goal slots objects first count taken before may is so_far =
     (λ i. so_far i ++ (if sym is i then (first + count) ∷ [] else [])) ∙ taken-more N S goal slots objects first count taken
 
 -- the choice of no object
-pub none-chosen : (N : Numbers) (S : Statics) (goal : NumberedGoal) (may : Bool) → may_begin N S [] goal ≡ may → (if may then 0 ∷ [] else []) ≡ candidates_of N S [] goal
+pub none-chosen : (N : Numbers) (S : Statics) (goal : NumberedGoal) (may : Bool) → may_yet_begin N S [] goal ≡ may → (if may then 0 ∷ [] else []) ≡ open_choices N S [] goal
 unfolding choice_count choice
 none-chosen N S goal may is = ap (λ passes. if passes then 0 ∷ [] else []) (sym is)

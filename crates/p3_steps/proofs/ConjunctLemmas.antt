@@ -8,7 +8,7 @@ use Rattle.p3_numbers.specs.declared.condition.NumberedCondition.{NumberedCondit
 use Rattle.p3_numbers.specs.declared.numbers.Numbers.{Numbers}
 use Rattle.p3_expansion.specs.declared.statics.Statics.{Statics}
 use Rattle.p3_steps.specs.Conjuncts.{all_may, JoinsWhat, Joins}
-use Rattle.p3_steps.specs.Possible.{may_be}
+use Rattle.p3_steps.specs.Possible.{may_yet_be}
 
 and-true : (a : Bool) → a ≡ (a && true)
 and-true true = refl
@@ -24,8 +24,8 @@ joins-nothing found N S slots = and-true (all_may N S slots found)
 -- one condition more
 pub joins-one : (found new : List (Bor NumberedCondition)) (condition : Bor NumberedCondition) → new ≡ found ++ condition ∷ [] → Joins condition.now found new
 joins-one found new condition is N S slots =
-    ap (all_may N S slots) is ∙ list_all-append (λ (one : Bor NumberedCondition). may_be N S slots one.now true) found (condition ∷ [])
-    ∙ ap (λ more. all_may N S slots found && more) (sym (and-true (may_be N S slots condition.now true)))
+    ap (all_may N S slots) is ∙ list_all-append (λ (one : Bor NumberedCondition). may_yet_be N S slots one.now true) found (condition ∷ [])
+    ∙ ap (λ more. all_may N S slots found && more) (sym (and-true (may_yet_be N S slots condition.now true)))
 
 -- one part more
 pub joins-more : {A : Type 0} (may : Numbers → Statics → Slots → A → Bool) (parts : List A) (at : ℕ) (part : A) (old found new : List (Bor NumberedCondition)) → at < length parts → part ≡ get_or parts at part

@@ -3,6 +3,8 @@ pub mod CandidateLemmas
 pub mod ConjunctLemmas
 pub mod CostLaws
 pub mod CostLemmas
+pub mod EachLemmas
+pub mod LateLemmas
 pub mod LinkLemmas
 pub mod MarkLemmas
 pub mod PossibleLaws

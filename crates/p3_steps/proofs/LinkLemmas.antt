@@ -19,7 +19,7 @@ use Rattle.p3_expansion.specs.Statics.{is_static, is_decided}
 use Rattle.p3_expansion.specs.declared.statics.Statics.{Statics}
 use Rattle.p3_steps.specs.Conjuncts.{AreConjuncts}
 use Rattle.p3_steps.specs.Links.{is_newest, is_older, is_ready, word_at, IsNewestPlace, IsKeyPlace, file_at, is_filed, AreFiled, Files, words_at, row_at, TellsOf, TellsOfAtom, Tells}
-use Rattle.p3_steps.specs.Possible.{is_chosen, are_chosen, is_at_start, may_be}
+use Rattle.p3_steps.specs.Possible.{is_chosen, are_chosen, is_at_start, may_yet_be}
 use Rattle.p3_steps.specs.declared.links.Links.{Links}
 
 -- ---- values of arguments
@@ -206,5 +206,5 @@ pub tells-goal : (N : Numbers) (S : Statics) (goal : NumberedGoal) (count : ℕ)
     → (links : Links) → TellsOf N S count one.now links → Tells N S goal count links
 tells-goal N S goal count conjuncts are i one within read links tells slots object size missing =
     are N S (slots ++ object ∷ [])
-    ∙ list_all_at (λ (conjunct : Bor NumberedCondition). may_be N S (slots ++ object ∷ []) conjunct.now true) conjuncts i one within
-    (ap (λ (conjunct : Bor NumberedCondition). may_be N S (slots ++ object ∷ []) conjunct.now true) (sym read) ∙ tells slots object size missing)
+    ∙ list_all_at (λ (conjunct : Bor NumberedCondition). may_yet_be N S (slots ++ object ∷ []) conjunct.now true) conjuncts i one within
+    (ap (λ (conjunct : Bor NumberedCondition). may_yet_be N S (slots ++ object ∷ []) conjunct.now true) (sym read) ∙ tells slots object size missing)

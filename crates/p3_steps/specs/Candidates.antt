@@ -6,25 +6,32 @@ use Rattle.p3_numbers.specs.Slots.{Slots}
 use Rattle.p3_numbers.specs.declared.goal.NumberedGoal.{NumberedGoal}
 use Rattle.p3_numbers.specs.declared.numbers.Numbers.{Numbers}
 use Rattle.p3_expansion.specs.declared.statics.Statics.{Statics}
-use Rattle.p3_steps.specs.Possible.{may_begin}
-
--- the first so many numbers of choices that may begin
-abbrev pub first_candidates : Numbers → Statics → List ℕ → NumberedGoal → ℕ → List ℕ
-first_candidates N S ranges goal count = filter (λ number. may_begin N S (choice N ranges number) goal) (range_with_len 0 count)
+use Rattle.p3_steps.specs.Possible.{may_begin, may_yet_begin}
 
 -- the numbers of all choices that may begin, rising
 abbrev pub candidates_of : Numbers → Statics → List ℕ → NumberedGoal → List ℕ
-candidates_of N S ranges goal = first_candidates N S ranges goal (choice_count N ranges)
+candidates_of N S ranges goal = filter (λ number. may_begin N S (choice N ranges number) goal) (range_with_len 0 (choice_count N ranges))
 
 -- the choices of these numbers, which follow on so many, that may begin
 abbrev pub candidates_among : Numbers → Statics → List ℕ → NumberedGoal → ℕ → List ℕ → List ℕ
 candidates_among N S ranges goal first those = filter (λ number. may_begin N S (choice N ranges number) goal) (map (λ number. number - first) those)
 
+-- ---- those that are open, as they may yet begin without the objects of quantifiers
+
+abbrev pub first_open : Numbers → Statics → List ℕ → NumberedGoal → ℕ → List ℕ
+first_open N S ranges goal count = filter (λ number. may_yet_begin N S (choice N ranges number) goal) (range_with_len 0 count)
+
+abbrev pub open_choices : Numbers → Statics → List ℕ → NumberedGoal → List ℕ
+open_choices N S ranges goal = first_open N S ranges goal (choice_count N ranges)
+
+abbrev pub open_among : Numbers → Statics → List ℕ → NumberedGoal → ℕ → List ℕ → List ℕ
+open_among N S ranges goal first those = filter (λ number. may_yet_begin N S (choice N ranges number) goal) (map (λ number. number - first) those)
+
 -- ---- one object more
 
 -- the goal may begin where the object at the place comes behind those in the slots
 abbrev pub may_take : Numbers → Statics → NumberedGoal → Slots → List ℕ → ℕ → Bool
-may_take N S goal slots objects place = may_begin N S (slots ++ slice_index_or objects place 0 ∷ []) goal
+may_take N S goal slots objects place = may_yet_begin N S (slots ++ slice_index_or objects place 0 ∷ []) goal
 
 -- the numbers, on from the first, of the first so many objects that may come behind those in the slots
 abbrev pub first_taken : Numbers → Statics → NumberedGoal → Slots → List ℕ → ℕ → ℕ → List ℕ
@@ -35,7 +42,7 @@ all_taken N S goal slots objects first = first_taken N S goal slots objects firs
 
 -- with an object that has a name and is not among these the goal cannot begin
 abbrev pub RulesOut : Numbers → Statics → NumberedGoal → Slots → List ℕ → Type 0
-RulesOut N S goal slots row = (object : ℕ) → object < length N.objects → list_any (λ one. one == object) row ≡ false → may_begin N S (slots ++ object ∷ []) goal ≡ false
+RulesOut N S goal slots row = (object : ℕ) → object < length N.objects → list_any (λ one. one == object) row ≡ false → may_yet_begin N S (slots ++ object ∷ []) goal ≡ false
 
 -- those behind a choice of one object of each range before
 abbrev pub taken_behind : Numbers → Statics → NumberedGoal → List ℕ → List ℕ → ℕ → List ℕ
@@ -54,4 +61,4 @@ pub record Marks (row : List ℕ) (old new : List Bool) : Type 0 where
 
 -- with an object that is not marked the goal cannot begin
 abbrev pub RulesUnmarked : Numbers → Statics → NumberedGoal → Slots → List Bool → Type 0
-RulesUnmarked N S goal slots marks = (object : ℕ) → is_unmarked marks object ≡ true → may_begin N S (slots ++ object ∷ []) goal ≡ false
+RulesUnmarked N S goal slots marks = (object : ℕ) → is_unmarked marks object ≡ true → may_yet_begin N S (slots ++ object ∷ []) goal ≡ false

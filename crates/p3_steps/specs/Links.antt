@@ -10,7 +10,7 @@ use Rattle.p3_numbers.specs.declared.numbers.Numbers.{Numbers}
 use Rattle.p3_expansion.specs.Atoms.{GroundAtom, atom_at}
 use Rattle.p3_expansion.specs.Statics.{is_decided}
 use Rattle.p3_expansion.specs.declared.statics.Statics.{Statics}
-use Rattle.p3_steps.specs.Possible.{atom_may, may_be, may_begin}
+use Rattle.p3_steps.specs.Possible.{atom_may, may_yet_be, may_yet_begin}
 use Rattle.p3_steps.specs.declared.links.Links.{Links}
 
 -- ---- arguments, where so many variables have their objects and one more is to get its
@@ -79,11 +79,11 @@ is_missing N S links slots object =
 
 -- the condition cannot hold with an object that is missing
 abbrev pub TellsOf : Numbers → Statics → ℕ → NumberedCondition → Links → Type 0
-TellsOf N S count condition links = (slots : Slots) (object : ℕ) → length slots ≡ count → is_missing N S links slots object ≡ true → may_be N S (slots ++ object ∷ []) condition true ≡ false
+TellsOf N S count condition links = (slots : Slots) (object : ℕ) → length slots ≡ count → is_missing N S links slots object ≡ true → may_yet_be N S (slots ++ object ∷ []) condition true ≡ false
 
 abbrev pub TellsOfAtom : Numbers → Statics → ℕ → ℕ → List NumberedArgument → Links → Type 0
 TellsOfAtom N S count predicate args links = (slots : Slots) (object : ℕ) → length slots ≡ count → is_missing N S links slots object ≡ true → atom_may N S (slots ++ object ∷ []) predicate args true ≡ false
 
 -- nor can the goal begin
 abbrev pub Tells : Numbers → Statics → NumberedGoal → ℕ → Links → Type 0
-Tells N S goal count links = (slots : Slots) (object : ℕ) → length slots ≡ count → is_missing N S links slots object ≡ true → may_begin N S (slots ++ object ∷ []) goal ≡ false
+Tells N S goal count links = (slots : Slots) (object : ℕ) → length slots ≡ count → is_missing N S links slots object ≡ true → may_yet_begin N S (slots ++ object ∷ []) goal ≡ false

@@ -1,11 +1,11 @@
--- What may be so where some objects are still to be chosen: what no step changes is known as soon as its objects are chosen.
+-- What may be so where all objects are chosen, or some are still to be: what no step changes is known as soon as its objects are chosen.
 use Rattle.std.specs.Prelude.{◌≡◌, ◌==◌, ℕ, nat_lt, Bool, true, false, not, ◌&&◌, ◌||◌, List, [], ◌∷◌, ◌++◌, length, flat_map, bytes_eq, if◌then◌else◌}
 use Rattle.std.specs.List.{list_any, list_all}
 use Rattle.p3_task.specs.States.{State}
 use Rattle.p3_numbers.specs.Conditions.{met}
 use Rattle.p3_numbers.specs.Folds.{fold_condition, fold_goal}
 use Rattle.p3_numbers.specs.Goals.{hard_met}
-use Rattle.p3_numbers.specs.Slots.{Slots, value_of}
+use Rattle.p3_numbers.specs.Slots.{Slots, value_of, bound}
 use Rattle.p3_numbers.specs.declared.condition.NumberedArgument.{NumberedArgument}
 use Rattle.p3_numbers.specs.declared.condition.NumberedArgument.TheVariants.{Slot, Object}
 use Rattle.p3_numbers.specs.declared.condition.NumberedCondition.{NumberedCondition, NumberedCondition-F}
@@ -46,30 +46,48 @@ atom_may N S slots predicate args wish = not (is_known N S slots predicate args)
 abbrev pub equality_may : Slots → NumberedArgument → NumberedArgument → Bool → Bool
 equality_may slots left right wish = not (is_chosen slots left && is_chosen slots right) || has_truth wish (value_of slots left == value_of slots right)
 
--- objects of quantifiers are never chosen, and their ranges may be empty
-abbrev pub may_layer : Numbers → Statics → Slots → NumberedCondition-F (Bool → Bool) → Bool → Bool
-may_layer N S slots (layer.Atom predicate args) wish = atom_may N S slots predicate args wish
-may_layer N S slots (layer.Equal left right) wish = equality_may slots left right wish
-may_layer N S slots (layer.And parts) wish = each_or_some wish (λ part. part wish) parts
-may_layer N S slots (layer.Or parts) wish = each_or_some (not wish) (λ part. part wish) parts
-may_layer N S slots (layer.Not part) wish = part (not wish)
-may_layer N S slots (layer.Imply first second) wish = both_or_one (not wish) (first (not wish)) (second wish)
-may_layer N S slots (layer.Exists ranges body) wish = not wish || body true
-may_layer N S slots (layer.Forall ranges body) wish = wish || body false
+-- what stands under a quantifier may have it at each choice of objects, or else at some; before the objects of all variables outside are chosen, those inside are not, and there may be none
+abbrev pub bodies_may : Numbers → Bool → Bool → (Slots → Bool) → Slots → List ℕ → Bool
+bodies_may N true every body slots ranges = each_or_some every body (bound N slots ranges)
+bodies_may N false every body slots ranges = every || body slots
 
--- the condition may have the truth
-unfoldable pub may_be : Numbers → Statics → Slots → NumberedCondition → Bool → Bool
-may_be N S slots condition wish = fold_condition (may_layer N S slots) condition wish
+abbrev pub may_layer : Numbers → Statics → Bool → NumberedCondition-F (Slots → Bool → Bool) → Slots → Bool → Bool
+may_layer N S whole (layer.Atom predicate args) slots wish = atom_may N S slots predicate args wish
+may_layer N S whole (layer.Equal left right) slots wish = equality_may slots left right wish
+may_layer N S whole (layer.And parts) slots wish = each_or_some wish (λ part. part slots wish) parts
+may_layer N S whole (layer.Or parts) slots wish = each_or_some (not wish) (λ part. part slots wish) parts
+may_layer N S whole (layer.Not part) slots wish = part slots (not wish)
+may_layer N S whole (layer.Imply first second) slots wish = both_or_one (not wish) (first slots (not wish)) (second slots wish)
+may_layer N S whole (layer.Exists ranges body) slots wish = bodies_may N whole (not wish) (λ inner. body inner wish) slots ranges
+may_layer N S whole (layer.Forall ranges body) slots wish = bodies_may N whole wish (λ inner. body inner wish) slots ranges
 
-abbrev pub may_begin_layer : Numbers → Statics → Slots → NumberedGoal-F Bool → Bool
-may_begin_layer N S slots (goal_layer.Plain condition) = may_be N S slots condition true
-may_begin_layer N S slots (goal_layer.Both parts) = list_all (λ part. part) parts
-may_begin_layer N S slots (goal_layer.Each ranges body) = true
-may_begin_layer N S slots (goal_layer.Soft preference) = true
+-- the condition may have the truth, where the slots have the whole of the variables outside it or the first of them
+unfoldable pub condition_may : Numbers → Statics → Bool → Slots → NumberedCondition → Bool → Bool
+condition_may N S whole slots condition wish = fold_condition (may_layer N S whole) condition slots wish
+
+abbrev pub goal_may_layer : Numbers → Statics → Bool → NumberedGoal-F (Slots → Bool) → Slots → Bool
+goal_may_layer N S whole (goal_layer.Plain condition) slots = condition_may N S whole slots condition true
+goal_may_layer N S whole (goal_layer.Both parts) slots = list_all (λ part. part slots) parts
+goal_may_layer N S whole (goal_layer.Each ranges body) slots = bodies_may N whole true body slots ranges
+goal_may_layer N S whole (goal_layer.Soft preference) slots = true
 
 -- the hard part of a precondition may hold
-unfoldable pub may_begin : Numbers → Statics → Slots → NumberedGoal → Bool
-may_begin N S slots goal = fold_goal (may_begin_layer N S slots) goal
+unfoldable pub goal_may : Numbers → Statics → Bool → Slots → NumberedGoal → Bool
+goal_may N S whole slots goal = fold_goal (goal_may_layer N S whole) goal slots
+
+-- where the objects of all variables outside are chosen
+abbrev pub may_be : Numbers → Statics → Slots → NumberedCondition → Bool → Bool
+may_be N S slots condition wish = condition_may N S true slots condition wish
+
+abbrev pub may_begin : Numbers → Statics → Slots → NumberedGoal → Bool
+may_begin N S slots goal = goal_may N S true slots goal
+
+-- where some are still to be chosen
+abbrev pub may_yet_be : Numbers → Statics → Slots → NumberedCondition → Bool → Bool
+may_yet_be N S slots condition wish = condition_may N S false slots condition wish
+
+abbrev pub may_yet_begin : Numbers → Statics → Slots → NumberedGoal → Bool
+may_yet_begin N S slots goal = goal_may N S false slots goal
 
 -- ---- the atoms that `and` alone joins and whose objects are chosen
 
@@ -101,14 +119,21 @@ is_possible N S atom = not (is_decided N S atom) || is_at_start S atom
 
 -- ---- the laws
 
--- what holds in a state where all that no step changes is as at the start was possible before all objects were chosen
+-- what holds in a state where all that no step changes is as at the start is possible
 abbrev pub MayBeWhereMet : Type 0
-MayBeWhereMet = (N : Numbers) (S : Statics) (s : State) → IsSettled N S s → (slots rest : Slots) (condition : NumberedCondition) (wish : Bool)
-    → met N s (slots ++ rest) condition ≡ wish → may_be N S slots condition wish ≡ true
+MayBeWhereMet = (N : Numbers) (S : Statics) (s : State) → IsSettled N S s → (slots : Slots) (condition : NumberedCondition) (wish : Bool)
+    → met N s slots condition ≡ wish → may_be N S slots condition wish ≡ true
 
 abbrev pub MayBeginWhereMet : Type 0
-MayBeginWhereMet = (N : Numbers) (S : Statics) (s : State) → IsSettled N S s → (slots rest : Slots) (goal : NumberedGoal)
-    → hard_met N s (slots ++ rest) goal ≡ true → may_begin N S slots goal ≡ true
+MayBeginWhereMet = (N : Numbers) (S : Statics) (s : State) → IsSettled N S s → (slots : Slots) (goal : NumberedGoal)
+    → hard_met N s slots goal ≡ true → may_begin N S slots goal ≡ true
+
+-- what is possible was so before all objects were chosen
+abbrev pub MayBeWhereYet : Type 0
+MayBeWhereYet = (N : Numbers) (S : Statics) (slots rest : Slots) (condition : NumberedCondition) (wish : Bool) → may_be N S (slots ++ rest) condition wish ≡ true → may_yet_be N S slots condition wish ≡ true
+
+abbrev pub MayBeginWhereYet : Type 0
+MayBeginWhereYet = (N : Numbers) (S : Statics) (slots rest : Slots) (goal : NumberedGoal) → may_begin N S (slots ++ rest) goal ≡ true → may_yet_begin N S slots goal ≡ true
 
 -- what `and` alone joins in what may begin is possible
 abbrev pub JoinedArePossible : Type 0

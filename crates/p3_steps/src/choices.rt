@@ -1,21 +1,26 @@
 //! The choices of an action's arguments that may begin.
 
-ghost use Rattle.std.specs.Prelude.{◌≡◌, ◌<◌, ◌≤◌, ◌*◌, ◌+◌, ◌++◌, [], ◌∷◌, All, drop, flat_map, if◌then◌else◌, length, take, IfOk, IfSome, OnOk};
+ghost use Rattle.std.specs.Prelude.{◌≡◌, ◌<◌, ◌≤◌, ◌*◌, ◌+◌, ◌++◌, [], ◌∷◌, true, All, drop, flat_map, if◌then◌else◌, length, take, IfOk, IfSome, OnOk};
+ghost use Rattle.std.specs.List.{filter};
 ghost use Rattle.p3_task.specs.Sides.{step_count_limit};
-ghost use Rattle.p3_numbers.specs.Choices.{choice_count as count_of};
+ghost use Rattle.p3_numbers.specs.Choices.{choice, choice_count as count_of};
 ghost use Rattle.p3_steps.specs.Candidates.{
   Marks,
   RulesUnmarked,
   all_taken,
-  candidates_among as among,
+  candidates_among as begin_among,
   candidates_of,
   is_unmarked as unmarked,
+  open_among as among,
+  open_choices as all_open,
   taken_behind,
 };
+ghost use Rattle.p3_steps.specs.Late.{all_begin as all_may_begin};
 ghost use Rattle.p3_steps.specs.Links.{Tells};
-ghost use Rattle.p3_steps.specs.Possible.{may_begin};
+ghost use Rattle.p3_steps.specs.Possible.{may_begin, may_yet_begin};
 
 use crate::conjuncts::Test;
+use crate::late::{all_begin, late_parts};
 use crate::links::{Links, all_links, shortest_row};
 use p3_base::NoMemory;
 use p3_expansion::{Statics, choice_count, objects_of, place_choice};
@@ -67,7 +72,7 @@ fn may_take(
     requires { IfSome marks (λ those. RulesUnmarked test.now.numbers.now test.now.statics.now
         test.now.goal.now slots.old.items those.now) }
     ensures slots { OnOk result (slots.new.items ≡ slots.old.items) }
-    ensures may { IfOk result (λ may. may ≡ may_begin test.now.numbers.now
+    ensures may { IfOk result (λ may. may ≡ may_yet_begin test.now.numbers.now
         test.now.statics.now (slots.old.items ++ object ∷ []) test.now.goal.now) }
 {
     if let Some(those) = marks {
@@ -77,7 +82,7 @@ fn may_take(
     }
     let size = slots.len();
     slots.push(object)?;
-    let may = test.may_begin(words, slots.as_slice())?;
+    let may = test.may_yet_begin(words, slots.as_slice())?;
     slots.truncate(size);
     Ok(may)
 }
@@ -212,21 +217,21 @@ fn next_wide(numbers: &Numbers, ranges: &[u32], place: usize) -> usize
 /// The choices of no object at which a precondition may begin: the one that there is, or none.
 fn first_kept(alloc: Global, test: &Test) -> Result<Vec<u32>, NoMemory>
     ensures { IfOk result (λ kept. kept.items
-        ≡ candidates_of test.now.numbers.now test.now.statics.now [] test.now.goal.now) }
+        ≡ all_open test.now.numbers.now test.now.statics.now [] test.now.goal.now) }
 {
     let mut words = Vec::new(alloc);
     let slots = Vec::new(alloc);
     let mut kept = Vec::new(alloc);
-    if test.may_begin(&mut words, slots.as_slice())? {
+    if test.may_yet_begin(&mut words, slots.as_slice())? {
         kept.push(0)?;
     }
     Ok(kept)
 }
 
-/// The numbers of the choices of one object of each range at which a precondition's hard part may
-/// hold in some state that keeps what no step changes, rising. A range is added after another, to
+/// The numbers of the choices of one object of each range at which a precondition may begin as far
+/// as it tells without the objects of its quantifiers, rising. A range is added after another, to
 /// those choices alone that are not ruled out before; ranges of one object go with the next one.
-pub(crate) fn candidates(
+fn open_choices(
     alloc: Global,
     numbers: &Numbers,
     statics: &Statics,
@@ -235,7 +240,7 @@ pub(crate) fn candidates(
 ) -> Result<Vec<u32>, NoMemory>
     requires { count_of numbers.now ranges.now ≤ step_count_limit }
     ensures { IfOk result (λ kept. kept.items
-        ≡ candidates_of numbers.now statics.now ranges.now goal.now) }
+        ≡ all_open numbers.now statics.now ranges.now goal.now) }
 {
     if choice_count(numbers, ranges)? == 0 {
         return Ok(Vec::new(alloc));
@@ -272,9 +277,9 @@ fn keep_choice(kept: &mut Vec<u32>, choice: u32, may: bool) -> Result<(), NoMemo
     Ok(())
 }
 
-/// The choices of these numbers, which follow on those of so many steps, at which a precondition's
-/// hard part may hold in some state that keeps what no step changes.
-pub(crate) fn candidates_among(
+/// The choices of these numbers, which follow on those of so many steps, at which a precondition
+/// may begin as far as it tells without the objects of its quantifiers.
+fn open_among(
     alloc: Global,
     numbers: &Numbers,
     statics: &Statics,
@@ -296,8 +301,94 @@ pub(crate) fn candidates_among(
     for number in those {
         let choice = *number - first;
         place_choice(&mut slots, 0, numbers, ranges, count, choice as usize)?;
-        let may = test.may_begin(&mut words, slots.as_slice())?;
+        let may = test.may_yet_begin(&mut words, slots.as_slice())?;
         keep_choice(&mut kept, choice, may)?;
     }
     Ok(kept)
+}
+
+/// Those of the choices at which all of the parts may begin.
+fn sifted(
+    alloc: Global,
+    numbers: &Numbers,
+    statics: &Statics,
+    ranges: &[u32],
+    late: &[&NumberedGoal],
+    choices: &[u32],
+) -> Result<Vec<u32>, NoMemory>
+    requires { All (λ number. number < count_of numbers.now ranges.now) choices.now }
+    ensures { IfOk result (λ kept. kept.items ≡ filter (λ number. all_may_begin numbers.now
+        statics.now (choice numbers.now ranges.now number) late.now) choices.now) }
+{
+    let count = choice_count(numbers, ranges)?;
+    let mut words = Vec::new(alloc);
+    let mut slots = Vec::new(alloc);
+    let mut kept = Vec::new(alloc);
+    for choice in choices {
+        place_choice(&mut slots, 0, numbers, ranges, count, *choice as usize)?;
+        let may = all_begin(numbers, statics, &mut words, slots.as_slice(), late)?;
+        keep_choice(&mut kept, *choice, may)?;
+    }
+    Ok(kept)
+}
+
+/// Those of the choices, at which a precondition could begin without the objects of its
+/// quantifiers, at which it may begin with them.
+fn begun(
+    alloc: Global,
+    numbers: &Numbers,
+    statics: &Statics,
+    ranges: &[u32],
+    goal: &NumberedGoal,
+    choices: Vec<u32>,
+) -> Result<Vec<u32>, NoMemory>
+    requires within { All (λ number. number < count_of numbers.now ranges.now) choices.items }
+    requires yet { All (λ number. may_yet_begin numbers.now statics.now
+        (choice numbers.now ranges.now number) goal.now ≡ true) choices.items }
+    ensures { IfOk result (λ kept. kept.items ≡ filter (λ number. may_begin numbers.now
+        statics.now (choice numbers.now ranges.now number) goal.now) choices.items) }
+{
+    let late = late_parts(alloc, numbers, statics, goal)?;
+    let late = late.as_slice();
+    if late.is_empty() {
+        return Ok(choices);
+    }
+    sifted(alloc, numbers, statics, ranges, late, choices.as_slice())
+}
+
+/// The numbers of the choices of one object of each range at which a precondition's hard part may
+/// hold in some state that keeps what no step changes, rising.
+pub(crate) fn candidates(
+    alloc: Global,
+    numbers: &Numbers,
+    statics: &Statics,
+    ranges: &[u32],
+    goal: &NumberedGoal,
+) -> Result<Vec<u32>, NoMemory>
+    requires { count_of numbers.now ranges.now ≤ step_count_limit }
+    ensures { IfOk result (λ kept. kept.items
+        ≡ candidates_of numbers.now statics.now ranges.now goal.now) }
+{
+    let choices = open_choices(alloc, numbers, statics, ranges, goal)?;
+    begun(alloc, numbers, statics, ranges, goal, choices)
+}
+
+/// The choices of these numbers, which follow on those of so many steps, at which a precondition's
+/// hard part may hold in some state that keeps what no step changes.
+pub(crate) fn candidates_among(
+    alloc: Global,
+    numbers: &Numbers,
+    statics: &Statics,
+    ranges: &[u32],
+    goal: &NumberedGoal,
+    first: u32,
+    those: &[u32],
+) -> Result<Vec<u32>, NoMemory>
+    requires from { All (λ number. first ≤ number) those.now }
+    requires within { All (λ number. number < first + count_of numbers.now ranges.now) those.now }
+    ensures { IfOk result (λ kept. kept.items
+        ≡ begin_among numbers.now statics.now ranges.now goal.now first those.now) }
+{
+    let choices = open_among(alloc, numbers, statics, ranges, goal, first, those)?;
+    begun(alloc, numbers, statics, ranges, goal, choices)
 }

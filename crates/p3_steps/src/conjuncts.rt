@@ -2,7 +2,7 @@
 
 ghost use Rattle.std.specs.Prelude.{◌≡◌, IfOk, OnOk};
 ghost use Rattle.p3_steps.specs.Conjuncts.{AreConjuncts, Joins, JoinsAll, JoinsAllGoals, JoinsGoal};
-ghost use Rattle.p3_steps.specs.Possible.{may_begin};
+ghost use Rattle.p3_steps.specs.Possible.{may_yet_begin};
 
 use crate::possible::condition_may;
 use p3_base::NoMemory;
@@ -125,13 +125,26 @@ impl<'t> Test<'t> {
         })
     }
 
-    /// Whether the precondition may begin where the first objects are those in the slots.
-    pub(crate) fn may_begin(&self, words: &mut Vec<u32>, slots: &[u32]) -> Result<bool, NoMemory>
+    /// Whether the precondition may yet begin where the first objects are those in the slots.
+    pub(crate) fn may_yet_begin(
+        &self,
+        words: &mut Vec<u32>,
+        slots: &[u32],
+    ) -> Result<bool, NoMemory>
         ensures { IfOk result (λ may. may
-            ≡ may_begin self.now.numbers.now self.now.statics.now slots.now self.now.goal.now) }
+            ≡ may_yet_begin self.now.numbers.now self.now.statics.now slots.now self.now.goal.now) }
     {
         for condition in self.conjuncts.as_slice() {
-            if !condition_may(self.numbers, self.statics, words, slots, condition, true)? {
+            let may = condition_may(
+                self.numbers,
+                self.statics,
+                words,
+                false,
+                slots,
+                condition,
+                true,
+            )?;
+            if !may {
                 return Ok(false);
             }
         }

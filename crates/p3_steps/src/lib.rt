@@ -7,6 +7,7 @@ mod choices;
 mod conjuncts;
 mod cost_laws;
 mod costs;
+mod late;
 mod links;
 mod made;
 mod possible;

@@ -1,65 +1,33 @@
-use Rattle.std.proofs.Common.{◌∙◌, ◌<◌, [], All, take, sym, ap, subst, arith}
-use Rattle.std.specs.Prelude.{flat_map}
-use Rattle.p3_numbers.specs.Choices.{choice_count as count_of}
-use Rattle.p3_steps.specs.Candidates.{candidates_of, taken_behind}
-use Rattle.p3_steps.proofs.CandidateLemmas.{candidates-below, candidates-more, count-between, count-none, few-behind, whole-behind}
+use Rattle.std.proofs.Common.{◌≡◌, ◌∙◌, ◌<◌, true, sym, ap, subst}
+use Rattle.std.specs.List.{All, filter, range_with_len}
+use Rattle.std.proofs.lemmas.Result.{IfOk-weaker}
+use Rattle.p3_numbers.specs.Choices.{choice, choice_count}
+use Rattle.p3_steps.specs.Candidates.{candidates_of}
+use Rattle.p3_steps.specs.Possible.{may_begin, may_yet_begin}
+use Rattle.p3_steps.proofs.CandidateLemmas.{passing-below}
+use Rattle.p3_steps.proofs.LateLemmas.{begin-within, open-pass}
 use Rattle.p3_steps.proofs.choices.candidates.Goals as goal
 
-pub loop-place-init : goal.loop-place-init
-loop-place-init c =
-    let same = c.in_ok-test.ensures in
-    record {
-      within = omega arith;
-      count = count-none c.args.numbers.now;
-      kept = c.in_ok-kept.ensures ∙ (λ i. candidates_of (same.numbers i) (same.statics i) [] (same.goal i));
-    }
-
-pub widened-requires-clause-count : goal.widened-requires-clause-count
-widened-requires-clause-count c =
-    let last = c.next_wide-last in
-    c.loop-place.invariant.count
-    ∙ sym (count-between c.args.numbers.now c.args.ranges.now c.args.statics.now c.args.goal.now c.loop-place.place last.result last.ensures.on last.ensures.within last.ensures.ones)
-    ∙ ap (λ N. count_of N (take last.result c.args.ranges.now)) (sym c.in_ok-test.ensures.numbers)
-
-pub widened-requires-clause-few : goal.widened-requires-clause-few
-widened-requires-clause-few c =
-    few-behind c.args.numbers.now c.args.ranges.now c.args.statics.now c.args.goal.now c.loop-place.place c.next_wide-last.result c.next_wide-last.ensures.on c.next_wide-last.ensures.within
-    c.next_wide-last.ensures.ones c.objects_of-objects.result.now c.loop-place.count c.objects_of-objects.ensures c.loop-place.invariant.count
-    (let counted = c.in_ok-choice_count.ensures in let nonzero = c.if-branch-eq0.false in omega (arith, counted, nonzero)) c.requires
-
-pub widened-requires-clause-within : goal.widened-requires-clause-within
-widened-requires-clause-within c =
+pub begun-requires-clause-within : goal.begun-requires-clause-within
+begun-requires-clause-within c =
     let N = c.args.numbers.now in
     let ranges = c.args.ranges.now in
-    let invariant = c.loop-place.invariant in
-    subst (λ kept. All (λ number. number < c.loop-place.count) kept) (sym (c.as_slice.ensures.value ∙ invariant.kept))
-    (subst (λ count. All (λ number. number < count) (candidates_of N c.args.statics.now (take c.loop-place.place ranges) c.args.goal.now)) (sym invariant.count)
-    (candidates-below N c.args.statics.now (take c.loop-place.place ranges) c.args.goal.now))
+    subst (All (λ number. number < choice_count N ranges)) (sym c.in_ok-choices.ensures) (passing-below (λ number. may_yet_begin N c.args.statics.now (choice N ranges number) c.args.goal.now) (choice_count N ranges))
 
-pub overflow_mul-count : goal.overflow_mul-count
-overflow_mul-count c =
-    let few = few-behind c.args.numbers.now c.args.ranges.now c.args.statics.now c.args.goal.now c.loop-place.place c.next_wide-last.result c.next_wide-last.ensures.on c.next_wide-last.ensures.within
-    c.next_wide-last.ensures.ones c.objects_of-objects.result.now c.loop-place.count c.objects_of-objects.ensures c.loop-place.invariant.count
-    (let counted = c.in_ok-choice_count.ensures in let nonzero = c.if-branch-eq0.false in omega (arith, counted, nonzero)) c.requires
-    in
-    omega (arith, few)
-
-pub loop-place-preserved : goal.loop-place-preserved
-loop-place-preserved c =
+pub begun-requires-clause-yet : goal.begun-requires-clause-yet
+begun-requires-clause-yet c =
     let N = c.args.numbers.now in
     let S = c.args.statics.now in
-    let pre = c.args.goal.now in
     let ranges = c.args.ranges.now in
-    let place = c.loop-place.place in
-    let last = c.next_wide-last.result in
-    let told = c.next_wide-last.ensures in
-    let same = c.in_ok-test.ensures in
-    let low = told.within in
-    record {
-      within = omega (arith, low);
-      count = whole-behind N ranges S pre place last told.on told.within told.ones c.objects_of-objects.result.now c.loop-place.count c.objects_of-objects.ensures c.loop-place.invariant.count;
-      kept =
-          c.in_ok-kept-2.ensures
-          ∙ (λ i. flat_map (taken_behind (same.numbers i) (same.statics i) (same.goal i) (take last ranges) (c.objects_of-objects.ensures i)) ((c.as_slice.ensures.value ∙ c.loop-place.invariant.kept) i))
-          ∙ candidates-more N ranges S pre place last told.on told.within told.ones;
-    }
+    subst (All (λ number. may_yet_begin N S (choice N ranges number) c.args.goal.now ≡ true)) (sym c.in_ok-choices.ensures) (open-pass N S ranges c.args.goal.now (range_with_len 0 (choice_count N ranges)))
+
+pub returns : goal.returns
+returns c =
+    let N = c.args.numbers.now in
+    let S = c.args.statics.now in
+    let ranges = c.args.ranges.now in
+    let pre = c.args.goal.now in
+    let all = range_with_len 0 (choice_count N ranges) in
+    IfOk-weaker c.begun.result (λ kept. kept.items ≡ filter (λ number. may_begin N S (choice N ranges number) pre) c.in_ok-choices.choices.items) (λ kept. kept.items ≡ candidates_of N S ranges pre)
+    (λ kept is. is ∙ ap (filter (λ number. may_begin N S (choice N ranges number) pre)) c.in_ok-choices.ensures ∙ begin-within N S ranges pre all)
+    c.begun.ensures

@@ -1,6 +1,6 @@
 use Rattle.std.proofs.Common.{◌≡◌, drop}
 use Rattle.p3_steps.specs.Conjuncts.{all_may}
-use Rattle.p3_steps.proofs.conjuncts.Test.may_begin.Given as goal
+use Rattle.p3_steps.proofs.conjuncts.Test.may_yet_begin.Given as goal
 
 -- the conditions that are left decide
 abbrev pub invariant-loop-condition : goal.invariant-loop-condition

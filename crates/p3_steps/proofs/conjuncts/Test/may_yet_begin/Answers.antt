@@ -3,7 +3,7 @@ use Rattle.std.proofs.Math.Logic.{∥∥₁_elim}
 use Rattle.std.proofs.Math.Bool.{Bool-set}
 use Rattle.std.proofs.lemmas.List.{drop_all}
 use Rattle.p3_steps.specs.Conjuncts.{all_may}
-use Rattle.p3_steps.proofs.conjuncts.Test.may_begin.Goals as goal
+use Rattle.p3_steps.proofs.conjuncts.Test.may_yet_begin.Goals as goal
 
 pub returns : goal.returns
 returns c =

@@ -1,14 +1,14 @@
 use Rattle.std.proofs.Common.{◌≡◌, ◌≤◌, ◌-◌, length, take}
 use Rattle.p3_numbers.specs.Choices.{choice_count}
-use Rattle.p3_steps.specs.Candidates.{candidates_of}
-use Rattle.p3_steps.proofs.choices.candidates.Given as goal
+use Rattle.p3_steps.specs.Candidates.{open_choices}
+use Rattle.p3_steps.proofs.choices.open_choices.Given as goal
 
 -- the candidates of the ranges passed are kept
 abbrev pub invariant-loop-place : goal.invariant-loop-place
 invariant-loop-place l = record {
   within : l.place ≤ length l.ranges;
   count : l.count ≡ choice_count l.numbers (take l.place l.ranges);
-  kept : l.kept.items ≡ candidates_of l.numbers l.statics (take l.place l.ranges) l.goal;
+  kept : l.kept.items ≡ open_choices l.numbers l.statics (take l.place l.ranges) l.goal;
 }
 
 abbrev pub decreases-loop-place : goal.decreases-loop-place

@@ -1,7 +1,0 @@
-use Rattle.std.proofs.Common.{◌≡◌, take}
-use Rattle.p3_steps.specs.Candidates.{candidates_among}
-use Rattle.p3_steps.proofs.choices.candidates_among.Given as goal
-
--- the numbers passed have their candidates
-abbrev pub invariant-loop-number : goal.invariant-loop-number
-invariant-loop-number l = l.kept.items ≡ candidates_among l.numbers l.statics l.ranges l.goal l.first (take l.number-index l.those)
