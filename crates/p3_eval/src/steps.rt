@@ -1,11 +1,11 @@
 //! The steps of a plan by their numbers.
 
-ghost use Rattle.std.specs.Prelude.{◌≤◌};
+ghost use Rattle.std.specs.Prelude.{◌≡◌, ◌++◌, ◌∷◌, ◌≤◌, [], OnOk};
 ghost use Rattle.p3_run.specs.Runs.{most_steps};
 ghost use Rattle.p3_eval.specs.Judged.{found_count};
 
 use p3_base::NoMemory;
-use p3_plans::{NextStep, PlanReader};
+use p3_plans::{NextStep, PlanFail, PlanReader};
 use p3_task::Step;
 use p3_types::{Checked, Found};
 use std::alloc::Global;
@@ -20,34 +20,52 @@ pub struct Steps {
     pub ghost few: { found_count numbers.items rest ≤ most_steps },
 }
 
+/// Puts a number last.
+fn push(numbers: &mut Vec<u32>, number: u32) -> Result<(), NoMemory>
+    ensures { OnOk result (numbers.new.items ≡ numbers.old.items ++ number ∷ []) }
+{
+    numbers.push(number)?;
+    Ok(())
+}
+
 impl Steps {
-    ghost use Rattle.std.specs.Prelude.{◌≡◌, IfOk, None, length};
+    ghost use Rattle.std.specs.Prelude.{◌≡◌, IfErr, IfOk, None, OnOk, Some, length};
     ghost use Rattle.p3_task.specs.Limits.{step_count};
     ghost use Rattle.p3_task.specs.PlanTexts.{plan_offence};
     ghost use Rattle.p3_task.specs.Sides.{plan_byte_limit, step_count_limit};
+    ghost use Rattle.p3_plans.specs.Drafts.{IfRefused};
     ghost use Rattle.p3_eval.specs.Steps.{AreOfPlan, AreStepsOf, OfPlanText};
 
-    /// Finds the steps of the plan of a text that has no offence.
-    pub fn of_text(alloc: Global, task: &Checked, text: &[u8]) -> Result<Steps, NoMemory>
+    /// Finds the steps of the plan of a text, which is read once.
+    ///
+    /// # Errors
+    ///
+    /// The first offence of the text, or want of memory.
+    pub fn of_text(alloc: Global, task: &Checked, text: &[u8]) -> Result<Steps, PlanFail>
         requires few { step_count task.now.task ≤ step_count_limit }
         requires short { length text.now ≤ plan_byte_limit }
-        requires free { plan_offence text.now ≡ None }
         ensures are { IfOk result (λ steps.
             OfPlanText text.now (λ plan. AreStepsOf task.now.task plan steps)) }
         ensures some { IfOk result (AreOfPlan task.now.task) }
+        ensures free { OnOk result (plan_offence text.now ≡ None) }
+        ensures refused { IfErr result (λ fail.
+            IfRefused fail (λ refusal. plan_offence text.now ≡ Some refusal)) }
     {
         let mut numbers = Vec::new(alloc);
         let mut reader = PlanReader::new(text);
         loop {
             match reader.next() {
                 NextStep::Step(slice) => match task.find_text(slice.text) {
-                    Found::Number(number) => numbers.push(number)?,
-                    found => {
-                        return Ok(Steps {
-                            numbers,
-                            rest: Some(found),
-                        });
-                    }
+                    Found::Number(number) => push(&mut numbers, number)?,
+                    found => match reader.offence() {
+                        None => {
+                            return Ok(Steps {
+                                numbers,
+                                rest: Some(found),
+                            });
+                        }
+                        Some(refusal) => return Err(PlanFail::Refused(refusal)),
+                    },
                 },
                 NextStep::End => {
                     return Ok(Steps {
@@ -55,8 +73,7 @@ impl Steps {
                         rest: None,
                     });
                 }
-                // The text has no offence.
-                NextStep::Bad(_) => unreachable!(),
+                NextStep::Bad(refusal) => return Err(PlanFail::Refused(refusal)),
             }
         }
     }
