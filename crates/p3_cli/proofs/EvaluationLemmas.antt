@@ -8,12 +8,11 @@ use Rattle.p3_task.specs.declared.task.Task.{Task}
 use Rattle.p3_task.proofs.ValidityLemmas.{valid_where_no_fault}
 use Rattle.p3_formula.specs.declared.target.Weights.{Weights}
 use Rattle.p3_formula.specs.declared.task.GroundTask.{GroundTask}
-use Rattle.p3_types.specs.declared.checked.Checked.{Checked}
 use Rattle.p3_ground.specs.StandsFor.{LeavesOutOnlyUnfit, LeftOutAt}
 use Rattle.p3_run.specs.Runs.{Ran, begun}
 use Rattle.p3_eval.specs.Judged.{IsJudged, fault_in}
 use Rattle.p3_eval.specs.Runs.{BelongTogether}
-use Rattle.p3_eval.specs.Steps.{AreStepsOf, OfItsSteps, OfPlanText, OfSteps}
+use Rattle.p3_eval.specs.Steps.{AreStepsOf, OfItsSteps, OfSteps}
 use Rattle.p3_eval.specs.declared.fault.PlanFault.{PlanFault}
 use Rattle.p3_eval.specs.declared.steps.Steps.{Steps}
 use Rattle.p3_explain.specs.Explaining.{IsExplainFail}
@@ -21,11 +20,6 @@ use Rattle.p3_explain.specs.declared.error.ExplainFail.{ExplainFail}
 use Rattle.p3_explain.specs.declared.error.ExplainFail.TheVariants as fail
 use Rattle.p3_cli.specs.Ending.{Ending}
 use Rattle.p3_cli.specs.Explaining.{IsUnfit, TellsFail}
-
--- the steps that are found of a text, for the task that was checked
-pub steps_are : (text other : List ℕ) (one checked : Checked) (steps : Steps) → text ≡ other → one ≡ checked → OfPlanText text (λ plan. AreStepsOf one.task plan steps) → OfPlanText other (λ plan. AreStepsOf checked.task plan steps)
-steps_are text other one checked steps same is are =
-    subst (λ all. OfPlanText all (λ plan. AreStepsOf checked.task plan steps)) same (subst (λ (each : Checked). OfPlanText text (λ plan. AreStepsOf each.task plan steps)) is are)
 
 module _ (T : Task) (G : GroundTask) (w : Weights) (steps : Steps) (old new : Ran) (found : Option PlanFault) (together : BelongTogether T G w) (left : All (LeftOutAt T G) steps.numbers.items)
     (is : old ≡ begun G w) (judged : OfItsSteps old steps (λ task plan. IsJudged task plan old new found)) (plan : Plan) (are : AreStepsOf T plan steps) where

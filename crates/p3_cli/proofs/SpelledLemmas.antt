@@ -1,5 +1,5 @@
 -- What the texts of a task spell, and what is refused of them.
-use Rattle.std.proofs.Common.{◌≡◌, ◌≤◌, ◌∷◌, ◌++◌, Some, None, option_map, length, sym, ap, subst, inl, inr}
+use Rattle.std.proofs.Common.{◌≡◌, ◌≤◌, ◌∷◌, ◌++◌, ◌⊎◌, Some, None, option_map, length, sym, ap, subst, inl, inr}
 use Rattle.p3_base.specs.declared.refusal.Refusal.{Refusal}
 use Rattle.p3_base.specs.declared.refusal.Side.{Side}
 use Rattle.p3_base.specs.declared.refusal.Side.TheVariants.{Source, Written}
@@ -57,6 +57,12 @@ says_more Tells Other more coded.Usage said = said
 -- a refusal that is shown as one thing is shown as another
 pub shows_more : (texts : AllTexts) (Shows Other : Refusal → Type 0) → ((refusal : Refusal) → Shows refusal → Other refusal) → (how : code.Ending) → IsRefusedFor texts Shows how → IsRefusedFor texts Other how
 shows_more texts Shows Other more = says_more (Says texts Shows) (Says texts Other) (λ how said. record { refusal = said.refusal; shows = more said.refusal said.shows; says = said.says })
+
+-- where a task is refused, an offence of the plan is told before
+pub behind : (texts : AllTexts) (Tells : Ending → Type 0) (how result : code.Ending) → ((plan_offence texts.plan ≡ None) × (result ≡ how)) ⊎ IsRefusedFor texts (IsOfPlan texts) result
+    → (plan_offence texts.plan ≡ None → IsRejectedBy Tells how) → ((end : code.Ending) → IsRefusedFor texts (IsOfPlan texts) end → IsRejectedBy Tells end) → IsRejectedBy Tells result
+behind texts Tells how result (inl (free, is)) task plan = subst (IsRejectedBy Tells) (sym is) (task free)
+behind texts Tells how result (inr offence) task plan = plan result offence
 
 -- ---- texts of a side
 

@@ -1,10 +1,13 @@
 //! From the texts of a task to the task with its weights, and with its ground task, where nothing is
 //! refused.
 
-ghost use Rattle.std.specs.Prelude.{◌≡◌, ◌≤◌, IfOk, IfErr, OnOk, None, length};
+ghost use Rattle.std.specs.Prelude.{◌≡◌, ◌≤◌, ◌⊎◌, IfOk, IfErr, OnOk, None, Some, length};
+ghost use Rattle.p3_task.specs.Limits.{step_count};
 ghost use Rattle.p3_task.specs.Offences.{WellFormed};
 ghost use Rattle.p3_task.specs.PlanTexts.{IsPlanText, plan_offence, step_limit};
-ghost use Rattle.p3_task.specs.Sides.{plan_byte_limit};
+ghost use Rattle.p3_task.specs.Sides.{step_count_limit};
+ghost use Rattle.p3_plans.specs.Drafts.{IfRefused};
+ghost use Rattle.p3_eval.specs.Steps.{AreOfPlan, AreStepsOf, OfPlanText};
 ghost use Rattle.p3_cli.specs.Refusing.{
   AreAcceptedFor,
   EndsAs,
@@ -19,8 +22,8 @@ ghost use Rattle.p3_cli.specs.Translation.{CanBeCompiled};
 
 use crate::Ending;
 use crate::texts::Texts;
-use p3_base::{NoMemory, Side};
-use p3_eval::{Accepted, Whole, WholeFail};
+use p3_base::Side;
+use p3_eval::{Accepted, Steps, Whole, WholeFail};
 use p3_outline::ReadFail;
 use p3_plans::{PlanFail, first_plan_offence, read_plan};
 use p3_syntax::{read_domain, read_problem};
@@ -46,30 +49,55 @@ pub(crate) fn spelled_task(alloc: Global, side: Side, texts: &Texts) -> Result<T
     Ok(Task { domain, problem })
 }
 
-/// Looks through the text of the plan for its first offence.
-pub(crate) fn readable_plan(texts: &Texts) -> Result<(), Ending>
+/// Gives the ending of a command whose task is refused so: an offence of the plan is told before.
+pub(crate) fn behind_plan(texts: &Texts, ending: Ending) -> Ending
+    ensures { ((plan_offence texts.now.plan.items ≡ None) × (result ≡ ending))
+        ⊎ IsRefusedFor (all_texts texts.now) (IsOfPlan (all_texts texts.now)) result }
+{
+    match first_plan_offence(texts.plan()) {
+        None => ending,
+        Some(refusal) => texts.refused(&refusal),
+    }
+}
+
+/// Reads the plan.
+pub(crate) fn plan_of(alloc: Global, texts: &Texts) -> Result<Plan, Ending>
+    ensures spelled { IfOk result (IsPlanText texts.now.plan.items) }
+    ensures few { IfOk result (λ plan. length plan ≤ step_limit) }
+    ensures err { IfErr result
+        (IsRefusedFor (all_texts texts.now) (IsOfPlan (all_texts texts.now))) }
+{
+    match read_plan(alloc, texts.plan()) {
+        Ok(plan) => Ok(plan),
+        Err(fail) => Err(not_planned(texts, fail)),
+    }
+}
+
+/// Finds the steps of the plan, for a task of which nothing is refused.
+pub(crate) fn steps_of(alloc: Global, texts: &Texts, checked: &Checked) -> Result<Steps, Ending>
+    requires few { step_count checked.now.task ≤ step_count_limit }
+    ensures are { IfOk result (λ steps. OfPlanText texts.now.plan.items
+        (λ plan. AreStepsOf checked.now.task plan steps)) }
+    ensures some { IfOk result (AreOfPlan checked.now.task) }
     ensures free { OnOk result (plan_offence texts.now.plan.items ≡ None) }
     ensures err { IfErr result
         (IsRefusedFor (all_texts texts.now) (IsOfPlan (all_texts texts.now))) }
 {
-    match first_plan_offence(texts.plan()) {
-        None => Ok(()),
-        Some(refusal) => Err(texts.refused(&refusal)),
+    match Steps::of_text(alloc, checked, texts.plan()) {
+        Ok(steps) => Ok(steps),
+        Err(fail) => Err(not_planned(texts, fail)),
     }
 }
 
-/// Reads the plan of a text that has no offence.
-pub(crate) fn plan_of(alloc: Global, text: &[u8]) -> Result<Plan, NoMemory>
-    requires short { length text.now ≤ plan_byte_limit }
-    requires free { plan_offence text.now ≡ None }
-    ensures spelled { IfOk result (IsPlanText text.now) }
-    ensures few { IfOk result (λ plan. length plan ≤ step_limit) }
+/// Gives the ending where a plan was not read.
+fn not_planned(texts: &Texts, fail: PlanFail) -> Ending
+    requires { IfRefused fail
+        (λ refusal. plan_offence texts.now.plan.items ≡ Some refusal) }
+    ensures { IsRefusedFor (all_texts texts.now) (IsOfPlan (all_texts texts.now)) result }
 {
-    match read_plan(alloc, text) {
-        Ok(plan) => Ok(plan),
-        Err(PlanFail::NoMemory) => Err(NoMemory),
-        // The text has no offence.
-        Err(PlanFail::Refused(_)) => unreachable!(),
+    match fail {
+        PlanFail::Refused(refusal) => texts.refused(&refusal),
+        PlanFail::NoMemory => Ending::OutOfMemory,
     }
 }
 

@@ -46,8 +46,7 @@ pub(crate) fn embed(alloc: Global, texts: &Texts) -> Result<Product, Ending>
     ensures lines { IfOk result (λ product. HasPlanLayout product.made.plan.items) }
     ensures err { IfErr result (IsRejectedPlan (all_texts texts.now)) }
 {
-    let whole = judged_whole(alloc, texts)?;
-    let steps = Steps::of_text(alloc, whole.checked(), texts.plan())?;
+    let (whole, steps) = judged_whole(alloc, texts)?;
     let target = compile(alloc, whole.ground_task(), whole.weights())?;
     let embedded = match embedded(alloc, &whole, &target, &steps) {
         Ok(embedded) => embedded,

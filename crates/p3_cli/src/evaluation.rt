@@ -8,7 +8,7 @@ ghost use Rattle.p3_reports.specs.Faults.{fault_named};
 ghost use Rattle.p3_reports.specs.Reports.{report_text};
 ghost use Rattle.p3_ground.specs.StandsFor.{LeftOutAt};
 ghost use Rattle.p3_eval.specs.Judged.{fault_in};
-ghost use Rattle.p3_eval.specs.Steps.{AreOfPlan, OfSteps};
+ghost use Rattle.p3_eval.specs.Steps.{AreOfPlan, AreStepsOf, OfPlanText, OfSteps};
 ghost use Rattle.p3_cli.specs.Ending.{Invalid};
 ghost use Rattle.p3_cli.specs.Evaluation.{
   IsEvaluation,
@@ -17,18 +17,17 @@ ghost use Rattle.p3_cli.specs.Evaluation.{
   IsReportOf,
   given_plan,
 };
-ghost use Rattle.p3_cli.specs.Refusing.{AreAcceptedFor, IsRefusal, IsRejectedBy, IsSpelled};
-ghost use Rattle.p3_cli.specs.Texts.{all_texts, task_texts};
+ghost use Rattle.p3_cli.specs.Refusing.{AreAcceptedFor, IsRefusal, IsRejectedBy};
+ghost use Rattle.p3_cli.specs.Texts.{all_texts};
 ghost use Rattle.p3_cli.specs.Translation.{CanBeCompiled};
 
 use crate::Ending;
-use crate::acceptance::{accepted, grounded, readable_plan, spelled_task};
+use crate::acceptance::{accepted, behind_plan, grounded, spelled_task, steps_of};
 use crate::report_parts::evaluated_report;
 use crate::texts::Texts;
 use p3_base::Side;
 use p3_eval::{Accepted, Grounded, PlanFault, Steps, Whole};
 use p3_reports::Report;
-use p3_task::Task;
 use p3_watch::named_fault;
 use std::alloc::Global;
 use std::mem::forget;
@@ -41,51 +40,60 @@ pub(crate) fn evaluate(alloc: Global, texts: &Texts) -> Result<Report, Ending>
         (report_text report)) }
     ensures err { IfErr result (IsRejectedPlan (all_texts texts.now)) }
 {
-    let accepted = judged_task(alloc, texts)?;
-    let steps = Steps::of_text(alloc, accepted.checked(), texts.plan())?;
+    let (accepted, steps) = judged_task(alloc, texts)?;
     let report = judged(alloc, &accepted, &steps);
     forget((accepted, steps));
     report
 }
 
-/// Accepts the task for which a plan is judged, where nothing is refused of it and of that plan.
-pub(crate) fn judged_task(alloc: Global, texts: &Texts) -> Result<Accepted, Ending>
-    ensures accepted { IfOk result (λ accepted.
-        AreAcceptedFor Source (all_texts texts.now) accepted.checked.task) }
-    ensures free { OnOk result (plan_offence texts.now.plan.items ≡ None) }
-    ensures err { IfErr result
-        (IsRejectedBy (IsRefusal (given_plan (all_texts texts.now)) (all_texts texts.now))) }
-{
-    let task = readable_task(alloc, texts)?;
-    accepted(alloc, Side::Source, texts, task)
-}
-
-/// Accepts it with its ground task too, by which it can be compiled.
-pub(crate) fn judged_whole(alloc: Global, texts: &Texts) -> Result<Whole, Ending>
-    ensures accepted { IfOk result (λ whole.
-        AreAcceptedFor Source (all_texts texts.now) whole.checked.task) }
-    ensures ready { IfOk result (λ whole.
-        CanBeCompiled whole.checked.task whole.ground_task whole.weights) }
-    ensures free { OnOk result (plan_offence texts.now.plan.items ≡ None) }
-    ensures err { IfErr result
-        (IsRejectedBy (IsRefusal (given_plan (all_texts texts.now)) (all_texts texts.now))) }
-{
-    let task = readable_task(alloc, texts)?;
-    grounded(alloc, Side::Source, texts, task)
-}
-
-/// Reads the task for which a plan is judged, where the texts of both show no refusal by themselves.
-fn readable_task(alloc: Global, texts: &Texts) -> Result<Task, Ending>
-    ensures spelled { IfOk result (IsSpelled (task_texts Source (all_texts texts.now))) }
+/// Accepts the task for which a plan is judged and finds the steps of that plan, where nothing is
+/// refused of both. The plan is read once, for the task where that is accepted.
+pub(crate) fn judged_task(alloc: Global, texts: &Texts) -> Result<(Accepted, Steps), Ending>
+    ensures accepted { IfOk result (λ both.
+        AreAcceptedFor Source (all_texts texts.now) both.0.checked.task) }
+    ensures are { IfOk result (λ both. OfPlanText texts.now.plan.items
+        (λ plan. AreStepsOf both.0.checked.task plan both.1)) }
+    ensures some { IfOk result (λ both. AreOfPlan both.0.checked.task both.1) }
     ensures free { OnOk result (plan_offence texts.now.plan.items ≡ None) }
     ensures err { IfErr result
         (IsRejectedBy (IsRefusal (given_plan (all_texts texts.now)) (all_texts texts.now))) }
 {
     let task = spelled_task(alloc, Side::Source, texts)?;
-    match readable_plan(texts) {
-        Ok(()) => Ok(task),
+    let accepted = match accepted(alloc, Side::Source, texts, task) {
+        Ok(accepted) => accepted,
+        Err(ending) => return Err(behind_plan(texts, ending)),
+    };
+    match steps_of(alloc, texts, accepted.checked()) {
+        Ok(steps) => Ok((accepted, steps)),
         Err(ending) => {
-            drop(task);
+            forget(accepted);
+            Err(ending)
+        }
+    }
+}
+
+/// Accepts it with its ground task too, by which it can be compiled.
+pub(crate) fn judged_whole(alloc: Global, texts: &Texts) -> Result<(Whole, Steps), Ending>
+    ensures accepted { IfOk result (λ both.
+        AreAcceptedFor Source (all_texts texts.now) both.0.checked.task) }
+    ensures ready { IfOk result (λ both.
+        CanBeCompiled both.0.checked.task both.0.ground_task both.0.weights) }
+    ensures are { IfOk result (λ both. OfPlanText texts.now.plan.items
+        (λ plan. AreStepsOf both.0.checked.task plan both.1)) }
+    ensures some { IfOk result (λ both. AreOfPlan both.0.checked.task both.1) }
+    ensures free { OnOk result (plan_offence texts.now.plan.items ≡ None) }
+    ensures err { IfErr result
+        (IsRejectedBy (IsRefusal (given_plan (all_texts texts.now)) (all_texts texts.now))) }
+{
+    let task = spelled_task(alloc, Side::Source, texts)?;
+    let whole = match grounded(alloc, Side::Source, texts, task) {
+        Ok(whole) => whole,
+        Err(ending) => return Err(behind_plan(texts, ending)),
+    };
+    match steps_of(alloc, texts, whole.checked()) {
+        Ok(steps) => Ok((whole, steps)),
+        Err(ending) => {
+            forget(whole);
             Err(ending)
         }
     }

@@ -41,8 +41,7 @@ pub(crate) fn explain(alloc: Global, texts: &Texts) -> Result<Report, Ending>
         (report_text report)) }
     ensures err { IfErr result (IsUnexplained (all_texts texts.now)) }
 {
-    let accepted = judged_task(alloc, texts)?;
-    let steps = Steps::of_text(alloc, accepted.checked(), texts.plan())?;
+    let (accepted, steps) = judged_task(alloc, texts)?;
     let report = report_of(alloc, &accepted, &steps);
     forget((accepted, steps));
     report

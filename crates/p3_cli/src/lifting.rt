@@ -1,11 +1,11 @@
 //! What `lift` makes of the texts of a task, of one that is written for it, and of a plan for that.
 
-ghost use Rattle.std.specs.Prelude.{◌≡◌, ◌≤◌, IfErr, IfOk, IsTrue, None, OnOk, length};
+ghost use Rattle.std.specs.Prelude.{◌≡◌, ◌≤◌, IfErr, IfOk, IsTrue, length};
 ghost use Rattle.std.specs.List.{list_all};
 ghost use Rattle.p3_base.specs.declared.refusal.Side.TheVariants.{Source};
 ghost use Rattle.p3_base.specs.declared.refusal.Side.TheVariants as side;
 ghost use Rattle.p3_task.specs.Metrics.{value};
-ghost use Rattle.p3_task.specs.PlanTexts.{IsPlanText, plan_offence};
+ghost use Rattle.p3_task.specs.PlanTexts.{IsPlanText, step_limit};
 ghost use Rattle.p3_tree.specs.Reports.Plans.{lifted_lines};
 ghost use Rattle.p3_plans.specs.Layout.{has_written_words};
 ghost use Rattle.p3_reports.specs.Reports.{report_text};
@@ -15,7 +15,7 @@ ghost use Rattle.p3_cli.specs.Texts.{all_texts, task_texts};
 ghost use Rattle.p3_cli.specs.WrittenText.{HasPlanLayout};
 
 use crate::Ending;
-use crate::acceptance::{accepted, plan_of, readable_plan, spelled_task};
+use crate::acceptance::{accepted, behind_plan, plan_of, spelled_task};
 use crate::evaluation::invalid;
 use crate::product::Product;
 use crate::report_parts::{differing, lifted_report};
@@ -25,7 +25,7 @@ use p3_eval::Accepted;
 use p3_lift::{LiftFail, Lifted, lift_by_steps};
 use p3_plans::write_plan;
 use p3_reports::{Rejection, Report};
-use p3_task::Task;
+use p3_task::{Plan, Task};
 use std::alloc::Global;
 use std::mem::forget;
 
@@ -36,8 +36,7 @@ pub(crate) fn lift(alloc: Global, texts: &Texts) -> Result<Product, Ending>
     ensures lines { IfOk result (λ product. HasPlanLayout product.made.plan.items) }
     ensures err { IfErr result (IsRejectedBy (RejectsLift (all_texts texts.now))) }
 {
-    let (source, written) = both_tasks(alloc, texts)?;
-    let plan = plan_of(alloc, texts.plan())?;
+    let (source, written, plan) = given(alloc, texts)?;
     let lifted = match lift_by_steps(alloc, &source, &written, &plan) {
         Ok(lifted) => lifted,
         Err(fail) => return Err(unlifted(&fail)),
@@ -48,41 +47,65 @@ pub(crate) fn lift(alloc: Global, texts: &Texts) -> Result<Product, Ending>
     Ok(made)
 }
 
-/// Accepts the two tasks that the texts spell, where nothing is refused of them and of the plan.
+/// Accepts the two tasks that the texts spell and reads the plan, where nothing is refused of them.
+fn given(alloc: Global, texts: &Texts) -> Result<(Accepted, Accepted, Plan), Ending>
+    ensures source { IfOk result (λ given.
+        AreAcceptedFor Source (all_texts texts.now) given.0.checked.task) }
+    ensures written { IfOk result (λ given.
+        AreAcceptedFor side.Written (all_texts texts.now) given.1.checked.task) }
+    ensures spelled { IfOk result (λ given. IsPlanText texts.now.plan.items given.2) }
+    ensures few { IfOk result (λ given. length given.2 ≤ step_limit) }
+    ensures err { IfErr result (IsRejectedBy
+        (IsRefusal (given_lift (all_texts texts.now)) (all_texts texts.now))) }
+{
+    let (source, written) = both_tasks(alloc, texts)?;
+    match plan_of(alloc, texts) {
+        Ok(plan) => Ok((source, written, plan)),
+        Err(ending) => {
+            forget((source, written));
+            Err(ending)
+        }
+    }
+}
+
+/// Accepts the two tasks that the texts spell. The plan is looked at only where one is refused, for an
+/// offence that is told before.
 fn both_tasks(alloc: Global, texts: &Texts) -> Result<(Accepted, Accepted), Ending>
     ensures source { IfOk result (λ both.
         AreAcceptedFor Source (all_texts texts.now) both.0.checked.task) }
     ensures written { IfOk result (λ both.
         AreAcceptedFor side.Written (all_texts texts.now) both.1.checked.task) }
-    ensures free { OnOk result (plan_offence texts.now.plan.items ≡ None) }
     ensures err { IfErr result (IsRejectedBy
         (IsRefusal (given_lift (all_texts texts.now)) (all_texts texts.now))) }
 {
     let (source, written) = spelled_tasks(alloc, texts)?;
     let source = match accepted(alloc, Side::Source, texts, source) {
         Ok(source) => source,
-        Err(ending) => return Err(ending),
+        Err(ending) => return Err(behind_plan(texts, ending)),
     };
     match accepted(alloc, Side::Written, texts, written) {
         Ok(written) => Ok((source, written)),
-        Err(ending) => Err(ending),
+        Err(ending) => Err(behind_plan(texts, ending)),
     }
 }
 
-/// Reads the two tasks that the texts spell, where no text shows a refusal by itself.
+/// Reads the two tasks that the texts spell, where no text of them shows a refusal by itself.
 fn spelled_tasks(alloc: Global, texts: &Texts) -> Result<(Task, Task), Ending>
     ensures source { IfOk result (λ both.
         IsSpelled (task_texts Source (all_texts texts.now)) both.0) }
     ensures written { IfOk result (λ both.
         IsSpelled (task_texts side.Written (all_texts texts.now)) both.1) }
-    ensures free { OnOk result (plan_offence texts.now.plan.items ≡ None) }
     ensures err { IfErr result (IsRejectedBy
         (IsRefusal (given_lift (all_texts texts.now)) (all_texts texts.now))) }
 {
     let source = spelled_task(alloc, Side::Source, texts)?;
-    let written = spelled_task(alloc, Side::Written, texts)?;
-    readable_plan(texts)?;
-    Ok((source, written))
+    match spelled_task(alloc, Side::Written, texts) {
+        Ok(written) => Ok((source, written)),
+        Err(ending) => {
+            drop(source);
+            Err(ending)
+        }
+    }
 }
 
 /// Gives the ending that says why a plan is not lifted.

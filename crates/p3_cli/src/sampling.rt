@@ -66,8 +66,7 @@ fn report_of(alloc: Global, texts: &Texts) -> Result<Report, Ending>
         texts.now.problem.items texts.now.plan.items (report_text report)) }
     ensures err { IfErr result (IsRejectedPlan (all_texts texts.now)) }
 {
-    let whole = judged_whole(alloc, texts)?;
-    let steps = Steps::of_text(alloc, whole.checked(), texts.plan())?;
+    let (whole, steps) = judged_whole(alloc, texts)?;
     let target = compile(alloc, whole.ground_task(), whole.weights())?;
     let embedded = match embedded(alloc, &whole, &target, &steps) {
         Ok(embedded) => embedded,

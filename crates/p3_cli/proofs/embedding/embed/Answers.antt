@@ -4,7 +4,6 @@ use Rattle.p3_compile.specs.Compiling.{IsCompiledTo}
 use Rattle.p3_reports.specs.Reports.{report_text}
 use Rattle.p3_cli.specs.Texts.{all_texts}
 use Rattle.p3_cli.proofs.EmbeddingLemmas.{embedded_words, is_embedded}
-use Rattle.p3_cli.proofs.EvaluationLemmas.{steps_are}
 use Rattle.p3_cli.proofs.ProductLemmas.{its_texts, rejected_plan, the_plan, the_steps}
 use Rattle.p3_cli.proofs.TranslationLemmas.{is_laid_out}
 use Rattle.p3_cli.proofs.embedding.embed.Goals as goal
@@ -12,21 +11,19 @@ use Rattle.p3_cli.proofs.embedding.embed.Goals as goal
 pub returns-in-Err-clause-err : goal.returns-in-Err-clause-err
 returns-in-Err-clause-err c =
     let whole = c.in_ok-whole in
-    let steps = c.in_ok-steps in
-    rejected_plan (all_texts c.args.texts.now) whole.whole.checked.task whole.ensures.accepted whole.ensures.free steps.steps
-    (steps_are _ _ c.checked.result.now whole.whole.checked steps.steps c.plan.ensures.text c.checked.ensures.checked steps.ensures.are) c.in-Err.ending c.in-Err.ensures.err
+    rejected_plan (all_texts c.args.texts.now) whole.whole.checked.task whole.ensures.accepted whole.ensures.free whole.steps
+    whole.ensures.are c.in-Err.ending c.in-Err.ensures.err
 
 pub embedding_of-requires-clause-named : goal.embedding_of-requires-clause-named
 embedding_of-requires-clause-named c =
     let whole = c.in_ok-whole in
     let T = whole.whole.checked.task in
     let X = c.in_ok-target.target in
-    let steps = c.in_ok-steps in
-    let are = steps_are _ _ c.checked.result.now whole.whole.checked steps.steps c.plan.ensures.text c.checked.ensures.checked steps.ensures.are in
-    let plan = the_plan (all_texts c.args.texts.now) T whole.ensures.accepted whole.ensures.free steps.steps are in
+    let are = whole.ensures.are in
+    let plan = the_plan (all_texts c.args.texts.now) T whole.ensures.accepted whole.ensures.free whole.steps are in
     let compiled = subst (λ ground. Compiled ground whole.whole.weights X) c.ground_task.ensures (subst (λ weights. Compiled c.ground_task.result.now weights X) c.weights.ensures.weights c.in_ok-target.ensures.compiled) in
     embedded_words T whole.whole.ground_task whole.whole.weights X plan.plan c.in-Ok.embedded.plan compiled
-    (c.in-Ok.ensures.plan plan.plan (the_steps (all_texts c.args.texts.now) T whole.ensures.accepted whole.ensures.free steps.steps are))
+    (c.in-Ok.ensures.plan plan.plan (the_steps (all_texts c.args.texts.now) T whole.ensures.accepted whole.ensures.free whole.steps are))
 
 pub returns-clause-means : goal.returns-clause-means
 returns-clause-means c =
@@ -35,17 +32,16 @@ returns-clause-means c =
     let G = whole.whole.ground_task in
     let w = whole.whole.weights in
     let X = c.in_ok-target.target in
-    let steps = c.in_ok-steps in
-    let are = steps_are _ _ c.checked.result.now whole.whole.checked steps.steps c.plan.ensures.text c.checked.ensures.checked steps.ensures.are in
-    let plan = the_plan (all_texts c.args.texts.now) T whole.ensures.accepted whole.ensures.free steps.steps are in
-    let has = the_steps (all_texts c.args.texts.now) T whole.ensures.accepted whole.ensures.free steps.steps are in
+    let are = whole.ensures.are in
+    let plan = the_plan (all_texts c.args.texts.now) T whole.ensures.accepted whole.ensures.free whole.steps are in
+    let has = the_steps (all_texts c.args.texts.now) T whole.ensures.accepted whole.ensures.free whole.steps are in
     let source = c.in-Ok in
     let made = c.in_ok-made in
     let compiled = subst (λ ground. Compiled ground w X) c.ground_task.ensures (subst (λ weights. Compiled c.ground_task.result.now weights X) c.weights.ensures.weights c.in_ok-target.ensures.compiled) in
     record {
       task = T;
       plan = plan.plan;
-      texts = its_texts (all_texts c.args.texts.now) T whole.ensures.accepted whole.ensures.free steps.steps are;
+      texts = its_texts (all_texts c.args.texts.now) T whole.ensures.accepted whole.ensures.free whole.steps are;
       valid = source.ensures.valid plan.plan has;
       embedded =
           is_embedded T G w X whole.ensures.ready compiled plan.plan source.embedded.plan source.embedded.cost (source.ensures.plan plan.plan has) source.ensures.cost

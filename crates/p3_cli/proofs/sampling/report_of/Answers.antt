@@ -9,16 +9,14 @@ use Rattle.p3_ground.proofs.PlanNumbers.{has_numbers, valid_fits}
 use Rattle.p3_eval.proofs.StepsLemmas.{all_numbered}
 use Rattle.p3_cli.specs.Texts.{all_texts}
 use Rattle.p3_cli.proofs.EmbeddingLemmas.{is_sampled}
-use Rattle.p3_cli.proofs.EvaluationLemmas.{steps_are}
 use Rattle.p3_cli.proofs.ProductLemmas.{its_texts, rejected_plan, the_plan, the_steps}
 use Rattle.p3_cli.proofs.sampling.report_of.Goals as goal
 
 pub returns-in-Err-clause-err : goal.returns-in-Err-clause-err
 returns-in-Err-clause-err c =
     let whole = c.in_ok-whole in
-    let steps = c.in_ok-steps in
-    rejected_plan (all_texts c.args.texts.now) whole.whole.checked.task whole.ensures.accepted whole.ensures.free steps.steps
-    (steps_are _ _ c.checked.result.now whole.whole.checked steps.steps c.plan.ensures.text c.checked.ensures.checked steps.ensures.are) c.in-Err.ending c.in-Err.ensures.err
+    rejected_plan (all_texts c.args.texts.now) whole.whole.checked.task whole.ensures.accepted whole.ensures.free whole.steps
+    whole.ensures.are c.in-Err.ending c.in-Err.ensures.err
 
 pub returns-clause-means : goal.returns-clause-means
 returns-clause-means c =
@@ -27,22 +25,21 @@ returns-clause-means c =
     let G = whole.whole.ground_task in
     let w = whole.whole.weights in
     let X = c.in_ok-target.target in
-    let steps = c.in_ok-steps in
     let texts = all_texts c.args.texts.now in
-    let are = steps_are _ _ c.checked.result.now whole.whole.checked steps.steps c.plan.ensures.text c.checked.ensures.checked steps.ensures.are in
-    let plan = (the_plan texts T whole.ensures.accepted whole.ensures.free steps.steps are).plan in
-    let has = the_steps texts T whole.ensures.accepted whole.ensures.free steps.steps are in
+    let are = whole.ensures.are in
+    let plan = (the_plan texts T whole.ensures.accepted whole.ensures.free whole.steps are).plan in
+    let has = the_steps texts T whole.ensures.accepted whole.ensures.free whole.steps are in
     let source = c.in-Ok in
     let valid = source.ensures.valid plan has in
     let compiled = subst (λ ground. Compiled ground w X) c.ground_task.ensures (subst (λ weights. Compiled c.ground_task.result.now weights X) c.weights.ensures.weights c.in_ok-target.ensures.compiled) in
     let K = steps_have_numbers T whole.ensures.ready.well_formed in
     let known = has_numbers T K plan (valid_fits T plan valid) in
-    let numbers = all_numbered T K plan known.0 known.1 steps.steps.numbers.items steps.steps.rest has in
+    let numbers = all_numbered T K plan known.0 known.1 whole.steps.numbers.items whole.steps.rest has in
     let fits : SFits w128 c.in_ok-metric.metric = search rules in
     record {
       task = T;
       plan = plan;
-      of = its_texts texts T whole.ensures.accepted whole.ensures.free steps.steps are;
+      of = its_texts texts T whole.ensures.accepted whole.ensures.free whole.steps are;
       valid = valid;
       sampled =
           is_sampled T G w X whole.ensures.ready compiled plan source.embedded.plan source.embedded.cost (source.ensures.plan plan has) source.ensures.cost (generate_text c.sampled_report-report.result)
