@@ -52,7 +52,7 @@ pub(crate) fn put_explain_report<S: Sink>(
 }
 
 /// Puts the line of a plan's first fault, or the one of a valid plan.
-fn put_verdict<S: Sink>(fault: &Option<Fault>, out: &mut S) -> Result<(), SinkFailed>
+pub fn put_verdict<S: Sink>(fault: &Option<Fault>, out: &mut S) -> Result<(), SinkFailed>
     ensures ok { OnOk result (IsPut (verdict_text fault.now)
         (S.seen out.old).written (S.seen out.new).written) }
     ensures partly { OnErr result (IsPartlyPut (verdict_text fault.now)

@@ -18,7 +18,7 @@ const LINE_ROOM: usize = 256;
 
 /// A piece of a line: a text, or what is found, which is printed by its digits or its name.
 #[derive(Clone, Copy)]
-pub(crate) enum Piece<'a> {
+pub enum Piece<'a> {
     /// A text.
     Text(&'a str),
     /// Bytes, as those of a name.
@@ -41,7 +41,7 @@ pub(crate) enum Piece<'a> {
 
 /// Puts pieces one behind another. Where they have no more bytes than most lines, they are put at
 /// once.
-pub(crate) fn put_pieces<S: Sink>(pieces: &[Piece<'_>], out: &mut S) -> Result<(), SinkFailed>
+pub fn put_pieces<S: Sink>(pieces: &[Piece<'_>], out: &mut S) -> Result<(), SinkFailed>
     ensures ok { OnOk result (IsPut (pieces_text pieces.now)
         (S.seen out.old).written (S.seen out.new).written) }
     ensures partly { OnErr result (IsPartlyPut (pieces_text pieces.now)
