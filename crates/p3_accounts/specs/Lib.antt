@@ -1,0 +1,12 @@
+pub mod Vocabularies
+pub mod Words
+pub mod Spots
+pub mod Starts
+pub mod Operators
+pub mod Subjects
+pub mod States
+pub mod Shares
+pub mod Accounts
+pub mod Meanings
+pub mod Items
+pub mod Worked

@@ -1,0 +1,115 @@
+//! What the names of a written task stand for.
+
+ghost use Rattle.std.specs.Prelude.{◌≤◌, OnErr, OnOk};
+ghost use Rattle.p3_base.specs.Outside.{IsPartlyPut, IsPut, Rose};
+ghost use Rattle.p3_accounts.specs.Meanings.{meaning_line, meant_text, monitor_text};
+ghost use Rattle.p3_accounts.specs.Vocabularies.{vocabulary};
+
+use crate::item::{Item, put_items};
+use crate::spot::Spot;
+use crate::subject::{Subject, put_subject};
+use crate::terms::Terms;
+use p3_base::{List, Sink, SinkFailed};
+use p3_reasons::PlacedStep;
+
+/// What a name of a written task stands for.
+#[derive(Debug, Drop)]
+pub enum Meant {
+    /// `s` and a number: a step.
+    Step(PlacedStep),
+    /// `f` and a number: the number of a predicate, and then those of objects.
+    Atom(List<u32>),
+    /// `m` and a number: an operator of a constraint or of a preference.
+    Monitor(Subject),
+}
+
+/// A name of a written task with what it stands for.
+#[derive(Debug, Drop)]
+pub struct Meaning {
+    /// Where that stands, where it is known.
+    pub spot: Option<Spot>,
+    /// The number in the name.
+    pub number: u32,
+    /// What the name stands for.
+    pub of: Meant,
+}
+
+/// Puts the line of a name.
+pub fn put_meaning<S: Sink>(
+    meaning: &Meaning,
+    terms: &Terms<'_>,
+    out: &mut S,
+) -> Result<(), SinkFailed>
+    ensures ok { OnOk result (IsPut (meaning_line (vocabulary terms.now) meaning.now)
+        (S.seen out.old).written (S.seen out.new).written) }
+    ensures partly { OnErr result (IsPartlyPut (meaning_line (vocabulary terms.now) meaning.now)
+        (S.seen out.old).written (S.seen out.new).written) }
+    ensures failed { OnErr result (Rose (S.seen out.old).faults (S.seen out.new).faults) }
+    ensures faults_grow { (S.seen out.old).faults ≤ (S.seen out.new).faults }
+{
+    put_items(&[Item::Before(meaning.spot)], terms, out)?;
+    put_meant(meaning.number, &meaning.of, terms, out)?;
+    put_items(&[Item::Text("\n")], terms, out)
+}
+
+/// Puts a name and what it stands for.
+fn put_meant<S: Sink>(
+    number: u32,
+    of: &Meant,
+    terms: &Terms<'_>,
+    out: &mut S,
+) -> Result<(), SinkFailed>
+    ensures ok { OnOk result (IsPut (meant_text (vocabulary terms.now) number of.now)
+        (S.seen out.old).written (S.seen out.new).written) }
+    ensures partly { OnErr result (IsPartlyPut (meant_text (vocabulary terms.now) number of.now)
+        (S.seen out.old).written (S.seen out.new).written) }
+    ensures failed { OnErr result (Rose (S.seen out.old).faults (S.seen out.new).faults) }
+    ensures faults_grow { (S.seen out.old).faults ≤ (S.seen out.new).faults }
+{
+    match of {
+        Meant::Step(placed) => put_items(
+            &[
+                Item::Text("s"),
+                Item::Number(number),
+                Item::Text(" "),
+                Item::Placed(placed),
+            ],
+            terms,
+            out,
+        ),
+        Meant::Atom(atom) => put_items(
+            &[
+                Item::Text("f"),
+                Item::Number(number),
+                Item::Text(" "),
+                Item::Atom(atom),
+            ],
+            terms,
+            out,
+        ),
+        Meant::Monitor(subject) => put_monitor(number, subject, terms, out),
+    }
+}
+
+/// Puts the name of a monitor's atom, and what it watches.
+fn put_monitor<S: Sink>(
+    number: u32,
+    subject: &Subject,
+    terms: &Terms<'_>,
+    out: &mut S,
+) -> Result<(), SinkFailed>
+    ensures ok { OnOk result (IsPut (monitor_text (vocabulary terms.now) number subject.now)
+        (S.seen out.old).written (S.seen out.new).written) }
+    ensures partly { OnErr result
+        (IsPartlyPut (monitor_text (vocabulary terms.now) number subject.now)
+        (S.seen out.old).written (S.seen out.new).written) }
+    ensures failed { OnErr result (Rose (S.seen out.old).faults (S.seen out.new).faults) }
+    ensures faults_grow { (S.seen out.old).faults ≤ (S.seen out.new).faults }
+{
+    put_items(
+        &[Item::Text("m"), Item::Number(number), Item::Text(" ")],
+        terms,
+        out,
+    )?;
+    put_subject(subject, terms, out)
+}
