@@ -38,6 +38,7 @@ fn push_instance(
 {
     let mut parts = List::new(work.alloc);
     push_operators(numbers, statics, work, slots, true, body, &mut parts)?;
+    parts.shrink_to_fit();
     made.push(GroundSoft { name, parts })?;
     Ok(())
 }
@@ -128,7 +129,7 @@ fn instance_at_end(alloc: Global, preference: GroundPref) -> Result<GroundSoft, 
     ensures { IfOk result (λ instance. instance ≡ made_at_end preference) }
 {
     let GroundPref { name, body } = preference;
-    let mut parts = List::new(alloc);
+    let mut parts = List::with_capacity(alloc, 1)?;
     parts.push(GroundModal::AtEnd(body))?;
     Ok(GroundSoft { name, parts })
 }

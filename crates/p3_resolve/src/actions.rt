@@ -51,7 +51,7 @@ pub(crate) fn numbered_actions<'t>(
         ≡ with_tree tables.now.task.now (uses_of_each uses_of_action actions.now) walk.old) }
     ensures made { IfOk result (λ made. made ≡ map (action_of (numbers_of tables.now)) actions.now) }
 {
-    let mut made = List::new(alloc);
+    let mut made = List::with_capacity(alloc, actions.len())?;
     for action in actions {
         made.push(numbered_action(alloc, tables, walk, action)?)?;
     }

@@ -126,7 +126,7 @@ fn numbered_formulas<'t>(
         (λ made. made ≡ map
         (λ part. condition_of (numbers_of tables.now) part walk.old.words) parts.now) }
 {
-    let mut made = List::new(alloc);
+    let mut made = List::with_capacity(alloc, parts.len())?;
     for part in parts {
         made.push(numbered_formula(alloc, tables, walk, part)?)?;
     }

@@ -115,7 +115,7 @@ fn numbered_constraints<'t>(
         (λ made. made ≡ map
         (λ part. constraint_of (numbers_of tables.now) part walk.old.words) parts.now) }
 {
-    let mut made = List::new(alloc);
+    let mut made = List::with_capacity(alloc, parts.len())?;
     for part in parts {
         made.push(numbered_constraint(alloc, tables, walk, part)?)?;
     }

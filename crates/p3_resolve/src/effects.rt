@@ -128,7 +128,7 @@ fn numbered_effects<'t>(
         (λ made. made ≡ map
         (λ part. effect_of (numbers_of tables.now) part walk.old.words) parts.now) }
 {
-    let mut made = List::new(alloc);
+    let mut made = List::with_capacity(alloc, parts.len())?;
     for part in parts {
         made.push(numbered_effect(alloc, tables, walk, part)?)?;
     }

@@ -122,7 +122,7 @@ fn numbered_goals<'t>(
         (λ made. made ≡ map
         (λ part. goal_of (numbers_of tables.now) part walk.old.words) parts.now) }
 {
-    let mut made = List::new(alloc);
+    let mut made = List::with_capacity(alloc, parts.len())?;
     for part in parts {
         made.push(numbered_goal(alloc, tables, walk, part)?)?;
     }

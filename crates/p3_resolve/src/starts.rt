@@ -51,7 +51,7 @@ fn objects(
     ensures made { IfOk result (λ made. made
         ≡ values_of [] (numbered_terms (numbers_of tables.now) walk.now.words args.now)) }
 {
-    let mut made = List::new(alloc);
+    let mut made = List::with_capacity(alloc, args.len())?;
     for place in 0..args.len() {
         let argument = argument(tables, walk, found, declared, place, &args[place])?;
         made.push(object_of(argument))?;

@@ -204,7 +204,7 @@ pub(crate) fn arguments(
     ensures made { IfOk result
         (λ made. made ≡ numbered_terms (numbers_of tables.now) walk.now.words args.now) }
 {
-    let mut made = List::new(alloc);
+    let mut made = List::with_capacity(alloc, args.len())?;
     for place in 0..args.len() {
         made.push(argument(tables, walk, found, declared, place, &args[place])?)?;
     }
@@ -219,7 +219,7 @@ pub(crate) fn ranges<'t>(
 ) -> Result<List<u32>, NoMemory>
     ensures { IfOk result (λ ranges. ranges ≡ ranges_of (numbers_of tables.now) variables.now) }
 {
-    let mut ranges = List::new(alloc);
+    let mut ranges = List::with_capacity(alloc, variables.len())?;
     for variable in variables {
         ranges.push(tables.range_of(alloc, variable.types.items())?)?;
     }
