@@ -1,11 +1,13 @@
 -- The actions of a begun target, written one step after another.
-use Rattle.std.proofs.Common.{◌≡◌, ◌∙◌, ℕ, ◌+◌, ◌<◌, true, List, [], ◌++◌, length, take, get_or, refl, sym, ap}
+use Rattle.std.proofs.Common.{◌≡◌, ◌∙◌, ℕ, ◌+◌, ◌<◌, Bool, true, false, true≢false, List, [], ◌∷◌, ◌++◌, length, map, take, get_or, refl, sym, ap, subst}
 use Rattle.std.specs.List.{list_all}
 use Rattle.std.proofs.lemmas.Bool.{and_parts, and_from}
-use Rattle.std.proofs.lemmas.List.{append-nil}
-use Rattle.std.proofs.lemmas.List.Folds.{list_all-append}
+use Rattle.std.proofs.lemmas.List.{append-nil, map-append, take_more}
+use Rattle.std.proofs.lemmas.List.Folds.{list_all-append, list_all-map, list_all_at}
+use Rattle.p3_base.specs.Copies.{copy_name}
 use Rattle.p3_formula.specs.Conditions.{IsReady}
 use Rattle.p3_formula.specs.Targets.{is_sized_action}
+use Rattle.p3_formula.specs.declared.form.Change.{Change}
 use Rattle.p3_formula.specs.declared.target.Target.{Target}
 use Rattle.p3_formula.specs.declared.target.TargetAction.{TargetAction}
 use Rattle.p3_formula.specs.declared.target.Weights.{Weights}
@@ -13,9 +15,12 @@ use Rattle.p3_formula.specs.declared.task.GroundStep.{GroundStep}
 use Rattle.p3_formula.specs.declared.task.GroundTask.{GroundTask}
 use Rattle.p3_formula.proofs.NamedLaws.{well_named}
 use Rattle.p3_compile.specs.Compiling.{IsBegun, IsCompiledTo, target_of}
+use Rattle.p3_compile.specs.Parts.{copied_action}
 use Rattle.p3_compile.specs.declared.begun.BegunTarget.{BegunTarget}
+use Rattle.p3_compile.specs.declared.parts.TargetCopy.{TargetCopy}
 use Rattle.p3_compile.proofs.BegunLaws.{one_step_more}
 use Rattle.p3_compile.proofs.StepLists.{no_steps}
+use Rattle.p3_writer.specs.CopyText.{behind_atom, digits_of}
 use Rattle.p3_writer.specs.DomainText.{BegunDomain, HasAllActions, first_text, with_actions}
 use Rattle.p3_writer.specs.Layout.{domain_layout, is_small, problem_layout}
 use Rattle.p3_writer.specs.TaskOf.{task_of}
@@ -34,13 +39,41 @@ more_written first more old mid new before behind = record {
   small = list_all-append is_small first more ∙ and_from (list_all is_small first) _ before.small behind.small;
 }
 
+pub none_written : (begun : BegunDomain) → HasWritten [] begun begun
+none_written begun = record { written = nothing_written begun; small = refl }
+
+-- ---- the copies of a step
+
+pub same_action : (number go : ℕ) (copy : TargetCopy) (violated : List Bool) (changes : List Change) → violated ≡ copy.violated → changes ≡ copy.effects
+    → record { name = copy_name number (digits_of violated); pre = behind_atom go copy.pre; effects = changes; cost = copy.cost } ≡ copied_action number go copy
+same_action number go copy violated changes shown made = λ i. record { name = copy_name number (digits_of (shown i)); pre = behind_atom go copy.pre; effects = made i; cost = copy.cost }
+
+module _ (number go : ℕ) (copies : List TargetCopy) (index : ℕ) (copy : TargetCopy) (within : index < length copies) (at : copy ≡ get_or copies index copy) where
+  abbrev made : TargetCopy → TargetAction
+  made one = copied_action number go one
+
+  -- what is asked of all their actions is asked of one
+  pub one_copy_sized : (count : ℕ) → list_all (is_sized_action count) (map made copies) ≡ true → is_sized_action count (made copy) ≡ true
+  one_copy_sized count all = by (is_sized_action count (made copy)) refl
+    where
+      by : (b : Bool) → is_sized_action count (made copy) ≡ b → is_sized_action count (made copy) ≡ true
+      by true is = is
+      by false is = absurd (true≢false (sym all ∙ list_all-map (is_sized_action count) made copies
+          ∙ list_all_at (λ one. is_sized_action count (made one)) copies index copy within (ap (λ one. is_sized_action count (made one)) (sym at) ∙ is)))
+
+  pub one_copy_written : (old mid new : BegunDomain) → HasWritten (map made (take index copies)) old mid → HasWritten (made copy ∷ []) mid new → HasWritten (map made (take (index + 1) copies)) old new
+  one_copy_written old mid new passed own =
+      let next = take_more copies index copy within ∙ ap (λ one. take index copies ++ one ∷ []) (sym at) in
+      subst (λ actions. HasWritten actions old new) (sym (ap (map made) next ∙ map-append made (take index copies) (copy ∷ [])))
+      (more_written (map made (take index copies)) (made copy ∷ []) old mid new passed own)
+
 -- ---- the steps
 
 pub no_steps_written : (begun : BegunTarget) (weights : Weights) (text : BegunDomain) → HasWrittenSteps begun weights [] begun.current text text
 no_steps_written begun weights text = record {
   actions = [];
   made = no_steps begun.frame weights begun.current;
-  are = record { written = nothing_written text; small = refl };
+  are = none_written text;
 }
 
 module _ (G : GroundTask) (weights : Weights) (begun : BegunTarget) (ready : IsReady G weights) (is : IsBegun G weights begun)

@@ -147,8 +147,8 @@ fn carried_out<F: Files, S: Sink>(
     }
 }
 
-/// Puts the lines of an ending, and answers the status.
-fn told<S: Sink>(ending: &ending::Ending, out: &mut S) -> u8
+/// Puts the lines of an ending, and answers the status. It takes no memory.
+pub fn told<S: Sink>(ending: &ending::Ending, out: &mut S) -> u8
     ensures { Tells (S.seen out.old) (S.seen out.new) result (ending_of ending.now) }
 {
     match (ending.put(out), ending) {

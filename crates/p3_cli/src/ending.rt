@@ -12,7 +12,7 @@ use p3_reports::{
 
 /// How a run ends.
 #[derive(Debug, Drop)]
-pub(crate) enum Ending {
+pub enum Ending {
     /// Everything was done: what is reported.
     Done(Report),
     /// What was read is refused: why and where.

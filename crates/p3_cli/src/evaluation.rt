@@ -48,7 +48,11 @@ pub(crate) fn evaluate(alloc: Global, texts: &Texts) -> Result<Report, Ending>
 
 /// Accepts the task for which a plan is judged and finds the steps of that plan, where nothing is
 /// refused of both. The plan is read once, for the task where that is accepted.
-pub(crate) fn judged_task(alloc: Global, texts: &Texts) -> Result<(Accepted, Steps), Ending>
+///
+/// # Errors
+///
+/// The first refusal of the three texts. And want of memory.
+pub fn judged_task(alloc: Global, texts: &Texts) -> Result<(Accepted, Steps), Ending>
     ensures accepted { IfOk result (λ both.
         AreAcceptedFor Source (all_texts texts.now) both.0.checked.task) }
     ensures are { IfOk result (λ both. OfPlanText texts.now.plan.items

@@ -24,11 +24,10 @@ ghost use Rattle.p3_formula.specs.Targets.{IsSized, IsWellNamed};
 ghost use Rattle.p3_cli.specs.Translation.{AreTextsOf, CanBeCompiled};
 
 use crate::Ending;
-use crate::acceptance::{grounded, spelled_task};
 use crate::product::Product;
 use crate::texts::Texts;
-use crate::translation::written;
-use p3_base::{Code, Name, NoMemory, Refusal, Role, Side, owning_step};
+use crate::translation::{whole_task, written};
+use p3_base::{Code, Name, NoMemory, Refusal, Role, owning_step};
 use p3_compile::compile;
 use p3_eval::Whole;
 use p3_flat::{FlatFail, flatten};
@@ -45,8 +44,7 @@ pub(crate) fn flat_translate(alloc: Global, texts: &Texts) -> Result<Product, En
         product.made.domain.items product.made.problem.items (report_text product.report)) }
     ensures err { IfErr result (IsStoppedFlat (all_texts texts.now)) }
 {
-    let task = spelled_task(alloc, Side::Source, texts)?;
-    let whole = grounded(alloc, Side::Source, texts, task)?;
+    let whole = whole_task(alloc, texts)?;
     let made = flat_translation_of(alloc, texts, &whole);
     forget(whole);
     made

@@ -24,9 +24,9 @@ pub(crate) struct Request<'a> {
 
 /// A file that is read.
 #[derive(Clone, Copy)]
-pub(crate) struct Input<'a> {
+pub struct Input<'a> {
     /// What it is.
-    pub(crate) role: Role,
+    pub role: Role,
     /// Its name.
-    pub(crate) name: &'a Word,
+    pub name: &'a Word,
 }

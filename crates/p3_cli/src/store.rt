@@ -16,7 +16,11 @@ use p3_base::{Files, ReadFault, Role, Word, WriteFault};
 use std::alloc::Global;
 
 /// Reads the inputs in order.
-pub(crate) fn read_all<F: Files>(
+///
+/// # Errors
+///
+/// The first that is not read, or has more bytes than its limit. And want of memory.
+pub fn read_all<F: Files>(
     alloc: Global,
     files: &mut F,
     inputs: &[Input<'_>],

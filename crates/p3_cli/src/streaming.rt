@@ -1,22 +1,26 @@
-//! The texts of the target to which a ground task is compiled, written while its actions are made.
-//! Those of a step are let go of once they are written, so the target never stands there as a whole.
+//! The texts of the target to which a ground task is compiled, written step by step. What a step
+//! comes to is let go of once it is written, so the target never stands there as a whole.
 
-ghost use Rattle.std.specs.Prelude.{◌≡◌, IfOk, OnOk};
+ghost use Rattle.std.specs.Prelude.{◌≡◌, ◌∷◌, [], length, IfOk, IsTrue, OnOk};
+ghost use Rattle.std.specs.List.{list_all};
 ghost use Rattle.p3_formula.specs.Conditions.{IsReady};
+ghost use Rattle.p3_formula.specs.Targets.{is_sized_action};
 ghost use Rattle.p3_compile.specs.Compiling.{IsBegun};
+ghost use Rattle.p3_compile.specs.Parts.{actions_of, copied_action, copied_actions};
 ghost use Rattle.p3_compile.specs.Stepping.{IsNextStep};
 ghost use Rattle.p3_cli.specs.Streaming.{
   AreCompiledTexts,
   HasDomainText,
+  HasWritten,
   HasWrittenAll,
   HasWrittenStep,
 };
 
 use crate::texts::Made;
 use p3_base::NoMemory;
-use p3_compile::{BegunTarget, begun_targets_are_compiled};
+use p3_compile::{BegunTarget, StepCopies, StepParts, TargetCopy, begun_targets_are_compiled};
 use p3_formula::{GroundStep, GroundTask, Weights};
-use p3_writer::{DomainText, write_problem_of};
+use p3_writer::{CopyParts, DomainText, write_problem_of};
 use std::alloc::Global;
 use std::mem::forget;
 
@@ -96,7 +100,7 @@ fn push_steps(
     Ok(())
 }
 
-/// Writes the actions of a step, and lets them go.
+/// Writes the actions of a step. Those of its copies are never made.
 fn push_step(
     alloc: Global,
     text: &mut DomainText<'_>,
@@ -110,8 +114,53 @@ fn push_step(
     ensures { OnOk result (HasWrittenStep begun.now weights.now step.now
         current.old current.new text.old text.new) }
 {
-    let actions = begun.step_actions(alloc, weights, step, current)?;
-    let pushed = text.push(actions.items());
-    drop(actions);
+    let parts = begun.step_parts(alloc, weights, step, current)?;
+    let pushed = push_parts(text, &parts);
+    drop(parts);
     pushed
+}
+
+/// Writes the actions that these parts make.
+fn push_parts(text: &mut DomainText<'_>, parts: &StepParts) -> Result<(), NoMemory>
+    requires { IsTrue (list_all (is_sized_action (length text.old.names)) (actions_of parts.now)) }
+    ensures { OnOk result (HasWritten (actions_of parts.now) text.old text.new) }
+{
+    match parts {
+        StepParts::Actions(actions) => text.push(actions.items()),
+        StepParts::Copies(step) => push_copies(text, step),
+    }
+}
+
+/// Writes the actions of the copies of a step.
+fn push_copies(text: &mut DomainText<'_>, step: &StepCopies) -> Result<(), NoMemory>
+    requires { IsTrue (list_all (is_sized_action (length text.old.names))
+        (copied_actions step.now)) }
+    ensures { OnOk result (HasWritten (copied_actions step.now) text.old text.new) }
+{
+    for copy in step.copies.items() {
+        push_copy(text, step.number, step.go, copy)?;
+    }
+    Ok(())
+}
+
+/// Writes the action of a copy of the step with that number.
+fn push_copy(
+    text: &mut DomainText<'_>,
+    number: u32,
+    go: usize,
+    copy: &TargetCopy,
+) -> Result<(), NoMemory>
+    requires { IsTrue (is_sized_action (length text.old.names)
+        (copied_action number go copy.now)) }
+    ensures { OnOk result
+        (HasWritten (copied_action number go copy.now ∷ []) text.old text.new) }
+{
+    text.push_copy(&CopyParts {
+        number,
+        violated: copy.violated.items(),
+        go,
+        pre: &copy.pre,
+        changes: copy.effects.items(),
+        cost: copy.cost,
+    })
 }

@@ -12,12 +12,17 @@ use std::alloc::Global;
 
 /// The texts that a command has read, by what they are. One that it does not read is empty.
 #[derive(Drop)]
-pub(crate) struct Texts {
-    pub(crate) domain: Vec<u8>,
-    pub(crate) problem: Vec<u8>,
-    pub(crate) written_domain: Vec<u8>,
-    pub(crate) written_problem: Vec<u8>,
-    pub(crate) plan: Vec<u8>,
+pub struct Texts {
+    /// The domain of the task that is read.
+    pub domain: Vec<u8>,
+    /// The problem of that task.
+    pub problem: Vec<u8>,
+    /// The domain of a written task.
+    pub written_domain: Vec<u8>,
+    /// The problem of that task.
+    pub written_problem: Vec<u8>,
+    /// The plan.
+    pub plan: Vec<u8>,
     pub ghost domain_short: { length domain.items ≤ byte_limit Source },
     pub ghost problem_short: { length problem.items ≤ byte_limit Source },
     pub ghost written_domain_short: { length written_domain.items ≤ byte_limit Written },
@@ -74,7 +79,7 @@ impl Texts {
     }
 
     /// Gives the domain of the task of a side.
-    pub(crate) fn domain_of(&self, side: Side) -> &[u8]
+    pub fn domain_of(&self, side: Side) -> &[u8]
         ensures text { result.now ≡ domain_of side (all_texts self.now) }
         ensures short { length result.now ≤ byte_limit side }
     {
@@ -85,7 +90,7 @@ impl Texts {
     }
 
     /// Gives the problem of the task of a side.
-    pub(crate) fn problem_of(&self, side: Side) -> &[u8]
+    pub fn problem_of(&self, side: Side) -> &[u8]
         ensures text { result.now ≡ problem_of side (all_texts self.now) }
         ensures short { length result.now ≤ byte_limit side }
     {
@@ -96,7 +101,7 @@ impl Texts {
     }
 
     /// Gives the text of the plan.
-    pub(crate) fn plan(&self) -> &[u8]
+    pub fn plan(&self) -> &[u8]
         ensures text { result.now ≡ self.now.plan.items }
         ensures short { length result.now ≤ plan_byte_limit }
     {

@@ -1,10 +1,11 @@
 //! What `compile` makes of the texts of a domain and a problem.
 
 ghost use Rattle.std.specs.Prelude.{◌≡◌, IfOk, IfErr};
+ghost use Rattle.p3_base.specs.declared.refusal.Side.TheVariants.{Source};
 ghost use Rattle.p3_tree.specs.Reports.Tasks.{compiled_lines};
 ghost use Rattle.p3_formula.specs.Targets.{IsSized, IsWellNamed};
 ghost use Rattle.p3_reports.specs.Reports.{report_text};
-ghost use Rattle.p3_cli.specs.Refusing.{IsRefusedTask};
+ghost use Rattle.p3_cli.specs.Refusing.{AreAcceptedFor, IsRefusedTask};
 ghost use Rattle.p3_cli.specs.Texts.{all_texts};
 ghost use Rattle.p3_cli.specs.Translation.{
   AreTextsOf,
@@ -39,11 +40,26 @@ pub(crate) fn translate(alloc: Global, texts: &Texts) -> Result<Product, Ending>
         product.made.domain.items product.made.problem.items) }
     ensures err { IfErr result (IsRefusedTask (all_texts texts.now)) }
 {
-    let task = spelled_task(alloc, Side::Source, texts)?;
-    let whole = grounded(alloc, Side::Source, texts, task)?;
+    let whole = whole_task(alloc, texts)?;
     let made = translation_of(alloc, &whole)?;
     forget(whole);
     Ok(made)
+}
+
+/// Accepts the task that the two texts spell with its ground task, where nothing is refused of it.
+///
+/// # Errors
+///
+/// The first refusal of the two texts. And want of memory.
+pub fn whole_task(alloc: Global, texts: &Texts) -> Result<Whole, Ending>
+    ensures accepted { IfOk result (λ whole.
+        AreAcceptedFor Source (all_texts texts.now) whole.checked.task) }
+    ensures ready { IfOk result (λ whole.
+        CanBeCompiled whole.checked.task whole.ground_task whole.weights) }
+    ensures err { IfErr result (IsRefusedTask (all_texts texts.now)) }
+{
+    let task = spelled_task(alloc, Side::Source, texts)?;
+    grounded(alloc, Side::Source, texts, task)
 }
 
 /// Writes the target of a task of which nothing is refused, and makes the report.

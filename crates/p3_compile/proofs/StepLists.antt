@@ -1,6 +1,6 @@
 -- The actions of one step, and of one step more.
 use Rattle.std.proofs.Common.{◌≡◌, ◌∙◌, ℕ, ◌+◌, ◌<◌, ◌≤◌, nat_lt, Bool, true, false, ◌&&◌, List, [], ◌∷◌, ◌++◌, length, take, drop, get_or, refl, sym, ap, subst, arith, append_assoc, length-append}
-use Rattle.std.specs.Prelude.{Contains, is_some, IfOk, OnOk, Result, Ok, Err}
+use Rattle.std.specs.Prelude.{Contains, is_some, IfOk, Result, Ok, Err}
 use Rattle.std.specs.List.{All, list_all}
 use Rattle.std.proofs.lemmas.Bool.{and_parts, and_from, ltb-true, ltb-false}
 use Rattle.std.proofs.lemmas.List.{append-nil, take-append-drop}
@@ -199,14 +199,6 @@ no_steps frame weights first = record {
 
 -- ---- an answer that is Ok has what is known of it
 
-pub both_known : {A E : Type 0} {P Q R : A → Type 0} {N : Type 0} (result : Result A E) → IfOk result P → IfOk result Q → OnOk result N → ((x : A) → P x → Q x → N → R x) → IfOk result R
-both_known (Ok x) p q n f = f x p q n
-both_known (Err e) p q n f = tt
-
 pub both_of : {A E : Type 0} {P Q R : A → Type 0} (result : Result A E) → IfOk result P → IfOk result Q → ((x : A) → P x → Q x → R x) → IfOk result R
 both_of (Ok x) p q f = f x p q
 both_of (Err e) p q f = tt
-
-pub three_of : {A E : Type 0} {P Q R S : A → Type 0} (result : Result A E) → IfOk result P → IfOk result Q → IfOk result R → ((x : A) → P x → Q x → R x → S x) → IfOk result S
-three_of (Ok x) p q r f = f x p q r
-three_of (Err e) p q r f = tt

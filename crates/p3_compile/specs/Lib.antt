@@ -6,3 +6,4 @@ pub mod Readers
 pub mod Stepping
 pub mod Updated
 pub mod Monitored
+pub mod Parts

@@ -7,6 +7,7 @@ ghost use Rattle.p3_formula.specs.Weighted.{AreNamedBelow};
 ghost use Rattle.p3_formula.specs.declared.task.GroundStep.{GroundStep};
 ghost use Rattle.p3_simulation.specs.Naming.{question_names, wide_steps};
 ghost use Rattle.p3_compile.specs.Compiling.{IsReadyTask, IsFrameOf, IsFramed, IsEnding, IsBegun, target_of};
+ghost use Rattle.p3_compile.specs.Parts.{actions_of};
 ghost use Rattle.p3_compile.specs.Stepping.{current_names, IsNextStep, HasNextActions};
 
 use crate::bits::initial_bits;
@@ -14,7 +15,8 @@ use crate::ending::{finish_form, soft_ends};
 use crate::monitor_readers::{all_by_atom, readers};
 use crate::monitoring::monitors;
 use crate::names::{numbered, push_numbered};
-use crate::stepping::{Frame, has_wide, push_all, step_actions};
+use crate::parts::StepParts;
+use crate::stepping::{Frame, has_wide, push_all, step_parts};
 use crate::weighing::is_wide;
 use p3_base::{List, Name, NoMemory};
 use p3_endphase::{EndPhase, end_phase_taking};
@@ -229,21 +231,21 @@ impl BegunTarget {
         self.current
     }
 
-    /// The actions of a step, whose changes are regressed once, for the monitors that read an atom
-    /// which the step may change. Where the step is wide, the current atom is its own, and the next
-    /// one is that of the next such step.
-    pub fn step_actions(
+    /// What the actions of a step are made from. Its changes are regressed once, for the monitors
+    /// that read an atom which the step may change. Where the step is wide, the current atom is its
+    /// own, and the next one is that of the next such step.
+    pub fn step_parts(
         &self,
         alloc: Global,
         weights: &Weights,
         step: &GroundStep,
         current: &mut usize,
-    ) -> Result<List<TargetAction>, NoMemory>
+    ) -> Result<StepParts, NoMemory>
         requires { IsNextStep self.now weights.now step.now current.old }
-        ensures { IfOk result (HasNextActions self.now weights.now step.now
-            current.old current.new) }
+        ensures { IfOk result (λ parts. HasNextActions self.now weights.now step.now
+            current.old current.new (actions_of parts)) }
     {
-        step_actions(alloc, current, &self.frame, weights, step)
+        step_parts(alloc, current, &self.frame, weights, step)
     }
 
     /// The actions of the end phase, which stand behind those of the steps.

@@ -29,8 +29,8 @@ fn steps_actions(
     let mut actions = List::new(alloc);
     let mut current = begun.first_current();
     for step in task.steps.items() {
-        let own = begun.step_actions(alloc, weights, step, &mut current)?;
-        push_all(&mut actions, own)?;
+        let parts = begun.step_parts(alloc, weights, step, &mut current)?;
+        push_all(&mut actions, parts.into_actions(alloc)?)?;
     }
     Ok(actions)
 }

@@ -52,7 +52,7 @@ pub(crate) fn soft_ends(
     for one in soft.items() {
         let (own, others) = rest.split_at(one.parts.len());
         ends.push(SoftEnd {
-            accept: accepting(alloc, List::new(alloc), own)?,
+            accept: accepting(alloc, List::with_capacity(alloc, own.len())?, own)?,
             weight: named_weight(by_name, one.name),
         })?;
         rest = others;

@@ -12,9 +12,11 @@ mod monitor_readers;
 mod monitoring;
 mod names;
 mod narrow;
+mod parts;
 mod stepping;
 mod weighing;
 
 pub use begun::BegunTarget;
 pub use compiling::compile;
 pub use laws::begun_targets_are_compiled;
+pub use parts::{StepCopies, StepParts, TargetCopy};

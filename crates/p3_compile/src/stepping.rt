@@ -8,11 +8,13 @@ ghost use Rattle.p3_formula.specs.Targets.{is_sized_change};
 ghost use Rattle.p3_formula.specs.declared.task.GroundStep.{GroundStep};
 ghost use Rattle.p3_precprefs.specs.Questions.{IsChain};
 ghost use Rattle.p3_simulation.specs.Naming.{is_wide};
+ghost use Rattle.p3_compile.specs.Parts.{actions_of};
 ghost use Rattle.p3_compile.specs.Stepping.{IsFrame, IsStepReady, HasActions, HasRoom};
 ghost use Rattle.p3_compile.specs.Updated.{HasTidyConditions};
 
 use crate::changes::{GuardedStep, guarded_step, step_changes};
-use crate::narrow::narrow_actions;
+use crate::narrow::narrow_copies;
+use crate::parts::StepParts;
 use crate::weighing::{has_many_weights, is_wide};
 use p3_base::{List, NoMemory};
 use p3_formula::{Effects, GroundStep, TargetAction, Weights};
@@ -80,27 +82,30 @@ fn chain_actions(
     ask(alloc, step, effects, weights, frame.go, frame.first, own)
 }
 
-/// The actions of a step that has a cost.
-fn costed_actions(
+/// What a step that has a cost comes to.
+fn costed_parts(
     alloc: Global,
     current: &mut usize,
     frame: &Frame,
     weights: &Weights,
     step: &GroundStep,
-) -> Result<List<TargetAction>, NoMemory>
+) -> Result<StepParts, NoMemory>
     requires frame { IsFrame frame.now }
     requires ready { IsStepReady frame.now weights.now step.now }
     requires cost { IsSome step.now.cost }
     requires room { HasRoom frame.now weights.now step.now current.old }
-    ensures { IfOk result (HasActions frame.now weights.now step.now current.old current.new) }
+    ensures { IfOk result (λ parts.
+        HasActions frame.now weights.now step.now current.old current.new (actions_of parts)) }
 {
     if has_many_weights(&weights.by_name, step) {
         let effects = step_changes(alloc, frame, step)?;
-        return chain_actions(alloc, current, frame, weights, step, &effects);
+        let actions = chain_actions(alloc, current, frame, weights, step, &effects)?;
+        return Ok(StepParts::Actions(actions));
     }
     let made = guarded_step(alloc, frame, step)?;
     let GuardedStep { pre, effects } = made;
-    narrow_actions(alloc, step, pre, effects, weights, frame.go)
+    let copies = narrow_copies(alloc, step, pre, effects, weights, frame.go)?;
+    Ok(StepParts::Copies(copies))
 }
 
 /// The actions stand behind the others.
@@ -116,21 +121,22 @@ pub(crate) fn push_all(
     Ok(())
 }
 
-/// The actions of a step. Without a cost it has none.
-pub(crate) fn step_actions(
+/// What a step comes to. Without a cost it has no action.
+pub(crate) fn step_parts(
     alloc: Global,
     current: &mut usize,
     frame: &Frame,
     weights: &Weights,
     step: &GroundStep,
-) -> Result<List<TargetAction>, NoMemory>
+) -> Result<StepParts, NoMemory>
     requires frame { IsFrame frame.now }
     requires ready { IsStepReady frame.now weights.now step.now }
     requires room { HasRoom frame.now weights.now step.now current.old }
-    ensures { IfOk result (HasActions frame.now weights.now step.now current.old current.new) }
+    ensures { IfOk result (λ parts.
+        HasActions frame.now weights.now step.now current.old current.new (actions_of parts)) }
 {
     if step.cost.is_some() {
-        return costed_actions(alloc, current, frame, weights, step);
+        return costed_parts(alloc, current, frame, weights, step);
     }
-    Ok(List::new(alloc))
+    Ok(StepParts::Actions(List::new(alloc)))
 }

@@ -10,9 +10,9 @@ use Rattle.p3_formula.specs.declared.form.Form.TheBlock.{hidden-the_row-Form-0}
 use Rattle.p3_formula.specs.declared.form.Form.TheVariants.{True, False, Atom, Not, And, Or}
 use Rattle.p3_formula.proofs.FormLemmas.{fold_parts}
 use Rattle.p3_formula.specs.declared.target.TargetAction.{TargetAction}
-use Rattle.p3_writer.specs.AtomTexts.{action_start}
+use Rattle.p3_writer.specs.AtomTexts.{action_end, action_start}
 use Rattle.p3_writer.specs.DomainText.{BegunDomain, with_actions}
-use Rattle.p3_writer.specs.Layout.{atom_text, negated_text, spaced, form_layer, form_text, joined_text, action_head, action_text, actions_text, set_atom, set_atoms}
+use Rattle.p3_writer.specs.Layout.{atom_text, negated_text, spaced, form_layer, form_text, joined_text, action_head, action_text, actions_text, changes_text, cost_text, set_atom, set_atoms}
 
 module _ (names : List Name) where
   pub form_text-True : form_text names True ≡ codes "(and)"
@@ -55,10 +55,33 @@ when_pushed old form text =
 pub goal_begun : (old text : List ℕ) → (old ++ codes ")\n(:goal") ++ (32 ∷ text) ≡ (old ++ codes ")\n(:goal ") ++ text
 goal_begun old text = append_assoc old (codes ")\n(:goal") (32 ∷ text) ∙ sym (append_assoc old (codes ")\n(:goal ") text)
 
-pub action_begun : (old name text : List ℕ) → (old ++ action_start name) ++ (32 ∷ text) ≡ old ++ (action_head name ++ text)
+action_begun : (old name text : List ℕ) → (old ++ action_start name) ++ (32 ∷ text) ≡ old ++ (action_head name ++ text)
 action_begun old name text =
     append_assoc old (action_start name) (32 ∷ text)
     ∙ ap (λ rest. old ++ rest) (append_assoc (codes "(:action " ++ name) (codes " :parameters ()\n :precondition") (32 ∷ text) ∙ sym (append_assoc (codes "(:action " ++ name) (codes " :parameters ()\n :precondition ") text))
+
+pub four_pushed : (old first second third fourth : List ℕ) → (((old ++ first) ++ second) ++ third) ++ fourth ≡ old ++ (((first ++ second) ++ third) ++ fourth)
+four_pushed old first second third fourth =
+    ap (λ text. (text ++ third) ++ fourth) (append_assoc old first second)
+    ∙ ap (λ text. text ++ fourth) (append_assoc old (first ++ second) third)
+    ∙ append_assoc old ((first ++ second) ++ third) fourth
+
+action_ended : (front changes cost : List ℕ) → front ++ (codes "\n :effect (and" ++ changes ++ cost ++ codes "))\n") ≡ front ++ codes "\n :effect " ++ (codes "(and" ++ changes ++ cost ++ codes ")") ++ codes ")\n"
+action_ended front changes cost =
+    let inside = codes "(and" ++ changes ++ cost in
+    sym (append_assoc (front ++ codes "\n :effect ") (inside ++ codes ")") (codes ")\n")
+    ∙ append_assoc front (codes "\n :effect ") ((inside ++ codes ")") ++ codes ")\n")
+    ∙ ap (λ text. front ++ (codes "\n :effect " ++ text)) (append_assoc inside (codes ")") (codes ")\n")))
+
+-- an action in three pieces: up to its precondition, this, and what stands behind it
+pub action_laid : (names : List Name) (action : TargetAction) (old : List ℕ)
+    → ((old ++ action_start action.name) ++ (32 ∷ form_text names action.pre)) ++ action_end names action.effects action.cost ≡ old ++ action_text names action
+unfolding action_text
+action_laid names action old =
+    let front = action_head action.name ++ form_text names action.pre in
+    ap (λ text. text ++ action_end names action.effects action.cost) (action_begun old action.name (form_text names action.pre))
+    ∙ append_assoc old front (action_end names action.effects action.cost)
+    ∙ ap (λ text. old ++ text) (action_ended front (changes_text names action.effects) (cost_text action.cost))
 
 -- some actions, and others behind them
 pub with_more : (begun : BegunDomain) (first more : List TargetAction) → with_actions (with_actions begun first) more ≡ with_actions begun (first ++ more)

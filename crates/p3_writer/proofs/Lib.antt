@@ -1,3 +1,4 @@
+pub mod CopyLemmas
 pub mod LayoutLemmas
 pub mod PoolLemmas
 pub mod Texts

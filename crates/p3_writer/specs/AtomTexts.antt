@@ -1,7 +1,8 @@
 -- The texts of atoms in one row, and where each of them begins.
 use Rattle.std.specs.Prelude.{◌≡◌, ℕ, ◌+◌, List, [], ◌∷◌, ◌++◌, codes, length}
 use Rattle.p3_base.specs.Words.{Name}
-use Rattle.p3_writer.specs.Layout.{atom_text, headers_text}
+use Rattle.p3_formula.specs.declared.form.Change.{Change}
+use Rattle.p3_writer.specs.Layout.{atom_text, changes_text, cost_text, headers_text}
 
 -- where each of the texts begins that stand one behind the other from a place on, and where the last one ends
 abbrev pub starts_from : ℕ → List Name → List ℕ
@@ -15,3 +16,7 @@ pub record IsPool (names : List Name) (text starts : List ℕ) : Type 0 where
 -- what stands before the precondition of an action and the space before it
 abbrev pub action_start : Name → List ℕ
 action_start name = codes "(:action " ++ name ++ codes " :parameters ()\n :precondition"
+
+-- what stands behind it
+abbrev pub action_end : List Name → List Change → ℕ → List ℕ
+action_end names changes cost = codes "\n :effect (and" ++ changes_text names changes ++ cost_text cost ++ codes "))\n"

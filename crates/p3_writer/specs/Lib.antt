@@ -1,4 +1,5 @@
 pub mod AtomTexts
+pub mod CopyText
 pub mod DomainText
 pub mod Layout
 pub mod TaskOf

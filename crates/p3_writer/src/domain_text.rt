@@ -1,16 +1,18 @@
 //! The text of the domain half of a task, which may be written while its actions are made.
 
-ghost use Rattle.std.specs.Prelude.{◌≡◌, ◌++◌, length, IsTrue, IfOk, OnOk};
+ghost use Rattle.std.specs.Prelude.{◌≡◌, ◌∷◌, ◌++◌, [], length, IsTrue, IfOk, OnOk};
 ghost use Rattle.std.specs.List.{list_all};
 ghost use Rattle.p3_base.specs.Words.{is_name, is_predicate_name};
 ghost use Rattle.p3_formula.specs.Targets.{IsSized, action_names, is_sized_action};
 ghost use Rattle.p3_formula.specs.declared.target.Target.{Target};
+ghost use Rattle.p3_writer.specs.CopyText.{copied_action};
 ghost use Rattle.p3_writer.specs.DomainText.{HasAllActions, first_text, with_actions};
 ghost use Rattle.p3_writer.specs.Layout.{domain_layout, is_small};
 ghost use Rattle.p3_writer.specs.TaskOf.{task_of};
 ghost use Rattle.p3_writer.specs.Texts.{AreSpelled, CanBeWritten, IsDomainTextOf};
 
 use crate::atom_texts::AtomTexts;
+use crate::copy_text::{CopyParts, push_copy};
 use crate::layout::{push, push_actions, push_bytes};
 use p3_base::{Name, NoMemory};
 use p3_formula::{Target, TargetAction};
@@ -55,6 +57,16 @@ impl<'n> DomainText<'n> {
         ensures small { OnOk result (IsTrue (list_all is_small actions.now)) }
     {
         push_actions(&mut self.text, &self.atoms, actions)
+    }
+
+    /// Writes the action of a copy of a step behind those before.
+    pub fn push_copy(&mut self, copy: &CopyParts<'_>) -> Result<(), NoMemory>
+        requires { IsTrue (is_sized_action (length self.old.names) (copied_action copy.now)) }
+        ensures layout { OnOk result
+            (self.new ≡ with_actions self.old (copied_action copy.now ∷ [])) }
+        ensures small { OnOk result (IsTrue (is_small (copied_action copy.now))) }
+    {
+        push_copy(&mut self.text, &self.atoms, copy)
     }
 
     /// Writes what stands behind the last action, and gives the whole text.

@@ -1,14 +1,14 @@
 //! The parts of a target's texts, and the text of its problem half.
 
-ghost use Rattle.std.specs.Prelude.{◌≡◌, ◌∷◌, ◌++◌, ◌<◌, ◌^◌, [], length, slice_index_or, IsTrue, IfOk, OnOk};
+ghost use Rattle.std.specs.Prelude.{◌≡◌, ◌∷◌, ◌++◌, ◌<◌, ◌^◌, [], length, map, slice_index_or, IsTrue, IfOk, OnOk};
 ghost use Rattle.std.specs.List.{list_all};
 ghost use Rattle.std.specs.Fmt.{decimal};
 ghost use Rattle.p3_base.specs.Words.{is_name, is_predicate_name};
 ghost use Rattle.p3_formula.specs.Forms.{IsBelow, AreBelow};
 ghost use Rattle.p3_formula.specs.declared.target.Target.{Target};
 ghost use Rattle.p3_formula.specs.Targets.{IsSized, action_names, is_sized_change, is_sized_action};
-ghost use Rattle.p3_writer.specs.Layout.{atom_text, negated_text, form_text, joined_text, literal_text, change_text, changes_text, cost_text, effect_text, action_text, actions_text, is_small, set_atom, set_atoms, problem_layout, problem_text};
-ghost use Rattle.p3_writer.specs.AtomTexts.{action_start};
+ghost use Rattle.p3_writer.specs.Layout.{atom_text, negated_text, form_text, joined_text, spaced, literal_text, change_text, changes_text, cost_text, action_text, actions_text, is_small, set_atom, set_atoms, problem_layout, problem_text};
+ghost use Rattle.p3_writer.specs.AtomTexts.{action_end, action_start};
 ghost use Rattle.p3_writer.specs.TaskOf.{task_of};
 ghost use Rattle.p3_writer.specs.Texts.{AreSpelled, CanBeWritten, HasProblem, IsProblemTextOf};
 
@@ -80,7 +80,11 @@ pub(crate) fn push_bytes(out: &mut Vec<u8>, bytes: &[u8]) -> Result<(), NoMemory
 /// A form with a space before it, by a recursion as deep as the form.
 #[cycle(forms)]
 #[tactic(auto, using(crate::proofs::LayoutLemmas::text_laws, p3_formula::proofs::FormLemmas::below_laws))]
-fn push_form(out: &mut Vec<u8>, atoms: &AtomTexts<'_>, form: &Form) -> Result<(), NoMemory>
+pub(crate) fn push_form(
+    out: &mut Vec<u8>,
+    atoms: &AtomTexts<'_>,
+    form: &Form,
+) -> Result<(), NoMemory>
     requires { IsBelow (length atoms.now) form.now }
     ensures { OnOk result (out.new.items ≡ out.old.items ++ (32 ∷ form_text atoms.now form.now)) }
 {
@@ -119,10 +123,25 @@ fn push_joined(
         (out.new.items ≡ out.old.items ++ joined_text atoms.now head.now parts.now) }
 {
     push(out, head)?;
-    for part in parts {
-        push_form(out, atoms, part)?;
-    }
+    push_forms(out, atoms, parts)?;
     push(out, ")")
+}
+
+/// The forms, each with a space before it.
+#[cycle(forms)]
+pub(crate) fn push_forms(
+    out: &mut Vec<u8>,
+    atoms: &AtomTexts<'_>,
+    forms: &[Form],
+) -> Result<(), NoMemory>
+    requires { AreBelow (length atoms.now) forms.now }
+    ensures { OnOk result (out.new.items
+        ≡ out.old.items ++ spaced (map (form_text atoms.now) forms.now)) }
+{
+    for form in forms {
+        push_form(out, atoms, form)?;
+    }
+    Ok(())
 }
 
 /// An atom that is set, or else its negation, with a space before it.
@@ -191,13 +210,13 @@ fn push_cost(out: &mut Vec<u8>, cost: u64) -> Result<(), NoMemory>
     push(out, ")")
 }
 
-fn push_number(out: &mut Vec<u8>, number: u64) -> Result<(), NoMemory>
+pub(crate) fn push_number(out: &mut Vec<u8>, number: u64) -> Result<(), NoMemory>
     ensures { OnOk result (out.new.items ≡ out.old.items ++ decimal number) }
 {
     push(out, Buffer::new().format(number))
 }
 
-#[tactic(auto, unfolding(crate::specs::Layout::action_text), using(crate::proofs::LayoutLemmas::action_begun))]
+#[tactic(auto, using(crate::proofs::LayoutLemmas::action_laid))]
 fn push_action(
     out: &mut Vec<u8>,
     atoms: &AtomTexts<'_>,
@@ -210,9 +229,7 @@ fn push_action(
 {
     push_action_head(out, &action.name)?;
     push_form(out, atoms, &action.pre)?;
-    push(out, "\n :effect ")?;
-    push_effect(out, atoms, action)?;
-    push(out, ")\n")
+    push_effect(out, atoms, action.effects.items(), action.cost)
 }
 
 fn push_action_head(out: &mut Vec<u8>, name: &Name) -> Result<(), NoMemory>
@@ -223,20 +240,22 @@ fn push_action_head(out: &mut Vec<u8>, name: &Name) -> Result<(), NoMemory>
     push(out, " :parameters ()\n :precondition")
 }
 
-fn push_effect(
+/// What stands behind the precondition of an action.
+pub(crate) fn push_effect(
     out: &mut Vec<u8>,
     atoms: &AtomTexts<'_>,
-    action: &TargetAction,
+    changes: &[Change],
+    cost: u64,
 ) -> Result<(), NoMemory>
-    requires { IsTrue (is_sized_action (length atoms.now) action.now) }
+    requires { IsTrue (list_all (is_sized_change (length atoms.now)) changes.now) }
     ensures layout { OnOk result
-        (out.new.items ≡ out.old.items ++ effect_text atoms.now action.now) }
-    ensures small { OnOk result (action.now.cost < 2 ^ 64) }
+        (out.new.items ≡ out.old.items ++ action_end atoms.now changes.now cost) }
+    ensures small { OnOk result (cost < 2 ^ 64) }
 {
-    push(out, "(and")?;
-    push_changes(out, atoms, action.effects.items())?;
-    push_cost(out, action.cost)?;
-    push(out, ")")
+    push(out, "\n :effect (and")?;
+    push_changes(out, atoms, changes)?;
+    push_cost(out, cost)?;
+    push(out, "))\n")
 }
 
 pub(crate) fn push_actions(

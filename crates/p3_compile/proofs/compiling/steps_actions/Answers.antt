@@ -1,5 +1,5 @@
 use Rattle.std.proofs.Common.{◌+◌, ◌<◌, ◌∙◌, [], length, take, get_or, sym, ap, subst}
-use Rattle.p3_compile.specs.Stepping.{AreMade}
+use Rattle.p3_compile.specs.Stepping.{AreMade, HasNextActions}
 use Rattle.p3_compile.proofs.BegunLaws.{next_step, one_step_more}
 use Rattle.p3_compile.proofs.StepLists.{no_steps}
 use Rattle.p3_compile.proofs.compiling.steps_actions.Goals as goal
@@ -10,8 +10,8 @@ loop-step-init c =
     subst (λ current. AreMade begun.frame c.args.weights.now [] begun.current current c.new-actions.result) (sym c.first_current-current.ensures)
     (subst (AreMade begun.frame c.args.weights.now [] begun.current begun.current) (sym c.new-actions.ensures) (no_steps begun.frame c.args.weights.now begun.current))
 
-pub step_actions-requires : goal.step_actions-requires
-step_actions-requires c =
+pub step_parts-requires : goal.step_parts-requires
+step_parts-requires c =
     next_step c.args.task.now c.args.weights.now c.args.begun.now c.requires.ready c.requires.begun c.loop-step.step-index c.step-item.result
     (subst (λ steps. c.loop-step.step-index < length steps) c.items-step-items.ensures c.loop-step-test.true)
     (c.step-item.is ∙ ap (λ steps. get_or steps c.loop-step.step-index c.step-item.result) c.items-step-items.ensures)
@@ -20,8 +20,10 @@ step_actions-requires c =
 pub loop-step-preserved : goal.loop-step-preserved
 loop-step-preserved c =
     let begun = c.args.begun.now in
-    subst (AreMade begun.frame c.args.weights.now (take (c.loop-step.step-index + 1) c.args.task.now.steps) begun.current c.step_actions.new.current) (sym c.in_ok-push_all.ensures)
+    let next = c.step_parts.new.current in
+    let made = subst (HasNextActions begun c.args.weights.now c.step-item.result c.loop-step.current next) (sym c.in_ok-into_actions.ensures) c.in_ok-parts.ensures in
+    subst (AreMade begun.frame c.args.weights.now (take (c.loop-step.step-index + 1) c.args.task.now.steps) begun.current next) (sym c.in_ok-push_all.ensures)
     (one_step_more c.args.task.now c.args.weights.now begun c.requires.ready c.requires.begun c.loop-step.step-index c.step-item.result
     (subst (λ steps. c.loop-step.step-index < length steps) c.items-step-items.ensures c.loop-step-test.true)
     (c.step-item.is ∙ ap (λ steps. get_or steps c.loop-step.step-index c.step-item.result) c.items-step-items.ensures)
-    c.loop-step.current c.loop-step.actions c.loop-step.invariant c.step_actions.new.current c.in_ok-own.own c.in_ok-own.ensures)
+    c.loop-step.current c.loop-step.actions c.loop-step.invariant next c.in_ok-into_actions.field-0 made)

@@ -16,7 +16,7 @@ loop-one-preserved c =
     let at = c.one-item.is ∙ ap (λ softs. get_or softs c.loop-one.one-index c.one-item.result) c.items-one-items.ensures in
     let rest = c.loop-one.rest.now in
     let back = c.split_at.ensures.back ∙ ap (λ n. drop n rest) c.len.ensures in
-    let accepts = c.in_ok-accepting.ensures ∙ (λ i. accepting (c.new.ensures i) ((c.split_at.ensures.front ∙ ap (λ n. take n rest) c.len.ensures) i)) in
+    let accepts = c.in_ok-accepting.ensures ∙ (λ i. accepting (c.in_ok-with_capacity.ensures i) ((c.split_at.ensures.front ∙ ap (λ n. take n rest) c.len.ensures) i)) in
     record {
       whole = ap (λ list. list ++ soft_ends c.args.by_name.now (drop (c.loop-one.one-index + 1) c.args.soft.now) c.split_at.result.1.now) c.in_ok-push.ensures.ok
           ∙ ends_next c.args.soft.now c.loop-one.one-index c.one-item.result within at c.args.by_name.now rest c.split_at.result.1.now c.loop-one.ends c.in_ok-accepting.field-0 c.named_weight.result back accepts c.named_weight.ensures

@@ -1,9 +1,10 @@
 use Rattle.std.proofs.Common.{◌∙◌, sym}
+use Rattle.p3_compile.specs.Parts.{copied_actions}
 use Rattle.p3_compile.specs.Stepping.{hard_monitors}
 use Rattle.p3_compile.proofs.EndLaws.{cut_before}
 use Rattle.p3_compile.proofs.GuardLists.{is_guarded}
-use Rattle.p3_compile.proofs.StepLists.{is_effects, narrow, wide, both_known, made_same, three_of, changed_below, pre_below}
-use Rattle.p3_compile.proofs.stepping.costed_actions.Goals as goal
+use Rattle.p3_compile.proofs.StepLists.{is_effects, narrow, wide, made_same, changed_below, pre_below}
+use Rattle.p3_compile.proofs.stepping.costed_parts.Goals as goal
 
 pub chain_actions-requires-clause-effects : goal.chain_actions-requires-clause-effects
 chain_actions-requires-clause-effects c =
@@ -14,17 +15,17 @@ pub returns-then-has_many_weights : goal.returns-then-has_many_weights
 returns-then-has_many_weights c =
     let has = c.in_ok-effects.ensures.changes in
     let is = is_effects c.args.frame.now.go c.args.frame.now.monitors c.args.step.now c.requires.frame.before (changed_below c.args.frame.now.go c.args.step.now c.requires.ready.below) c.in_ok-effects.effects has in
-    both_known c.chain_actions.result c.chain_actions.ensures.chain (c.chain_actions.ensures.tidy c.in_ok-effects.ensures.tidy) c.chain_actions.ensures.next
-    (λ actions chain tidy next. wide c.args.frame.now c.args.weights.now c.args.step.now c.args.current.now c.chain_actions.new.current c.in_ok-effects.effects actions c.requires.cost (sym c.has_many_weights.ensures ∙ c.if-has_many_weights.true) is has next chain tidy)
+    let chain = c.in_ok-actions.ensures in
+    wide c.args.frame.now c.args.weights.now c.args.step.now c.args.current.now c.chain_actions.new.current c.in_ok-effects.effects c.in_ok-actions.actions c.requires.cost (sym c.has_many_weights.ensures ∙ c.if-has_many_weights.true) is has chain.next chain.chain (chain.tidy c.in_ok-effects.ensures.tidy)
 
 pub returns : goal.returns
 returns c =
     let frame = c.args.frame.now in
     let step = c.args.step.now in
     let made = c.in_ok-made.made in
+    let copies = c.in_ok-copies in
     let sized = changed_below frame.go step c.requires.ready.below in
     let has = made_same step.pre step.effects frame.monitors made.effects c.in_ok-made.ensures.changes in
     let is = is_effects frame.go frame.monitors step c.requires.frame.before sized made.effects has in
     let guarded = is_guarded frame.go (hard_monitors frame) step (cut_before frame.go frame.hard frame.monitors c.requires.frame.before).0 (pre_below frame.go step c.requires.ready.below) sized made.pre c.in_ok-made.ensures.pre in
-    three_of c.narrow_actions.result c.narrow_actions.ensures.split c.narrow_actions.ensures.tidy c.narrow_actions.ensures.simpler
-    (λ actions split tidy simpler. narrow frame c.args.weights.now step c.args.current.now made.pre made.effects actions c.requires.cost (sym c.has_many_weights.ensures ∙ c.if-has_many_weights.false) is has guarded split tidy simpler)
+    narrow frame c.args.weights.now step c.args.current.now made.pre made.effects (copied_actions copies.copies) c.requires.cost (sym c.has_many_weights.ensures ∙ c.if-has_many_weights.false) is has guarded copies.ensures.split copies.ensures.tidy copies.ensures.simpler

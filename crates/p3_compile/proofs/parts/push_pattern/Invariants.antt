@@ -1,5 +1,5 @@
 use Rattle.std.proofs.Common.{◌≡◌, ◌++◌, take}
-use Rattle.p3_compile.proofs.narrow.push_pattern.Given as goal
+use Rattle.p3_compile.proofs.parts.push_pattern.Given as goal
 use Rattle.p3_simulation.specs.Naming.{pattern}
 
 -- the digits passed are written
