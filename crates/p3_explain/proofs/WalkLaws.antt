@@ -148,6 +148,13 @@ module _ (ran : Ran) (can : CanBeRun ran.task ran.weights) where
   sized_after UnknownAction step kept count long = absurd (cc)
   sized_after Arguments step kept count long = absurd (cc)
 
+-- a step that is tried leaves the weights as they are
+pub weights_stay : (ran : Ran) (found : Found) (fault : Option PlanFault) → (ran_with ran found fault).weights ≡ ran.weights
+weights_stay ran (Number number) None = refl
+weights_stay ran (Number number) (Some fault) = refl
+weights_stay ran UnknownAction fault = refl
+weights_stay ran Arguments fault = refl
+
 -- before the first step
 pub begun_marked : (G : GroundTask) (w : Weights) (ran : Ran) → ran ≡ begun G w → (task : GroundTask) → task ≡ G → (marks : Marked) → AreMarks task (task.initial ∷ []) marks → (prefs : List Reason) → prefs ≡ [] → IsMarked ran marks prefs
 begun_marked G w ran is task same marks all prefs none = subst (λ (r : Ran). IsMarked r marks prefs) (sym is) (record {

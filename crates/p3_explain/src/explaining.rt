@@ -7,9 +7,9 @@ ghost use Rattle.p3_task.specs.PlanTexts.{step_limit};
 ghost use Rattle.p3_task.specs.Plans.{steps_fit};
 ghost use Rattle.p3_task.specs.Validity.{first_fault, step_fault};
 ghost use Rattle.p3_ground.specs.StandsFor.{LeftOutAt};
-ghost use Rattle.p3_run.specs.Runs.{most_steps};
+ghost use Rattle.p3_run.specs.Runs.{begun, most_steps};
 ghost use Rattle.p3_marks.specs.Marked.{shown_all};
-ghost use Rattle.p3_eval.specs.Judged.{HasItsStep, fault_in};
+ghost use Rattle.p3_eval.specs.Judged.{HasDone, HasItsStep, fault_in};
 ghost use Rattle.p3_eval.specs.Runs.{OfItsPlan};
 ghost use Rattle.p3_eval.specs.Steps.{OfSteps};
 ghost use Rattle.p3_explain.specs.Explaining.{IsExplainFail};
@@ -31,6 +31,15 @@ pub struct Explanation {
     pub fault: Option<PlanFault>,
     /// The states that show why its constraints and preferences are satisfied or not.
     pub reasons: List<Reason>,
+}
+
+/// What is told of a plan whose steps fit, with the run that has done them.
+#[derive(Drop)]
+pub struct Explained<'a> {
+    /// What is told of it.
+    pub explanation: Explanation,
+    /// The run that has done its steps.
+    pub run: Run<'a>,
 }
 
 /// Explains a plan whose steps fit: for each hard constraint, for each operator of the preference
@@ -77,6 +86,45 @@ pub fn explain_steps(
     ensures fail { IfErr result (λ fail. OfSteps grounded.now.checked.now.task steps.now
         (λ plan. IsExplainFail grounded.now.checked.now.task plan fail)) }
 {
+    match explained_run(alloc, grounded, steps) {
+        Ok(Explained { explanation, run }) => {
+            drop(run);
+            Ok(explanation)
+        }
+        Err(fail) => Err(fail),
+    }
+}
+
+/// Explains steps that fit, and gives the run that has done them: what more is to be told of their
+/// plan needs no second run.
+///
+/// # Errors
+///
+/// The first step that does not fit. And want of memory.
+pub fn explained_run<'a>(
+    alloc: Global,
+    grounded: &Grounded<'a>,
+    steps: &Steps,
+) -> Result<Explained<'a>, ExplainFail>
+    requires asked { All (LeftOutAt grounded.now.checked.now.task grounded.now.ground_task.now)
+        steps.now.numbers.items }
+    ensures reasons { IfOk result (λ found. OfSteps grounded.now.checked.now.task steps.now
+        (λ plan. found.explanation.reasons ≡ reasons grounded.now.checked.now.task plan)) }
+    ensures fault { IfOk result (λ found. OfSteps grounded.now.checked.now.task steps.now
+        (λ plan. first_fault grounded.now.checked.now.task plan
+        ≡ option_map fault_in found.explanation.fault)) }
+    ensures placed { IfOk result (λ found. IfSome found.explanation.fault HasItsStep) }
+    ensures fit { OnOk result (OfSteps grounded.now.checked.now.task steps.now
+        (λ plan. IsTrue (steps_fit grounded.now.checked.now.task plan))) }
+    ensures task { IfOk result (λ found. found.run.task ≡ grounded.now.ground_task.now) }
+    ensures weights { IfOk result (λ found. found.run.weights ≡ grounded.now.weights.now) }
+    ensures few { IfOk result (λ found. length found.run.plan ≤ most_steps) }
+    ensures done { IfOk result (λ found. OfSteps grounded.now.checked.now.task steps.now
+        (λ plan. HasDone grounded.now.checked.now.task plan
+        (begun grounded.now.ground_task.now grounded.now.weights.now) found.run)) }
+    ensures fail { IfErr result (λ fail. OfSteps grounded.now.checked.now.task steps.now
+        (λ plan. IsExplainFail grounded.now.checked.now.task plan fail)) }
+{
     let task = grounded.ground_task();
     let mut run = grounded.begin(alloc)?;
     let mut marks = OperatorMarks::open(alloc, task)?;
@@ -85,7 +133,8 @@ pub fn explain_steps(
         Ok(()) => {
             let reasons = gathered(alloc, &run, &marks, &prefs, task)?;
             let fault = run.judge();
-            Ok(Explanation { fault, reasons })
+            let explanation = Explanation { fault, reasons };
+            Ok(Explained { explanation, run })
         }
         Err(fail) => Err(fail),
     }

@@ -8,6 +8,6 @@ mod naming;
 mod walking;
 
 pub use error::ExplainFail;
-pub use explaining::{Explanation, explain, explain_steps};
+pub use explaining::{Explained, Explanation, explain, explain_steps, explained_run};
 pub use naming::name_of;
 pub use p3_base::{Reason, Showing, Subject};

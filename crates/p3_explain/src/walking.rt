@@ -102,6 +102,7 @@ pub(crate) fn walk(
     requires begun { run.old.plan ≡ [] }
     requires marked { IsMarked run.old marks.old prefs.old }
     ensures task { OnOk result (task.now ≡ run.new.task) }
+    ensures weights { OnOk result (run.new.weights ≡ run.old.weights) }
     ensures few { OnOk result (length run.new.plan ≤ most_steps) }
     ensures marked { OnOk result (IsMarked run.new marks.new prefs.new) }
     ensures done { OnOk result

@@ -4,6 +4,7 @@ use Rattle.p3_run.specs.Runs.{CanBeRun, Ran}
 use Rattle.p3_eval.specs.Judged.{NamesMisfitOfFound, TellsOfFound}
 use Rattle.p3_eval.proofs.JudgeLaws.{has_done, has_room, never_fits, next_number, next_rest, none_done, still_together}
 use Rattle.p3_explain.proofs.FaultLaws.{step_faults}
+use Rattle.p3_explain.proofs.WalkLaws.{weights_stay}
 use Rattle.p3_explain.proofs.walking.walk.Goals as goal
 
 pub loop-number-init : goal.loop-number-init
@@ -61,3 +62,9 @@ returns-in_default-rest-clause-done c T all left plan first =
     let at = c.loop-number.number-index in
     let past = subst (λ (list : List ℕ). length list ≤ at) c.as_slice-number-items.ensures.value c.loop-number-test.false in
     has_done c.args.run.now c.loop-number.run steps.numbers.items at c.loop-number.invariant.ran T all left plan steps.rest first past c.in_default-rest.is
+
+pub returns-in_default-2-clause-weights : goal.returns-in_default-2-clause-weights
+returns-in_default-2-clause-weights c =
+    ap (λ (ran : Ran). ran.weights) c.in_ok-fault-2.ensures.ran
+    ∙ weights_stay c.loop-number.run c.in-Some-rest.found _
+    ∙ ap (λ (ran : Ran). ran.weights) c.loop-number.invariant.ran

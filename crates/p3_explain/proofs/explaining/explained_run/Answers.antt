@@ -5,12 +5,13 @@ use Rattle.p3_formula.specs.Conditions.{HasAtomsBelow}
 use Rattle.p3_formula.specs.declared.task.GroundTask.{GroundTask}
 use Rattle.p3_ground.specs.StandsFor.{LeftOutAt}
 use Rattle.p3_run.specs.Runs.{CanBeRun, Ran}
+use Rattle.p3_eval.specs.Judged.{HasDone}
 use Rattle.p3_eval.specs.Runs.{BelongTogether}
 use Rattle.p3_eval.proofs.RunKept.{can_be_run}
 use Rattle.p3_eval.proofs.WholeRuns.{grounded_together}
 use Rattle.p3_explain.proofs.ExplainLaws.{walked_explains, walked_faults, walked_fit}
 use Rattle.p3_explain.proofs.WalkLaws.{begun_marked}
-use Rattle.p3_explain.proofs.explaining.explain_steps.Goals as goal
+use Rattle.p3_explain.proofs.explaining.explained_run.Goals as goal
 
 pub open-requires-clause-below : goal.open-requires-clause-below
 open-requires-clause-below c =
@@ -79,6 +80,22 @@ returns-in-Ok-clause-fit c plan first =
     let all : BelongTogether T run.task run.weights = subst (λ (ran : Ran). BelongTogether T ran.task ran.weights) begins (grounded_together grounded) in
     let left : All (LeftOutAt T run.task) c.args.steps.now.numbers.items = subst (λ (ran : Ran). All (LeftOutAt T ran.task) c.args.steps.now.numbers.items) begins c.requires.asked in
     walked_fit T plan run now all (c.in-Ok.ensures.done T all left plan first) c.in_ok-reasons-in-Ok.ensures.fit
+
+pub returns-in-Ok-clause-task : goal.returns-in-Ok-clause-task
+returns-in-Ok-clause-task c = sym c.in-Ok.ensures.task ∙ c.ground_task-task.ensures
+
+pub returns-in-Ok-clause-weights : goal.returns-in-Ok-clause-weights
+returns-in-Ok-clause-weights c = c.in-Ok.ensures.weights ∙ ap (λ (ran : Ran). ran.weights) c.in_ok-run.ensures.begun
+
+pub returns-in-Ok-clause-done : goal.returns-in-Ok-clause-done
+returns-in-Ok-clause-done c plan first =
+    let grounded = c.args.grounded.now in
+    let T = grounded.checked.now.task in
+    let run = c.in_ok-run.run' in
+    let begins = sym c.in_ok-run.ensures.begun in
+    let all : BelongTogether T run.task run.weights = subst (λ (ran : Ran). BelongTogether T ran.task ran.weights) begins (grounded_together grounded) in
+    let left : All (LeftOutAt T run.task) c.args.steps.now.numbers.items = subst (λ (ran : Ran). All (LeftOutAt T ran.task) c.args.steps.now.numbers.items) begins c.requires.asked in
+    subst (λ (ran : Ran). HasDone T plan ran c.walk.new.run) c.in_ok-run.ensures.begun (c.in-Ok.ensures.done T all left plan first)
 
 pub returns-clause-fail : goal.returns-clause-fail
 returns-clause-fail c plan first =
