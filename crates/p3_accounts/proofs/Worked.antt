@@ -29,4 +29,4 @@ shares_of_a_metric = refl
 
 pub names_of_tasks : NamesOfTasks
 unfolding words_compute
-names_of_tasks = record { step = refl; atom = refl; monitor = refl }
+names_of_tasks = record { step = refl; atom = refl; monitor = refl; chain = refl; end = refl }

@@ -23,6 +23,7 @@ use Rattle.p3_accounts.specs.Vocabularies.{Vocabulary}
 use Rattle.p3_accounts.specs.declared.account.Account.{Account}
 use Rattle.p3_accounts.specs.declared.meaning.Meant.{Meant}
 use Rattle.p3_accounts.specs.declared.meaning.Meant.TheVariants as meant
+use Rattle.p3_accounts.specs.declared.meaning.Settling.TheVariants as settling
 use Rattle.p3_accounts.specs.declared.operator.OperatorKind.TheVariants as kind
 use Rattle.p3_accounts.specs.declared.share.Shares.{Shares}
 use Rattle.p3_accounts.specs.declared.spot.Spot.{Spot}
@@ -173,3 +174,5 @@ pub record NamesOfTasks : Type 0 where
   pub atom : Means None 4 (meant.Atom (1 ∷ 1 ∷ 0 ∷ [])) "f4 (in c1 t1)"
   pub monitor : Means (spot file.Problem 20 24) 1 (meant.Monitor (subject.Preference (Some 1) (kind.One one.AtMostOnce) (binds "?c" 1 ∷ [])))
       "problem.pddl:20:24: m1 preference once, at-most-once, ?c = c1"
+  pub chain : Means (spot file.Problem 20 9) 0 (meant.Chain (settling.Next (Some 1) (binds "?c" 1 ∷ []))) "problem.pddl:20:9: e0 settled next: preference once, ?c = c1"
+  pub end : Means None 3 (meant.Chain settling.Done) "e3 all preferences are settled"

@@ -23,7 +23,7 @@ pub use account::{Account, put_account};
 pub use heading::{Heading, put_heading};
 pub use laws::{accounts_are_of_plans, worked_accounts};
 pub use lines::Lines;
-pub use meaning::{Meaning, Meant, put_meaning};
+pub use meaning::{Meaning, Meant, Settling, put_meaning, put_meanings};
 pub use operator::OperatorKind;
 pub use share::{CostShare, NameShare, Shares};
 pub use shares::put_shares;

@@ -1,13 +1,19 @@
 //! What the names of a written task stand for.
 
-ghost use Rattle.std.specs.Prelude.{◌≤◌, OnErr, OnOk};
+ghost use Rattle.std.specs.Prelude.{◌≤◌, OnErr, OnOk, flat_map};
 ghost use Rattle.p3_base.specs.Outside.{IsPartlyPut, IsPut, Rose};
-ghost use Rattle.p3_accounts.specs.Meanings.{meaning_line, meant_text, monitor_text};
+ghost use Rattle.p3_accounts.specs.Meanings.{
+  chain_text,
+  meaning_line,
+  meant_text,
+  monitor_text,
+  settling_text,
+};
 ghost use Rattle.p3_accounts.specs.Vocabularies.{vocabulary};
 
-use crate::item::{Item, put_items};
+use crate::item::{Item, Printed, put_all, put_items};
 use crate::spot::Spot;
-use crate::subject::{Subject, put_subject};
+use crate::subject::{Binding, Subject, put_subject};
 use crate::terms::Terms;
 use p3_base::{List, Sink, SinkFailed};
 use p3_reasons::PlacedStep;
@@ -21,6 +27,22 @@ pub enum Meant {
     Atom(List<u32>),
     /// `m` and a number: an operator of a constraint or of a preference.
     Monitor(Subject),
+    /// `e` and a number: how far preferences are settled behind the end of a plan.
+    Chain(Settling),
+}
+
+/// How far the preferences over the visited states are settled.
+#[derive(Debug, Drop)]
+pub enum Settling {
+    /// This one is settled next.
+    Next {
+        /// The number of its name, where it has one.
+        name: Option<u32>,
+        /// What the variables outside it mean.
+        bindings: List<Binding>,
+    },
+    /// All are settled.
+    Done,
 }
 
 /// A name of a written task with what it stands for.
@@ -32,6 +54,34 @@ pub struct Meaning {
     pub number: u32,
     /// What the name stands for.
     pub of: Meant,
+}
+
+impl Printed for Meaning {
+    ghost use Rattle.p3_accounts.specs.Meanings.{meaning_line};
+
+    ghost text = { meaning_line };
+
+    fn put<S: Sink>(&self, terms: &Terms<'_>, out: &mut S) -> Result<(), SinkFailed> {
+        put_meaning(self, terms, out)
+    }
+}
+
+/// Puts the lines of names one behind another.
+pub fn put_meanings<S: Sink>(
+    meanings: &[Meaning],
+    terms: &Terms<'_>,
+    out: &mut S,
+) -> Result<(), SinkFailed>
+    ensures ok { OnOk result
+        (IsPut (flat_map (meaning_line (vocabulary terms.now)) meanings.now)
+        (S.seen out.old).written (S.seen out.new).written) }
+    ensures partly { OnErr result
+        (IsPartlyPut (flat_map (meaning_line (vocabulary terms.now)) meanings.now)
+        (S.seen out.old).written (S.seen out.new).written) }
+    ensures failed { OnErr result (Rose (S.seen out.old).faults (S.seen out.new).faults) }
+    ensures faults_grow { (S.seen out.old).faults ≤ (S.seen out.new).faults }
+{
+    put_all(meanings, terms, out)
 }
 
 /// Puts the line of a name.
@@ -88,6 +138,7 @@ fn put_meant<S: Sink>(
             out,
         ),
         Meant::Monitor(subject) => put_monitor(number, subject, terms, out),
+        Meant::Chain(settling) => put_chain(number, settling, terms, out),
     }
 }
 
@@ -112,4 +163,55 @@ fn put_monitor<S: Sink>(
         out,
     )?;
     put_subject(subject, terms, out)
+}
+
+/// Puts the name of a chain atom, and how far it is settled there.
+fn put_chain<S: Sink>(
+    number: u32,
+    settling: &Settling,
+    terms: &Terms<'_>,
+    out: &mut S,
+) -> Result<(), SinkFailed>
+    ensures ok { OnOk result (IsPut (chain_text (vocabulary terms.now) number settling.now)
+        (S.seen out.old).written (S.seen out.new).written) }
+    ensures partly { OnErr result
+        (IsPartlyPut (chain_text (vocabulary terms.now) number settling.now)
+        (S.seen out.old).written (S.seen out.new).written) }
+    ensures failed { OnErr result (Rose (S.seen out.old).faults (S.seen out.new).faults) }
+    ensures faults_grow { (S.seen out.old).faults ≤ (S.seen out.new).faults }
+{
+    put_items(
+        &[Item::Text("e"), Item::Number(number), Item::Text(" ")],
+        terms,
+        out,
+    )?;
+    put_settling(settling, terms, out)
+}
+
+/// Puts how far preferences are settled.
+fn put_settling<S: Sink>(
+    settling: &Settling,
+    terms: &Terms<'_>,
+    out: &mut S,
+) -> Result<(), SinkFailed>
+    ensures ok { OnOk result (IsPut (settling_text (vocabulary terms.now) settling.now)
+        (S.seen out.old).written (S.seen out.new).written) }
+    ensures partly { OnErr result
+        (IsPartlyPut (settling_text (vocabulary terms.now) settling.now)
+        (S.seen out.old).written (S.seen out.new).written) }
+    ensures failed { OnErr result (Rose (S.seen out.old).faults (S.seen out.new).faults) }
+    ensures faults_grow { (S.seen out.old).faults ≤ (S.seen out.new).faults }
+{
+    match settling {
+        Settling::Next { name, bindings } => put_items(
+            &[
+                Item::Text("settled next: preference "),
+                Item::Preference(*name),
+                Item::Bindings(bindings),
+            ],
+            terms,
+            out,
+        ),
+        Settling::Done => put_items(&[Item::Text("all preferences are settled")], terms, out),
+    }
 }
