@@ -1,0 +1,5 @@
+pub mod Bindings
+pub mod Sources
+pub mod Unmet
+pub mod Sketches
+pub mod Stages

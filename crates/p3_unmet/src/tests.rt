@@ -1,0 +1,53 @@
+//! Tests of what runs.
+
+use crate::{Sources, bindings_of};
+use p3_accounts::{InputFile, Spot};
+use p3_base::{List, Name, NoMemory, Role};
+use p3_scenes::Bindings;
+use std::alloc::Global;
+use std::test::Fail;
+
+/// The spots of an offset in the text of the domain and in that of the problem.
+fn spots(alloc: Global, offset: u32) -> Result<(Spot, Spot), NoMemory> {
+    let sources = Sources::of(alloc, b"a\nbc", b"abc\nd")?;
+    Ok((
+        sources.spot(Role::Domain, offset),
+        sources.spot(Role::Problem, offset),
+    ))
+}
+
+#[test]
+fn an_offset_is_found_in_the_text_of_its_half(rt: HostRuntime) -> Result<(), Fail> {
+    let (domain, problem) = spots(rt.alloc(), 3)?;
+    assert!(&rt; domain.file == InputFile::Domain);
+    assert!(&rt; domain.line == 2);
+    assert!(&rt; domain.column == 2);
+    assert!(&rt; problem.file == InputFile::Problem);
+    assert!(&rt; problem.line == 1);
+    assert!(&rt; problem.column == 4);
+    Ok(())
+}
+
+/// The objects that two variables mean, where there are three objects.
+fn objects(alloc: Global) -> Result<(usize, u32, u32), NoMemory> {
+    let (first, second) = (Name::of(alloc, b"?x")?, Name::of(alloc, b"?y")?);
+    let mut variables = List::new(alloc);
+    variables.push(&first)?;
+    variables.push(&second)?;
+    let objects = List::from(Vec::from_slice(alloc, &[7, 5, 3])?);
+    let bindings = Bindings { variables, objects };
+    let list = bindings_of(alloc, &bindings)?;
+    match (list.get(0), list.get(1)) {
+        (Some(one), Some(other)) => Ok((list.len(), one.object, other.object)),
+        _ => Err(NoMemory),
+    }
+}
+
+#[test]
+fn each_variable_means_the_object_at_its_place(rt: HostRuntime) -> Result<(), Fail> {
+    let (count, first, second) = objects(rt.alloc())?;
+    assert!(&rt; count == 2);
+    assert!(&rt; first == 7);
+    assert!(&rt; second == 5);
+    Ok(())
+}
