@@ -1,0 +1,13 @@
+use Rattle.std.proofs.Common.{◌≡◌, ◌++◌, drop, map}
+use Rattle.p3_scenes.specs.Seen.{seen}
+use Rattle.p3_accounts.specs.Vocabularies.{vocabulary}
+use Rattle.p3_unmet.specs.Sources.{texts}
+use Rattle.p3_meanings.specs.Heard.{hard_heard, heard}
+use Rattle.p3_meanings.proofs.monitors.push_hard.Given as goal
+
+-- what is said so far, and what is left to be said, is all
+abbrev pub invariant-loop-place : goal.invariant-loop-place
+invariant-loop-place l =
+    let V = vocabulary l.telling.terms.now in
+    let S = texts l.telling.sources.now in
+    map (heard V) l.found ++ hard_heard V S l.place (map seen (drop l.place l.scenes)) ≡ map (heard V) l.fn.found ++ hard_heard V S 0 (map seen l.scenes)

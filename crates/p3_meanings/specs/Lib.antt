@@ -1,0 +1,11 @@
+pub mod Said
+pub mod Environments
+pub mod Steps
+pub mod Atoms
+pub mod Monitors
+pub mod Chains
+pub mod Names
+pub mod Heard
+pub mod Told
+pub mod Numbered
+pub mod Worked
