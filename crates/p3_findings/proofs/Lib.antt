@@ -1,0 +1,3 @@
+pub mod GoalLemmas
+pub mod MisfitLemmas
+pub mod PlacedLemmas
