@@ -1,0 +1,3 @@
+(define (domain lamp)
+ (:predicates (on))
+ (:action switch :precondition (not (on)) :effect (on)))
