@@ -74,6 +74,9 @@ fn step_of(alloc: Global, word: &str, rest: &str) -> Result<Step, Flaw> {
         "run-sure" => Ok(Step::RunSure {
             words: words_of(alloc, rest)?,
         }),
+        "why" => Ok(Step::Why {
+            words: words_of(alloc, rest)?,
+        }),
         "status" => status_of(rest),
         "absent" => absent_of(alloc, rest),
         "same" => same_of(alloc, rest),

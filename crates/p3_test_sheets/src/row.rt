@@ -27,6 +27,10 @@ pub(crate) enum Step {
     RunSure {
         words: Vec<Word>,
     },
+    /// The words are asked of the program that says why.
+    Why {
+        words: Vec<Word>,
+    },
     /// How the run above ends.
     Status {
         status: u8,
@@ -121,7 +125,9 @@ impl Step {
     /// what is printed.
     pub(crate) fn may_follow(&self, before: Option<&Step>) -> bool {
         match before {
-            Some(Step::Run { .. } | Step::RunSure { .. }) => matches!(self, Step::Status { .. }),
+            Some(Step::Run { .. } | Step::RunSure { .. } | Step::Why { .. }) => {
+                matches!(self, Step::Status { .. })
+            }
             Some(Step::Status { .. }) => matches!(self, Step::Prints { .. }),
             _ => !matches!(self, Step::Status { .. } | Step::Prints { .. }),
         }
@@ -131,16 +137,17 @@ impl Step {
     pub(crate) fn may_end(&self) -> bool {
         !matches!(
             self,
-            Step::Run { .. } | Step::RunSure { .. } | Step::Status { .. }
+            Step::Run { .. } | Step::RunSure { .. } | Step::Why { .. } | Step::Status { .. }
         )
     }
 
     /// Whether the step runs something with that word.
     fn has_word(&self, name: &Word) -> bool {
         match self {
-            Step::Run { words } | Step::RunSure { words } | Step::Cuts { words, .. } => {
-                is_among(name, words.as_slice())
-            }
+            Step::Run { words }
+            | Step::RunSure { words }
+            | Step::Why { words }
+            | Step::Cuts { words, .. } => is_among(name, words.as_slice()),
             Step::Faults { words } => is_fault_word(name, words.as_slice()),
             _ => false,
         }
@@ -150,7 +157,11 @@ impl Step {
     pub(crate) fn runs(&self) -> bool {
         matches!(
             self,
-            Step::Run { .. } | Step::RunSure { .. } | Step::Cuts { .. } | Step::Faults { .. }
+            Step::Run { .. }
+                | Step::RunSure { .. }
+                | Step::Why { .. }
+                | Step::Cuts { .. }
+                | Step::Faults { .. }
         )
     }
 }

@@ -29,6 +29,7 @@ fn take(alloc: Global, world: &mut World, line: &Line) -> Result<(), Stop> {
         Step::FailPut { put } => world.fail_put(*put)?,
         Step::Run { words } => world.run(words.as_slice()),
         Step::RunSure { words } => world.run_sure(number, words.as_slice())?,
+        Step::Why { words } => world.why(words.as_slice()),
         Step::Status { status } => world.ends(number, *status)?,
         Step::Prints { bytes } => world.prints(number, bytes.as_slice())?,
         Step::Absent { names } => lacks(world, number, names.as_slice())?,

@@ -8,6 +8,7 @@ use crate::complaint::Stop;
 use crate::shown::{difference, shown};
 use p3_base::{MemFiles, MemSink, NoMemory, SureFiles, SureSink, Word};
 use p3_cli::{are_held, run, run_sure};
+use p3_why::why;
 use std::alloc::Global;
 
 /// How many bytes the runs of a row may print.
@@ -65,6 +66,12 @@ impl World {
     pub(crate) fn run(&mut self, words: &[Word]) {
         self.printed_before = self.sink.bytes().len();
         self.status = run(self.alloc, words, &mut self.files, &mut self.sink);
+    }
+
+    /// Asks the words of the program that says why.
+    pub(crate) fn why(&mut self, words: &[Word]) {
+        self.printed_before = self.sink.bytes().len();
+        self.status = why(self.alloc, words, &mut self.files, &mut self.sink);
     }
 
     /// Runs the words over files and a sink that never fail. The files hold what the words name here,
