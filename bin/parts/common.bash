@@ -18,8 +18,13 @@ is_fresh() {
 
 # Sets `program` to the one that bin/pddl3c runs: the proved one, where it is not older than its sources;
 # else the one that was compiled from them without a proof, which is made where it is missing or older;
-# else bin/parts/interpret.
+# else bin/parts/interpret. With the name of another program it is that one, and the status is 1 where
+# there is none.
 find_program() {
+    [ "${1:-pddl3c}" = pddl3c ] || {
+        find_other "$1"
+        return
+    }
     if [ -x "$installed" ]; then
         program=$installed
     elif is_fresh "$proved"; then
@@ -28,6 +33,20 @@ find_program() {
         program=$unproved
     else
         program=$top/bin/parts/interpret
+    fi
+}
+
+# Sets `program` to another one, which stands beside pddl3c where that is installed.
+find_other() {
+    local made=$top/crates/$1/out/$1
+    if [ ! -d "$top/crates" ]; then
+        program=$top/programs/$1
+        [ -x "$program" ]
+    elif is_fresh "$made"; then
+        program=$made
+    else
+        program=$made-unproved
+        [ -d "$top/crates/$1" ] && { is_fresh "$program" || "$top/bin/parts/compile" "$1"; }
     fi
 }
 

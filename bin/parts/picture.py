@@ -4,7 +4,7 @@ Each state has a column; the steps are the borders between the columns, so that 
 is seen at its border. All lengths are in pixels.
 """
 
-from dataclasses import dataclass
+from dataclasses import dataclass, field
 from html import escape
 from itertools import groupby
 from math import ceil, cos, floor, log10, radians, sin
@@ -47,10 +47,17 @@ class Lane:
     marks: list  # pairs of a state and whether it holds there; or the numbers of steps
     of_steps: bool = False
     folds: int = 0  # how many lanes it stands for, all satisfied
+    bound: str = ""  # the objects that its variables mean, in parentheses
+    told: str = ""  # what it is of, in whole, and where that stands
+    why: dict = field(default_factory=dict)  # by state, or step, the lines that say why
+
+    def whole(self):
+        """Gives the lane's name with the objects that it is of."""
+        return ("unnamed" if self.name == "-" else self.name) + self.bound
 
     def label(self):
-        """Gives the lane's name, cut where it is long."""
-        name = "unnamed" if self.name == "-" else self.name
+        """Gives the same, cut where it is long."""
+        name = self.whole()
         return name if len(name) <= 24 else name[:23] + "…"
 
     def verdict(self):
@@ -76,6 +83,7 @@ class Story:
     cost: str
     lanes: list
     lines: list  # of `explain`
+    account: list = field(default_factory=list)  # the lines of pddl3why
 
     def title(self):
         """Says what the picture is of."""
@@ -310,19 +318,27 @@ def staggered(places):
     return [(at - (run - 1) / 2) * 7.5 for run in runs for at in range(run)]
 
 
+def because(lane, at, said):
+    """Says what is marked at a state or step, and why, where that is known."""
+    return escape("\n".join([said, *lane.why.get(at, [])]))
+
+
 def state_marks(plan, lane, y):
     """Marks the states that show whether a lane is satisfied."""
     marks = sorted(lane.marks)
     places = [plan.middle(state) for state, _ in marks]
     for (state, holds), place, shift in zip(marks, places, staggered(places)):
         drawn = dot(place, y + shift) if holds else cross(place, y + shift)
-        yield f"<g><title>{'holds' if holds else 'fails'} in state {state}</title>{drawn}</g>"
+        said = f"{'holds' if holds else 'fails'} in state {state}"
+        yield f"<g><title>{because(lane, state, said)}</title>{drawn}</g>"
 
 
 def step_marks(plan, lane, y):
     """Marks the steps that violate a preference; where they stand close they become thin lines."""
     if plan.cell >= 12:
-        yield from (diamond(plan.border(step), y) for step in sorted(set(lane.marks)))
+        for step in sorted(set(lane.marks)):
+            drawn = diamond(plan.border(step), y)
+            yield f"<g><title>{because(lane, step, f'violated by step {step}')}</title>{drawn}</g>" if step in lane.why else drawn
     else:
         places = sorted({number(round(plan.border(step) * 2) / 2) for step in lane.marks}, key=float)
         yield f'<path d="{"".join(f"M{place} {number(y - 7)}v14" for place in places)}" class="thin"/>'
@@ -331,7 +347,7 @@ def step_marks(plan, lane, y):
 def lane_row(plan, lane, y):
     """Draws a lane."""
     suffix = f' <tspan class="mute">{escape(lane.number)}</tspan>' if lane.number else ""
-    full = f"{lane.name} {lane.number}: {lane.verdict()}".replace(" :", ":")
+    full = f"{lane.name}{lane.bound} {lane.number}: {lane.verdict()}".replace(" :", ":") + (f"\n{lane.told}" if lane.told else "")
     yield f'<g class="{"yes" if lane.satisfied else "no"}"><title>{escape(full)}</title>'
     yield text(plan.left - 12, y + 4.5, escape(lane.label()) + suffix, "end")
     yield line(plan.left, y, plan.right, y, "lane" if not lane.of_steps else "grid")

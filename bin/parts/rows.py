@@ -10,7 +10,8 @@ from pathlib import Path
 
 PIECES = ("|", '"', "times ", "numbers ", "text ", "replacing ")
 TAKES_TEXT = {"hold": 1, "prints": 0, "holds": 1, "counts": 2, "let": 1}
-WORDS = set(TAKES_TEXT) | {"row", "run", "run-sure", "status", "absent", "same", "fail", "fail-put", "cuts", "faults"}
+RUNS = {"run", "run-sure", "why"}
+WORDS = set(TAKES_TEXT) | RUNS | {"row", "status", "absent", "same", "fail", "fail-put", "cuts", "faults"}
 
 
 class Unread(Exception):
@@ -124,8 +125,8 @@ def read(path):
 def check(row):
     """Looks whether each run has its status and what it prints."""
     words = [step.word for step in row.steps]
-    if not {"run", "run-sure", "cuts", "faults"} & set(words):
+    if not (RUNS | {"cuts", "faults"}) & set(words):
         raise Unread(f"{row.name}: nothing is run")
     for at, word in enumerate(words):
-        if word in ("run", "run-sure") and words[at + 1 : at + 3] != ["status", "prints"]:
+        if word in RUNS and words[at + 1 : at + 3] != ["status", "prints"]:
             raise Unread(f"{row.name}: behind a run stand its status and what it prints")
