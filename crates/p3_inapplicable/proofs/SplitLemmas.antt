@@ -12,19 +12,12 @@ use Rattle.p3_task.specs.Names.{Name}
 use Rattle.p3_task.specs.PlanTexts.{Before, Outside, Begun, Named, IsPlanText, Mark, Opens, Closes, Names, first_of_both, has_plan_words, mark_of, offence_from, offence_of, plan_offence, step_limit, step_marks, word_offence}
 use Rattle.p3_task.specs.Plans.{Plan}
 use Rattle.p3_task.specs.Tokens.{Token, Open, Close, Word, Tokens, before, is_blank, is_comment_after, is_of_word, prefixed, tokens_from, tokens_of, with_byte}
+use Rattle.p3_task.proofs.MovedTokenLaws.{both, by_tests, is_byte, longer, marks_moved, moved_from, moved_tokens, none_moved, same_both}
 use Rattle.p3_task.proofs.OnceLemmas.{map_at}
 use Rattle.p3_plans.specs.Laws.{all_of}
 use Rattle.p3_plans.specs.Steps.{StepText, steps_from}
 use Rattle.p3_plans.proofs.PlanLaws.{a_plan_where_no_offence}
 use Rattle.p3_inapplicable.specs.Places.{BeginsAt}
-
-both : {A B : Type 0} (f : A → B) (b : Bool) (x y : A) → f (if b then x else y) ≡ (if b then f x else f y)
-both f true x y = refl
-both f false x y = refl
-
-same_both : {A : Type 0} (b : Bool) (x : A) → (if b then x else x) ≡ x
-same_both true x = refl
-same_both false x = refl
 
 -- ---- each `(`
 
@@ -71,14 +64,6 @@ module _ (at byte : ℕ) where
 
 -- ---- a byte that is no `(`
 
-abbrev by_tests : ℕ → ℕ → Bool → Bool → Bool → Bool → Tokens → Tokens
-by_tests at byte is_open is_close word between later =
-    if is_open then before (Open at) later
-    else (if is_close then before (Close at) later
-    else (if word then record { tokens = prefixed at byte later.tokens; foreign = later.foreign }
-    else (if between then later
-    else record { tokens = []; foreign = Some at })))
-
 abbrev front_of : Tokens → ℕ → Tokens
 front_of later k = record { tokens = front_to later.tokens k; foreign = None }
 
@@ -107,9 +92,6 @@ record IsSplit (is_comment : Bool) (at k o : ℕ) (bytes : List ℕ) : Type 0 wh
   byte : slice_get bytes (o - at) ≡ Some 40
   front : tokens_from is_comment at (take (o - at) bytes) ≡ front_of (tokens_from is_comment at bytes) k
   rest : tokens_from false o (drop (o - at) bytes) ≡ rest_of (tokens_from is_comment at bytes) k
-
-longer : (at end : ℕ) → at + 1 ≤ end → end - at ≡ suc (end - (at + 1))
-longer at end within = omega (arith, within)
 
 split_here : (at o : ℕ) (bytes : List ℕ) → at ≡ o → IsSplit false at 0 o (40 ∷ bytes)
 unfolding tokens_from
@@ -143,9 +125,6 @@ split_comment at k o byte bytes later =
       front = ap (λ (n : ℕ). tokens_from true at (take n (byte ∷ bytes))) len ∙ later.front;
       rest = ap (λ (n : ℕ). tokens_from false o (drop n (byte ∷ bytes))) len ∙ later.rest;
     }
-
-is_byte : (byte other : ℕ) → (byte == other) ≡ true → byte ≡ other
-is_byte byte other e = grind (arith, nat_tests)
 
 split_byte : (is_open : Bool) (at k o byte : ℕ) (bytes : List ℕ) → (byte == 40) ≡ is_open → slice_get (opens (tokens_from false at (byte ∷ bytes)).tokens) k ≡ Some o
     → ((k : ℕ) → slice_get (opens (tokens_from (is_comment_after false byte) (at + 1) bytes).tokens) k ≡ Some o → IsSplit (is_comment_after false byte) (at + 1) k o bytes)
@@ -184,57 +163,6 @@ unfolding tokens_from
 split is_comment at k o [] is = absurd cc
 split true at k o (byte ∷ bytes) is = split_comment at k o byte bytes (split (is_comment_after true byte) (at + 1) k o bytes is)
 split false at k o (byte ∷ bytes) is = split_byte (byte == 40) at k o byte bytes refl is (λ k is. split (is_comment_after false byte) (at + 1) k o bytes is)
-
--- ---- a text alone has the marks that it has at an offset
-
-abbrev moved : ℕ → Token → Token
-moved more (Open at) = Open (at + more)
-moved more (Close at) = Close (at + more)
-moved more (Word at text) = Word (at + more) text
-
-abbrev moved_place : ℕ → Option ℕ → Option ℕ
-moved_place more None = None
-moved_place more (Some at) = Some (at + more)
-
-abbrev moved_tokens : ℕ → Tokens → Tokens
-moved_tokens more later = record { tokens = map (moved more) later.tokens; foreign = moved_place more later.foreign }
-
-same_test : (at next more : ℕ) → (next + more == (at + more) + 1) ≡ (next == at + 1)
-same_test at next more = grind (arith, nat_tests)
-
-moved_prefixed : (at byte more : ℕ) (later : List Token) → prefixed (at + more) byte (map (moved more) later) ≡ map (moved more) (prefixed at byte later)
-moved_prefixed at byte more [] = refl
-moved_prefixed at byte more (Open next ∷ later) = refl
-moved_prefixed at byte more (Close next ∷ later) = refl
-moved_prefixed at byte more (Word next text ∷ later) =
-    ap (λ (b : Bool). if b then Word (at + more) (to_ascii_lowercase byte ∷ text) ∷ map (moved more) later else Word (at + more) (to_ascii_lowercase byte ∷ []) ∷ Word (next + more) text ∷ map (moved more) later) (same_test at next more)
-    ∙ sym (both (λ (tokens : List Token). map (moved more) tokens) (next == at + 1) _ _)
-
-moved_tests : (at byte more : ℕ) (later : Tokens) (is_open is_close word between : Bool) → by_tests (at + more) byte is_open is_close word between (moved_tokens more later) ≡ moved_tokens more (by_tests at byte is_open is_close word between later)
-moved_tests at byte more later true is_close word between = refl
-moved_tests at byte more later false true word between = refl
-moved_tests at byte more later false false true between = ap (λ (tokens : List Token). record { tokens = tokens; foreign = moved_place more later.foreign }) (moved_prefixed at byte more later.tokens)
-moved_tests at byte more later false false false true = refl
-moved_tests at byte more later false false false false = refl
-
-moved_from : (is_comment : Bool) (at more place : ℕ) (bytes : List ℕ) → place ≡ at + more → tokens_from is_comment place bytes ≡ moved_tokens more (tokens_from is_comment at bytes)
-unfolding tokens_from
-moved_from is_comment at more place [] is = refl
-moved_from true at more place (byte ∷ bytes) is = moved_from (is_comment_after true byte) (at + 1) more (place + 1) bytes (omega (arith, is))
-moved_from false at more place (byte ∷ bytes) is =
-    ap (with_byte place byte) (moved_from (is_comment_after false byte) (at + 1) more (place + 1) bytes (omega (arith, is)))
-    ∙ ap (λ (p : ℕ). with_byte p byte (moved_tokens more (tokens_from (is_comment_after false byte) (at + 1) bytes))) is
-    ∙ moved_tests at byte more (tokens_from (is_comment_after false byte) (at + 1) bytes) (byte == 40) (byte == 41) (is_of_word byte) (is_blank byte || byte == 59)
-
-marks_moved : (more : ℕ) (tokens : List Token) → map mark_of (map (moved more) tokens) ≡ map mark_of tokens
-marks_moved more [] = refl
-marks_moved more (Open at ∷ later) = ap (λ (m : List Mark). Opens ∷ m) (marks_moved more later)
-marks_moved more (Close at ∷ later) = ap (λ (m : List Mark). Closes ∷ m) (marks_moved more later)
-marks_moved more (Word at text ∷ later) = ap (λ (m : List Mark). Names text ∷ m) (marks_moved more later)
-
-none_moved : (more : ℕ) (foreign : Option ℕ) → moved_place more foreign ≡ None → foreign ≡ None
-none_moved more None is = refl
-none_moved more (Some at) is = absurd cc
 
 -- ---- where the steps of a text begin
 

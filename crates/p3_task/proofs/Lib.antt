@@ -10,6 +10,7 @@ pub mod KnownLaws
 pub mod LineLaws
 pub mod LiteralLaws
 pub mod MeaningLemmas
+pub mod MovedTokenLaws
 pub mod OffenceLemmas
 pub mod OffsetLemmas
 pub mod OnceLemmas
