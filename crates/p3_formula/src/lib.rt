@@ -8,6 +8,7 @@ mod constructors;
 mod copy;
 mod evaluation;
 mod form;
+mod gathered;
 mod guards;
 mod known;
 mod laws;

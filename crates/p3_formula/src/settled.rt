@@ -1,18 +1,19 @@
 //! Forms simplified where something is known of atoms.
 
-ghost use Rattle.std.specs.Prelude.{◌≡◌, ◌≤◌, ◌++◌, ◌∷◌, ◌||◌, not, [], Bool, map, IfOk, OnOk, IsTrue, false};
-ghost use Rattle.std.specs.List.{flat_map, list_all};
+ghost use Rattle.std.specs.Prelude.{◌≡◌, ◌≤◌, ◌++◌, map, IfOk, OnOk, IsTrue};
+ghost use Rattle.std.specs.List.{list_all};
 ghost use Rattle.p3_formula.specs.Forms.{State, truth, HasAtomsOf, nodes};
 ghost use Rattle.p3_formula.specs.Literals.{is_met, said_of};
-ghost use Rattle.p3_formula.specs.Simplified.{is_value as is_that, negated};
+ghost use Rattle.p3_formula.specs.Simplified.{negated};
 ghost use Rattle.p3_formula.specs.Tidy.{is_tidy};
 ghost use Rattle.p3_formula.specs.Settled as made;
 
 use crate::Form;
 use crate::copy::copied;
+use crate::gathered::gathered;
 use crate::known::Known;
 use crate::literals::Literal;
-use crate::simpler::{constant, is_value, joined, negated, push_all, push_one, push_spread};
+use crate::simpler::{constant, negated, push_all, push_one, push_spread};
 use p3_base::NoMemory;
 use std::alloc::Global;
 
@@ -152,115 +153,5 @@ fn push_spread_or(all: &mut Vec<Form>, part: Form) -> Result<(), NoMemory>
         Form::Not(part) => push_one(all, Form::Not(part)),
         Form::And(parts) => push_one(all, Form::And(parts)),
         Form::Or(parts) => push_all(all, parts),
-    }
-}
-
-/// The conjunction of the pieces, or else their disjunction, with each literal once.
-fn gathered(alloc: Global, pieces: Vec<Form>, every: bool) -> Result<Form, NoMemory>
-    ensures { IfOk result (λ simple. simple ≡ made.gathered every [] pieces.items) }
-{
-    let mut kept = Vec::with_capacity(alloc, pieces.len())?;
-    let mut seen = Known::new(alloc);
-    for piece in pieces {
-        if closes(&seen, &piece, every) {
-            return Ok(constant(!every));
-        }
-        keep_once(&mut kept, &mut seen, piece)?;
-    }
-    Ok(joined(kept, every))
-}
-
-/// Whether the piece settles the whole beside the literals that were seen.
-fn closes(seen: &Known, piece: &Form, every: bool) -> bool
-    ensures { result ≡ (is_that (not every) piece.now
-        || made.clashes_one seen.now (made.own_literal piece.now)) }
-{
-    is_value(piece, !every) || clashes(seen, piece)
-}
-
-/// The piece stands behind the others, where it is no literal that was seen.
-fn keep_once(kept: &mut Vec<Form>, seen: &mut Known, piece: Form) -> Result<(), NoMemory>
-    requires stand { seen.old ≡ flat_map made.own_literal kept.old.items }
-    requires other { made.clashes kept.old.items piece ≡ false }
-    ensures kept { OnOk result (kept.new.items ≡ made.kept_once kept.old.items piece) }
-    ensures seen { OnOk result (seen.new ≡ flat_map made.own_literal kept.new.items) }
-{
-    if repeats(seen, &piece) {
-        drop(piece);
-        return Ok(());
-    }
-    see(seen, &piece)?;
-    kept.push(piece)?;
-    Ok(())
-}
-
-/// The literal that the piece is, where it is one, stands behind the others.
-#[tactic(auto, using(crate::proofs::SettledLaws::see_laws))]
-fn see(seen: &mut Known, piece: &Form) -> Result<(), NoMemory>
-    requires other { made.clashes_one seen.old (made.own_literal piece.now) ≡ false }
-    requires new { made.repeats_one seen.old (made.own_literal piece.now) ≡ false }
-    ensures { OnOk result (seen.new ≡ seen.old ++ made.own_literal piece.now) }
-{
-    match own_literal(piece) {
-        Some(literal) => seen.note(literal),
-        None => Ok(()),
-    }
-}
-
-/// Whether the negation of the piece is a literal that was seen.
-fn clashes(seen: &Known, piece: &Form) -> bool
-    ensures { result ≡ made.clashes_one seen.now (made.own_literal piece.now) }
-{
-    match own_literal(piece) {
-        Some(literal) => says(seen.of(literal.atom), !literal.holds),
-        None => false,
-    }
-}
-
-/// Whether the piece is a literal that was seen.
-fn repeats(seen: &Known, piece: &Form) -> bool
-    ensures { result ≡ made.repeats_one seen.now (made.own_literal piece.now) }
-{
-    match own_literal(piece) {
-        Some(literal) => says(seen.of(literal.atom), literal.holds),
-        None => false,
-    }
-}
-
-/// Whether that is said.
-fn says(said: Option<bool>, bit: bool) -> bool
-    ensures { result ≡ made.says said bit }
-{
-    match said {
-        Some(one) => one == bit,
-        None => false,
-    }
-}
-
-/// The literal that the form is, where it is one.
-#[tactic(auto, using(crate::proofs::SettledLaws::own_laws))]
-pub(crate) fn own_literal(form: &Form) -> Option<Literal>
-    ensures { made.own_literal form.now ≡ made.listed result }
-{
-    match form {
-        Form::Atom(atom) => Some(Literal {
-            atom: *atom,
-            holds: true,
-        }),
-        Form::Not(part) => denied_literal(part.get()),
-        Form::True | Form::False | Form::And(_) | Form::Or(_) => None,
-    }
-}
-
-/// The literal that the negation of the form is, where it is one.
-fn denied_literal(form: &Form) -> Option<Literal>
-    ensures { made.denied_literal form.now ≡ made.listed result }
-{
-    match form {
-        Form::Atom(atom) => Some(Literal {
-            atom: *atom,
-            holds: false,
-        }),
-        Form::True | Form::False | Form::Not(_) | Form::And(_) | Form::Or(_) => None,
     }
 }

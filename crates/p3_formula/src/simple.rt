@@ -5,7 +5,7 @@ ghost use Rattle.std.specs.List.{list_all};
 ghost use Rattle.p3_formula.specs.Tidy.{is_tidy, is_tidy_part};
 
 use crate::Form;
-use crate::settled::own_literal;
+use crate::gathered::own_literal;
 
 /// The most parts that are compared with one another.
 const MOST_PARTS: usize = 8;

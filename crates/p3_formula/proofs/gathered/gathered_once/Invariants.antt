@@ -2,7 +2,7 @@ use Rattle.std.proofs.Common.{◌≡◌, ◌++◌, [], length}
 use Rattle.std.specs.List.{flat_map}
 use Rattle.std.specs.Vec.Iter.{into_iter_items, into_iter_len}
 use Rattle.p3_formula.specs.Settled.{gathered, own_literal}
-use Rattle.p3_formula.proofs.settled.gathered.Given as goal
+use Rattle.p3_formula.proofs.gathered.gathered_once.Given as goal
 
 -- what is kept and the pieces that are left make up the whole
 abbrev pub invariant-loop-piece : goal.invariant-loop-piece
