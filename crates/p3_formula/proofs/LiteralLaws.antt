@@ -192,22 +192,16 @@ said_only_behind (one ∷ literals) more atom none = by (atom == one.atom) none 
   by true said later = absurd (none-some one.holds (sym said))
   by false none later = later none
 
-pub in_map : (literals : List Literal) (entries : List (ℕ × Bool)) (atom : ℕ) → said_of literals atom ≡ None → said_of (literals ++ literals_of entries) atom ≡ lookup (λ one. nat_eq atom one) entries
-in_map literals entries atom none = said_only_behind literals (literals_of entries) atom none ∙ said_entry entries atom
+pub ruleset said_laws = (said_behind, said_only_behind)
 
-pub ruleset said_laws = (said_behind, in_map)
-
-none_behind : (literals more : List Literal) (atom : ℕ) → said_of (literals ++ more) atom ≡ None → said_of more atom ≡ None
+pub none_behind : (literals more : List Literal) (atom : ℕ) → said_of (literals ++ more) atom ≡ None → said_of more atom ≡ None
 none_behind [] more atom none = none
 none_behind (one ∷ literals) more atom none = by (atom == one.atom) none (none_behind literals more atom) where
   by : (b : Bool) → (if b then Some one.holds else said_of (literals ++ more) atom) ≡ None → (said_of (literals ++ more) atom ≡ None → said_of more atom ≡ None) → said_of more atom ≡ None
   by true said later = absurd (none-some one.holds (sym said))
   by false rest later = later rest
 
-pub noted_behind : (literals : List Literal) (entries : List (ℕ × Bool)) (atom : ℕ) (holds : Bool) → said_of (literals ++ literals_of entries) atom ≡ None
-    → literals ++ literals_of (insert_entry nat_eq entries atom holds) ≡ (literals ++ literals_of entries) ++ literal atom holds ∷ []
-noted_behind literals entries atom holds new =
-    ap (λ rest. literals ++ rest) (noted entries atom holds (none_behind literals (literals_of entries) atom new))
-    ∙ sym (append_assoc literals (literals_of entries) (literal atom holds ∷ []))
+pub noted_behind : (literals more further : List Literal) (one : Literal) → further ≡ more ++ one ∷ [] → literals ++ further ≡ (literals ++ more) ++ one ∷ []
+noted_behind literals more further one is = ap (λ rest. literals ++ rest) is ∙ sym (append_assoc literals more (one ∷ []))
 
-pub ruleset note_laws = (append-nil, noted_behind)
+pub ruleset note_laws = (append-nil, none_behind, noted_behind)

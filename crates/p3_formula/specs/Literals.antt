@@ -1,6 +1,7 @@
 -- The literals that a form fixes, and what literals say of an atom.
 use Rattle.std.specs.Prelude.{ℕ, ◌==◌, Bool, true, false, not, if◌then◌else◌, List, [], ◌∷◌, ◌++◌, map, Option, None, Some, is_some}
 use Rattle.std.specs.List.{flat_map}
+use Rattle.indexmap.specs.IndexMap.{IndexMap}
 use Rattle.p3_formula.specs.Folds.{fold_form}
 use Rattle.p3_formula.specs.Forms.{State, is_set}
 use Rattle.p3_formula.specs.declared.form.Form.{Form}
@@ -51,6 +52,11 @@ with_one literals one = if is_some (said_of literals one.atom) then literals els
 abbrev pub with_all : List Literal → List Literal → List Literal
 with_all literals [] = literals
 with_all literals (one ∷ more) = with_all (with_one literals one) more
+
+-- the entries of a map, where there is one
+abbrev pub entries_of : {S : Type 0} → Option (IndexMap ℕ Bool S) → List (ℕ × Bool)
+entries_of None = []
+entries_of (Some some) = some.entries
 
 -- entries of a map as literals
 abbrev pub literals_of : List (ℕ × Bool) → List Literal

@@ -3,7 +3,7 @@
 ghost use Rattle.std.specs.Prelude.{◌≡◌, ◌++◌, ◌∷◌, [], None, true, IfOk, OnOk, IsTrue};
 ghost use Rattle.std.specs.List.{list_all};
 ghost use Rattle.p3_formula.specs.Forms.{State, truth};
-ghost use Rattle.p3_formula.specs.Literals.{fixed, is_met, said_of, with_all, with_one};
+ghost use Rattle.p3_formula.specs.Literals.{entries_of, fixed, is_met, literals_of, said_of, with_all, with_one};
 
 use crate::Form;
 use crate::literals::{Literal, fixed_by};
@@ -16,23 +16,23 @@ use std::marker::Model;
 const FEW: usize = 16;
 
 /// Literals of different atoms. A form fixes few of them mostly, and to look through these is quicker
-/// than to hash.
+/// than to hash, so that there is a map only where they are more.
 #[derive(Drop)]
 pub struct Known {
     few: Vec<Literal>,
-    many: IndexMap<usize, bool>,
+    many: Option<IndexMap<usize, bool>>,
 }
 
 impl Model for Known {
     ghost use Rattle.std.specs.Prelude.{◌≡◌, ◌<◌, ◌++◌, List, [], length};
-    ghost use Rattle.p3_formula.specs.Literals.{literals_of};
+    ghost use Rattle.p3_formula.specs.Literals.{entries_of, literals_of};
     ghost use Rattle.p3_formula.specs.declared.literals.Literal.{Literal};
 
     ghost Value = { List Literal };
 
-    ghost view = { λ known. known.few.items ++ literals_of known.many.entries };
+    ghost view = { λ known. known.few.items ++ literals_of (entries_of known.many) };
 
-    ghost invariant = { λ known. length known.few.items < 16 → known.many.entries ≡ [] };
+    ghost invariant = { λ known. length known.few.items < 16 → entries_of known.many ≡ [] };
 }
 
 impl Known {
@@ -42,7 +42,7 @@ impl Known {
     {
         Known {
             few: Vec::new(alloc),
-            many: IndexMap::new(alloc),
+            many: None,
         }
     }
 
@@ -77,8 +77,7 @@ impl Known {
     {
         match said_among(&self.few, atom) {
             Some(holds) => Some(holds),
-            None if self.few.len() < FEW => None,
-            None => self.many.get(&atom).copied(),
+            None => said_further(&self.many, atom),
         }
     }
 
@@ -102,12 +101,46 @@ impl Known {
             self.few.push(literal)?;
             return Ok(());
         }
-        self.many.insert(literal.atom, literal.holds)?;
-        Ok(())
+        note_further(*self.few.allocator(), &mut self.many, literal)
     }
 }
 
-/// What the literals say of the atom.
+/// Says of the atom what the literals in the map do, where there is one.
+#[tactic(auto, using(crate::proofs::LiteralLaws::said_entry))]
+fn said_further(many: &Option<IndexMap<usize, bool>>, atom: usize) -> Option<bool>
+    ensures { result ≡ said_of (literals_of (entries_of many.now)) atom }
+{
+    match many {
+        Some(many) => many.get(&atom).copied(),
+        None => None,
+    }
+}
+
+/// Puts the literal behind those in the map, and makes the map where there is none.
+#[tactic(auto, using(crate::proofs::LiteralLaws::noted))]
+fn note_further(
+    alloc: Global,
+    many: &mut Option<IndexMap<usize, bool>>,
+    literal: Literal,
+) -> Result<(), NoMemory>
+    requires { said_of (literals_of (entries_of many.old)) literal.atom ≡ None }
+    ensures { OnOk result (literals_of (entries_of many.new)
+        ≡ literals_of (entries_of many.old) ++ literal ∷ []) }
+{
+    match many {
+        Some(many) => {
+            many.insert(literal.atom, literal.holds)?;
+        }
+        None => {
+            let mut first = IndexMap::new(alloc);
+            first.insert(literal.atom, literal.holds)?;
+            *many = Some(first);
+        }
+    }
+    Ok(())
+}
+
+/// Looks through the literals for what the first of the atom says of it.
 fn said_among(literals: &[Literal], atom: usize) -> Option<bool>
     ensures { result ≡ said_of literals.now atom }
 {
