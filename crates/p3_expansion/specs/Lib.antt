@@ -1,4 +1,5 @@
 pub mod Atoms
+pub mod Hashing
 pub mod Statics
 pub mod Meanings
 pub mod Expansions

@@ -4,6 +4,7 @@ ghost use Rattle.std.specs.Prelude.{◌≡◌, ◌<◌, ◌≤◌, [], length, s
 ghost use Rattle.std.specs.List.{list_any};
 ghost use Rattle.p3_expansion.specs.Atoms.{AreDistinct, with_atom};
 
+use crate::hashing::AtomHashing;
 use indexmap::IndexSet;
 use p3_base::NoMemory;
 use std::alloc::Global;
@@ -13,7 +14,7 @@ use std::marker::Model;
 /// predicate and then the numbers of its objects.
 #[derive(Drop)]
 pub struct Atoms {
-    words: IndexSet<Vec<u32>>,
+    words: IndexSet<Vec<u32>, AtomHashing>,
 }
 
 impl Model for Atoms {
@@ -31,7 +32,7 @@ impl Atoms {
         ensures { result ≡ [] }
     {
         Atoms {
-            words: IndexSet::new(alloc),
+            words: IndexSet::with_hasher(alloc, AtomHashing),
         }
     }
 

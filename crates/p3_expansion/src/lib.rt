@@ -9,6 +9,7 @@ mod constraint;
 mod effect;
 mod form;
 mod goal;
+mod hashing;
 mod instance;
 mod junction;
 mod laws;

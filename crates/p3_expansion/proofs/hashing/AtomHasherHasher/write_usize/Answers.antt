@@ -1,0 +1,7 @@
+use Rattle.std.proofs.Common.{refl}
+use Rattle.std.specs.Hash.{le_bytes}
+use Rattle.p3_expansion.proofs.hashing.AtomHasherHasher.write_usize.Goals as goal
+
+pub returns : goal.returns
+unfolding le_bytes
+returns c = rw (c.tell-8.ensures, c.tell-7.ensures, c.tell-6.ensures, c.tell-5.ensures, c.tell-4.ensures, c.tell-3.ensures, c.tell-2.ensures, c.tell.ensures, c.to_le_bytes.ensures) refl
