@@ -15,8 +15,6 @@ mod spot;
 mod state;
 mod subject;
 mod terms;
-#[cfg(test)]
-mod tests;
 mod words;
 
 pub use account::{Account, put_account};

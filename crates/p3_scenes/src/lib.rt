@@ -14,8 +14,6 @@ mod preference;
 mod question;
 mod scene;
 mod task;
-#[cfg(test)]
-mod tests;
 
 pub use answering::answers;
 pub use bindings::Bindings;

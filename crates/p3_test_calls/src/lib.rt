@@ -1,8 +1,10 @@
 //! What no worked row can say: calls that the program does not make itself, tables of forms, what is
 //! asked of a regression once more, a flattening, a long chain of steps, texts of targets, an outline by
-//! itself, and calls of the outside.
+//! itself, calls of the outside, and what an account of a plan is made of, byte for byte.
 #![tactic(auto)]
 
+#[cfg(test)]
+mod accounts;
 #[cfg(test)]
 mod flattened;
 #[cfg(test)]
@@ -19,5 +21,9 @@ mod outside;
 mod reached;
 #[cfg(test)]
 mod regressions;
+#[cfg(test)]
+mod scenes;
+#[cfg(test)]
+mod sources;
 #[cfg(test)]
 mod written;

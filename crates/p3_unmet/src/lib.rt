@@ -11,8 +11,6 @@ mod sources;
 mod stage;
 mod step_scenes;
 mod telling;
-#[cfg(test)]
-mod tests;
 mod unmet;
 mod untaken;
 

@@ -1,9 +1,9 @@
-//! Tests of what runs.
+//! Places in the texts of a task, and the objects of variables.
 
-use crate::{Sources, bindings_of};
 use p3_accounts::{InputFile, Spot};
 use p3_base::{List, Name, NoMemory, Role};
 use p3_scenes::Bindings;
+use p3_unmet::{Sources, bindings_of};
 use std::alloc::Global;
 use std::test::Fail;
 

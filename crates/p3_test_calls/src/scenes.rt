@@ -1,12 +1,12 @@
-//! Tests of what runs.
+//! Questions about the states of a plan.
 
-use crate::{Asked, Question, answers};
 use p3_base::{List, Name, NoMemory};
 use p3_numbers::{
     NumberedAction, NumberedArgument, NumberedCondition, NumberedConstraint, NumberedEffect,
     NumberedGoal, NumberedTask, Numbers,
 };
 use p3_reasons::PlacedStep;
+use p3_scenes::{Asked, Question, answers};
 use std::alloc::Global;
 use std::test::Fail;
 

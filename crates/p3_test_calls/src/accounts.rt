@@ -1,6 +1,6 @@
 //! What is printed, byte for byte.
 
-use crate::{
+use p3_accounts::{
     Account, Binding, CostShare, Heading, InputFile, Lines, Meaning, Meant, NameShare,
     OperatorKind, Shares, Shown, ShownState, Spot, StepFault, Subject, Terms, put_account,
     put_heading, put_meaning,
