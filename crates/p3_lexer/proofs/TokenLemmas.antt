@@ -7,6 +7,7 @@ use Rattle.std.specs.Char.{to_ascii_lowercase}
 use Rattle.std.specs.Str.{str_to_ascii_lowercase}
 use Rattle.std.proofs.lemmas.Bool.Decides.{nat_tests}
 use Rattle.p3_lexer.specs.Lexing.{is_between, gap_len, token_of, token_len}
+use Rattle.p3_task.proofs.MovedTokenLaws.{is_byte}
 use Rattle.p3_task.specs.Tokens.{Token, Open, Close, Word, Tokens, is_blank, is_of_word, is_comment_after, before, prefixed, with_byte, tokens_from}
 
 -- the tokens from one more byte on
@@ -258,9 +259,6 @@ tokens_word text at end within is some =
     front ∙ rw (len, is, drop-drop (prefix_len is_of_word (drop at text)) at text) refl
 
 -- ---- the first token
-
-is_byte : (byte other : ℕ) → (byte == other) ≡ true → byte ≡ other
-is_byte byte other e = grind (arith, nat_tests)
 
 no_byte : (byte other : ℕ) → (byte == other) ≡ false → byte ≢ other
 no_byte byte other e = grind (arith, nat_tests)

@@ -12,18 +12,10 @@ use Rattle.p3_task.specs.declared.term.Typed.{Typed}
 use Rattle.p3_task.specs.declared.task.Header.{Header}
 use Rattle.p3_task.proofs.StateLemmas.{same_names-Decides}
 use Rattle.p3_names.specs.Names.{with_list}
+use Rattle.p3_hierarchy.proofs.ObjectLemmas.{get-append, get-last}
 use Rattle.p3_resolve.specs.Numbers.{Keeps, AreNumbers, AreAllNumbers, NumbersMore, names_at, names_in}
 
 -- ---- a list more
-
-get-append : {A : Type 0} (xs ys : List A) (k : ℕ) (x : A) → slice_get xs k ≡ Some x → slice_get (xs ++ ys) k ≡ Some x
-get-append [] ys k x at = absurd (cc)
-get-append (y ∷ xs) ys zero x at = at
-get-append (y ∷ xs) ys (suc k) x at = get-append xs ys k x at
-
-get-last : {A : Type 0} (xs : List A) (x : A) → slice_get (xs ++ x ∷ []) (length xs) ≡ Some x
-get-last [] x = refl
-get-last (y ∷ xs) x = get-last xs x
 
 module _ (names : List Name) where
   abbrev place_in : List (List Name) → ℕ

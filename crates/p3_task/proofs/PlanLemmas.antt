@@ -40,7 +40,7 @@ module _ (T : Task) where
   unfolding steps_fit
   steps_fit-walk plan = all_moves (start T) plan
 
-  length-visited_from : (s : State) (plan : Plan) → length (visited_from T s plan) ≡ suc (length plan)
+  pub length-visited_from : (s : State) (plan : Plan) → length (visited_from T s plan) ≡ suc (length plan)
   length-visited_from s [] = refl
   length-visited_from s (step ∷ plan) = ap suc (length-visited_from (state_after T s step) plan)
 
