@@ -114,8 +114,7 @@ fn said_by_literal(literal: Literal, atom: usize) -> Option<bool>
     None
 }
 
-/// The conjunction of the pieces, or else their disjunction, with each literal once, those seen noted
-/// as they come.
+/// Makes the same as `gathered`, and notes the literals as they come.
 fn gathered_once(alloc: Global, pieces: Vec<Form>, every: bool) -> Result<Form, NoMemory>
     ensures { IfOk result (λ simple. simple ≡ made.gathered every [] pieces.items) }
 {
