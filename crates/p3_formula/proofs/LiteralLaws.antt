@@ -1,11 +1,11 @@
 -- The literals that a form fixes hold where it does.
-use Rattle.std.proofs.Common.{◌≡◌, ◌∙◌, ℕ, ◌==◌, Bool, true, false, not, ◌&&◌, ◌||◌, if◌then◌else◌, List, [], ◌∷◌, ◌++◌, map, Option, None, Some, is_some, cond, refl, sym, ap, append_assoc, true≢false}
+use Rattle.std.proofs.Common.{◌≡◌, ◌∙◌, ℕ, ◌+◌, ◌<◌, ◌==◌, Bool, true, false, not, ◌&&◌, ◌||◌, if◌then◌else◌, List, [], ◌∷◌, ◌++◌, length, drop, get_or, map, Option, None, Some, is_some, cond, refl, sym, ap, append_assoc, true≢false}
 use Rattle.std.specs.Prelude.{nat_eq}
 use Rattle.std.specs.Map.{lookup}
 use Rattle.std.specs.List.{flat_map, list_any, list_all}
 use Rattle.std.proofs.Math.Bool.{not-not}
 use Rattle.std.proofs.lemmas.Bool.{and_parts, and_from, eqb-true}
-use Rattle.std.proofs.lemmas.List.{append-nil}
+use Rattle.std.proofs.lemmas.List.{append-nil, drop_more}
 use Rattle.std.proofs.lemmas.List.Folds.{list_all-append, flat_map-map}
 use Rattle.indexmap.specs.IndexMap.{insert_entry}
 use Rattle.indexmap.proofs.MapLemmas.{absent_from_lookup, insert_entry-absent}
@@ -64,7 +64,21 @@ parts-same true false parts same = absurd (true≢false (sym same))
 parts-same false true parts same = absurd (true≢false same)
 parts-same false false parts same = refl
 
-pub ruleset parts_laws = (append-nil, parts-other, parts-same)
+-- the literals of one list, and then those of another, are those of both
+in_turn : (known literals more : List Literal) → with_all (with_all known literals) more ≡ with_all known (literals ++ more)
+in_turn known [] more = refl
+in_turn known (one ∷ literals) more = in_turn (with_one known one) literals more
+
+-- what a part fixes, and then those behind it, is what those that are left fix
+pub one_part_more : (every : Bool) (known now : List Literal) (parts : List Form) (i : ℕ) (part : Form) → i < length parts → part ≡ get_or parts i part
+    → now ≡ with_all known (fixed part every)
+    → with_all now (flat_map (λ part. fixed part every) (drop (i + 1) parts)) ≡ with_all known (flat_map (λ part. fixed part every) (drop i parts))
+one_part_more every known now parts i part within at is =
+    let rest = flat_map (λ part. fixed part every) (drop (i + 1) parts) in
+    ap (λ all. with_all all rest) is ∙ in_turn known (fixed part every) rest
+    ∙ ap (λ items. with_all known (flat_map (λ part. fixed part every) items)) (ap (λ x. x ∷ drop (i + 1) parts) at ∙ sym (drop_more parts i part within))
+
+pub ruleset parts_laws = (parts-other, parts-same)
 
 -- ---- what is fixed holds
 

@@ -3,10 +3,10 @@
 ghost use Rattle.std.specs.Prelude.{◌≡◌, ◌++◌, ◌∷◌, [], None, true, IfOk, OnOk, IsTrue};
 ghost use Rattle.std.specs.List.{list_all};
 ghost use Rattle.p3_formula.specs.Forms.{State, truth};
-ghost use Rattle.p3_formula.specs.Literals.{entries_of, fixed, is_met, literals_of, said_of, with_all, with_one};
+ghost use Rattle.p3_formula.specs.Literals.{entries_of, fixed, fixed_parts, is_met, literals_of, said_of, with_all, with_one};
 
 use crate::Form;
-use crate::literals::{Literal, fixed_by};
+use crate::literals::Literal;
 use indexmap::IndexMap;
 use p3_base::NoMemory;
 use std::alloc::Global;
@@ -54,20 +54,9 @@ impl Known {
         ensures law { IfOk result (λ known. (state : State) → IsTrue (truth state form.now)
             → IsTrue (list_all (is_met state) known)) }
     {
-        let literals = fixed_by(alloc, form)?;
         let mut known = Known::new(alloc);
-        known.note_all(&literals)?;
+        note_fixed(&mut known, form, true)?;
         Ok(known)
-    }
-
-    /// The literals are known too, each where nothing is of its atom.
-    pub fn note_all(&mut self, literals: &[Literal]) -> Result<(), NoMemory>
-        ensures { OnOk result (self.new ≡ with_all self.old literals.now) }
-    {
-        for literal in literals {
-            self.note_once(*literal)?;
-        }
-        Ok(())
     }
 
     /// What is known of the atom.
@@ -150,4 +139,34 @@ fn said_among(literals: &[Literal], atom: usize) -> Option<bool>
         }
     }
     None
+}
+
+/// Notes what the form fixes where it has that truth, each literal where nothing is known of its atom.
+#[cycle(fixed)]
+#[tactic(auto, using(crate::proofs::LiteralLaws::fixed_laws))]
+fn note_fixed(known: &mut Known, form: &Form, holds: bool) -> Result<(), NoMemory>
+    ensures { OnOk result (known.new ≡ with_all known.old (fixed form.now holds)) }
+{
+    match form {
+        Form::True | Form::False => Ok(()),
+        Form::Atom(atom) => known.note_once(Literal { atom: *atom, holds }),
+        Form::Not(part) => note_fixed(known, part.get(), !holds),
+        Form::And(parts) => note_where(known, parts.items(), holds, true),
+        Form::Or(parts) => note_where(known, parts.items(), holds, false),
+    }
+}
+
+/// Notes what each of the parts fixes, where the truth of the whole settles that of its parts.
+#[cycle(fixed)]
+#[tactic(auto, using(crate::proofs::LiteralLaws::parts_laws))]
+fn note_where(known: &mut Known, parts: &[Form], holds: bool, every: bool) -> Result<(), NoMemory>
+    ensures { OnOk result (known.new ≡ with_all known.old (fixed_parts every holds parts.now)) }
+{
+    if holds != every {
+        return Ok(());
+    }
+    for part in parts {
+        note_fixed(known, part, every)?;
+    }
+    Ok(())
 }

@@ -35,7 +35,7 @@ pub use laws::{
     alike_changes_make_the_same_state, broken_constraints_stay_broken, copies_count_as_their_step,
     states_agree_after_changes,
 };
-pub use literals::{Literal, fixed_by};
+pub use literals::Literal;
 pub use modal::{GroundModal, GroundPref, GroundSoft};
 pub use node::Node;
 pub use same::same_form;
