@@ -6,7 +6,7 @@ pub mod CostLemmas
 pub mod EachLemmas
 pub mod LateLemmas
 pub mod LinkLemmas
-pub mod MarkLemmas
+pub mod PlaceLemmas
 pub mod PossibleLaws
 pub mod PossibleLemmas
 pub mod RisingNumbers

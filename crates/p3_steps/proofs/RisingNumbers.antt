@@ -56,7 +56,7 @@ rise-apart first end n [] before rise = All-nil (λ x. (x == n) ≡ false)
 rise-apart first end n (x ∷ xs) before (from, below, rise) =
     All-cons (λ x. (x == n) ≡ false) x xs (ne_eqb x n (λ same. omega (arith, same, from, before))) (rise-apart (x + 1) end n xs (omega (arith, from, before)) rise)
 
-rise-within : (first end : ℕ) (xs : List ℕ) → AllPairs (λ x y. x < y) xs → All (λ n. first ≤ n) xs → All (λ n. n < end) xs → RiseWithin first end xs
+pub rise-within : (first end : ℕ) (xs : List ℕ) → AllPairs (λ x y. x < y) xs → All (λ n. first ≤ n) xs → All (λ n. n < end) xs → RiseWithin first end xs
 rise-within first end [] pairs from below = tt
 rise-within first end (x ∷ xs) pairs from below = (
   All-head (λ n. first ≤ n) x xs from,

@@ -1,5 +1,5 @@
 -- Choices of objects by number, and those of them that may begin.
-use Rattle.std.specs.Prelude.{◌≡◌, ℕ, ◌+◌, ◌-◌, ◌*◌, ◌<◌, ◌==◌, nat_lt, Bool, true, false, not, ◌&&◌, List, [], ◌∷◌, ◌++◌, map, length, slice_index_or}
+use Rattle.std.specs.Prelude.{◌≡◌, ℕ, ◌+◌, ◌-◌, ◌*◌, ◌<◌, ◌==◌, nat_lt, Bool, false, List, [], ◌∷◌, ◌++◌, map, length, slice_index_or, if◌then◌else◌}
 use Rattle.std.specs.List.{filter, list_any, range_with_len}
 use Rattle.p3_numbers.specs.Choices.{choice_count, choice}
 use Rattle.p3_numbers.specs.Slots.{Slots}
@@ -48,17 +48,21 @@ RulesOut N S goal slots row = (object : ℕ) → object < length N.objects → l
 abbrev pub taken_behind : Numbers → Statics → NumberedGoal → List ℕ → List ℕ → ℕ → List ℕ
 taken_behind N S goal before objects number = all_taken N S goal (choice N before number) objects (number * length objects)
 
--- ---- marked objects
+-- the number of the object at the place, on from the first, if it may come behind those in the slots
+abbrev pub taken_at : Numbers → Statics → NumberedGoal → Slots → List ℕ → ℕ → ℕ → List ℕ
+taken_at N S goal slots objects first place = if may_take N S goal slots objects place then (first + place) ∷ [] else []
 
--- the object has a name, and is not marked
-abbrev pub is_unmarked : List Bool → ℕ → Bool
-is_unmarked marks object = nat_lt object (length marks) && not (slice_index_or marks object false)
+-- ---- places of objects
 
--- the objects are marked
-pub record Marks (row : List ℕ) (old new : List Bool) : Type 0 where
-  pub size : length new ≡ length old
-  pub marked : (object : ℕ) → list_any (λ one. one == object) row ≡ true → is_unmarked new object ≡ false
+-- for each of the objects its place is noted, which is below their count
+abbrev pub AreNoted : List ℕ → List ℕ → Type 0
+AreNoted places objects = (place : ℕ) → place < length objects → slice_index_or places (slice_index_or objects place 0) (length objects) ≡ place
 
--- with an object that is not marked the goal cannot begin
-abbrev pub RulesUnmarked : Numbers → Statics → NumberedGoal → Slots → List Bool → Type 0
-RulesUnmarked N S goal slots marks = (object : ℕ) → is_unmarked marks object ≡ true → may_yet_begin N S (slots ++ object ∷ []) goal ≡ false
+-- of so many objects the places of these are noted
+pub record ArePlaces (all : ℕ) (objects places : List ℕ) : Type 0 where
+  pub size : length places ≡ all
+  pub noted : AreNoted places objects
+
+-- the place that is noted for the object, if it is below the count
+abbrev pub noted_at : List ℕ → ℕ → ℕ → List ℕ
+noted_at places count object = if nat_lt (slice_index_or places object count) count then slice_index_or places object count ∷ [] else []

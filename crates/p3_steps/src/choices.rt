@@ -5,14 +5,13 @@ ghost use Rattle.std.specs.List.{filter};
 ghost use Rattle.p3_task.specs.Sides.{step_count_limit};
 ghost use Rattle.p3_numbers.specs.Choices.{choice, choice_count as count_of};
 ghost use Rattle.p3_steps.specs.Candidates.{
-  Marks,
-  RulesUnmarked,
+  ArePlaces,
   all_taken,
   candidates_among as begin_among,
   candidates_of,
-  is_unmarked as unmarked,
   open_among as among,
   open_choices as all_open,
+  taken_at,
   taken_behind,
 };
 ghost use Rattle.p3_steps.specs.Late.{all_begin as all_may_begin};
@@ -22,64 +21,23 @@ ghost use Rattle.p3_steps.specs.Possible.{may_begin, may_yet_begin};
 use crate::conjuncts::Test;
 use crate::late::{all_begin, late_parts};
 use crate::links::{Links, all_links, shortest_row};
+use crate::places::{find_places, places_of};
 use p3_base::NoMemory;
 use p3_expansion::{Statics, choice_count, objects_of, place_choice};
-use p3_formula::Bits;
 use p3_numbers::{NumberedGoal, Numbers};
 use std::alloc::Global;
-
-/// Marks the objects that have names.
-fn mark(marks: &mut Bits, row: &[u32])
-    ensures { Marks row.now marks.old marks.new }
-{
-    for object in row {
-        if (*object as usize) < marks.count() {
-            marks.set(*object as usize, true);
-        }
-    }
-}
-
-/// Takes the marks from the objects.
-fn unmark(marks: &mut Bits, row: &[u32])
-    ensures { length marks.new ≡ length marks.old }
-{
-    for object in row {
-        if (*object as usize) < marks.count() {
-            marks.set(*object as usize, false);
-        }
-    }
-}
-
-/// Whether the object has a name, and is not marked.
-fn is_unmarked(marks: &Bits, object: u32) -> bool
-    ensures { result ≡ unmarked marks.now object }
-{
-    let place = object as usize;
-    if place >= marks.count() {
-        return false;
-    }
-    !marks.get(place)
-}
 
 /// Whether the precondition may begin where the object comes behind those in the slots.
 fn may_take(
     test: &Test,
     words: &mut Vec<u32>,
     slots: &mut Vec<u32>,
-    marks: Option<&Bits>,
     object: u32,
 ) -> Result<bool, NoMemory>
-    requires { IfSome marks (λ those. RulesUnmarked test.now.numbers.now test.now.statics.now
-        test.now.goal.now slots.old.items those.now) }
     ensures slots { OnOk result (slots.new.items ≡ slots.old.items) }
     ensures may { IfOk result (λ may. may ≡ may_yet_begin test.now.numbers.now
         test.now.statics.now (slots.old.items ++ object ∷ []) test.now.goal.now) }
 {
-    if let Some(those) = marks {
-        if is_unmarked(those, object) {
-            return Ok(false);
-        }
-    }
     let size = slots.len();
     slots.push(object)?;
     let may = test.may_yet_begin(words, slots.as_slice())?;
@@ -87,76 +45,133 @@ fn may_take(
     Ok(may)
 }
 
-/// Puts the numbers of the objects that may come behind those in the slots, on from the first
-/// number, behind those taken.
-fn push_taken(
+/// Puts the number of the object at the place, counted on from the first number, behind those
+/// taken, if it may come behind those in the slots.
+fn push_one(
     test: &Test,
     words: &mut Vec<u32>,
     slots: &mut Vec<u32>,
-    marks: Option<&Bits>,
     objects: &[u32],
     first: usize,
+    place: usize,
     taken: &mut Vec<u32>,
 ) -> Result<(), NoMemory>
     requires few { first + length objects.now ≤ step_count_limit }
-    requires rules { IfSome marks (λ those. RulesUnmarked test.now.numbers.now
-        test.now.statics.now test.now.goal.now slots.old.items those.now) }
-    ensures { OnOk result (taken.new.items ≡ taken.old.items ++ all_taken
+    requires within { place < length objects.now }
+    ensures slots { OnOk result (slots.new.items ≡ slots.old.items) }
+    ensures taken { OnOk result (taken.new.items ≡ taken.old.items ++ taken_at
         test.now.numbers.now test.now.statics.now test.now.goal.now slots.old.items
-        objects.now first) }
+        objects.now first place) }
 {
-    for place in 0..objects.len() {
-        if may_take(test, words, slots, marks, objects[place])? {
-            taken.push((first + place) as u32)?;
-        }
+    if may_take(test, words, slots, objects[place])? {
+        taken.push((first + place) as u32)?;
     }
     Ok(())
 }
 
 /// Puts the numbers of the objects that may come behind those in the slots, on from the first
-/// number, behind those taken. Where facts tell of them, the others are left out untested.
-fn push_behind(
+/// number, behind those taken.
+fn push_all(
     test: &Test,
-    links: &[Links],
     words: &mut Vec<u32>,
     slots: &mut Vec<u32>,
-    marks: &mut Bits,
     objects: &[u32],
     first: usize,
     taken: &mut Vec<u32>,
 ) -> Result<(), NoMemory>
     requires few { first + length objects.now ≤ step_count_limit }
-    requires marks { length marks.old ≡ length test.now.numbers.now.objects }
-    requires links { All (Tells test.now.numbers.now test.now.statics.now test.now.goal.now
-        (length slots.old.items)) links.now }
-    ensures marks { OnOk result (length marks.new ≡ length marks.old) }
-    ensures taken { OnOk result (taken.new.items ≡ taken.old.items ++ all_taken
+    ensures { OnOk result (taken.new.items ≡ taken.old.items ++ all_taken
         test.now.numbers.now test.now.statics.now test.now.goal.now slots.old.items
         objects.now first) }
 {
-    match shortest_row(links, test, words, slots.as_slice())? {
-        None => push_taken(test, words, slots, None, objects, first, taken),
-        Some(row) => {
-            mark(marks, row);
-            push_taken(test, words, slots, Some(marks), objects, first, taken)?;
-            unmark(marks, row);
-            Ok(())
-        }
+    for place in 0..objects.len() {
+        push_one(test, words, slots, objects, first, place, taken)?;
     }
+    Ok(())
 }
 
-/// What the facts tell of the variable behind the first so many, if that is less work than so many
-/// tests.
+/// Puts the numbers of the objects at these places, of those that may come behind those in the
+/// slots, behind those taken.
+fn push_found(
+    test: &Test,
+    words: &mut Vec<u32>,
+    slots: &mut Vec<u32>,
+    objects: &[u32],
+    first: usize,
+    found: &[usize],
+    taken: &mut Vec<u32>,
+) -> Result<(), NoMemory>
+    requires few { first + length objects.now ≤ step_count_limit }
+    requires within { All (λ place. place < length objects.now) found.now }
+    ensures { OnOk result (taken.new.items ≡ taken.old.items ++ flat_map (taken_at
+        test.now.numbers.now test.now.statics.now test.now.goal.now slots.old.items
+        objects.now first) found.now) }
+{
+    for place in found {
+        push_one(test, words, slots, objects, first, *place, taken)?;
+    }
+    Ok(())
+}
+
+/// Puts the numbers of the objects that may come behind those in the slots, on from the first
+/// number, behind those taken. Where facts tell of them, no other one is looked at.
+fn push_behind(
+    test: &Test,
+    links: &[Links],
+    places: Option<&[usize]>,
+    words: &mut Vec<u32>,
+    slots: &mut Vec<u32>,
+    found: &mut Vec<usize>,
+    objects: &[u32],
+    first: usize,
+    taken: &mut Vec<u32>,
+) -> Result<(), NoMemory>
+    requires few { first + length objects.now ≤ step_count_limit }
+    requires places { IfSome places (λ those.
+        ArePlaces (length test.now.numbers.now.objects) objects.now those.now) }
+    requires links { All (Tells test.now.numbers.now test.now.statics.now test.now.goal.now
+        (length slots.old.items)) links.now }
+    ensures { OnOk result (taken.new.items ≡ taken.old.items ++ all_taken
+        test.now.numbers.now test.now.statics.now test.now.goal.now slots.old.items
+        objects.now first) }
+{
+    let Some(places) = places else {
+        return push_all(test, words, slots, objects, first, taken);
+    };
+    let Some(row) = shortest_row(links, test, words, slots.as_slice())? else {
+        return push_all(test, words, slots, objects, first, taken);
+    };
+    find_places(found, places, objects.len(), row)?;
+    push_found(test, words, slots, objects, first, found.as_slice(), taken)
+}
+
+/// The places of a range's objects, if what facts tell is less work than so many tests.
+fn useful_places(
+    alloc: Global,
+    test: &Test,
+    objects: &[u32],
+    tests: usize,
+) -> Result<Option<Vec<usize>>, NoMemory>
+    ensures { IfOk result (λ found. IfSome found (λ places.
+        ArePlaces (length test.now.numbers.now.objects) objects.now places.items)) }
+{
+    if tests < test.statics.facts.len() {
+        return Ok(None);
+    }
+    places_of(alloc, objects, test.numbers.objects.len())
+}
+
+/// What the facts tell of the variable behind the first so many, if that is of use.
 fn useful_links<'t>(
     alloc: Global,
     test: &Test<'t>,
     count: usize,
-    tests: usize,
+    is_useful: bool,
 ) -> Result<Vec<Links<'t>>, NoMemory>
     ensures { IfOk result (λ links. All
         (Tells test.now.numbers.now test.now.statics.now test.now.goal.now count) links.items) }
 {
-    if tests < test.statics.facts.len() {
+    if !is_useful {
         return Ok(Vec::new(alloc));
     }
     all_links(alloc, test, count)
@@ -178,8 +193,10 @@ fn widened(
         test.now.statics.now test.now.goal.now before.now objects.now) kept.now) }
 {
     let tests = kept.len().saturating_mul(objects.len());
-    let links = useful_links(alloc, test, before.len(), tests)?;
-    let mut marks = Bits::new(alloc, test.numbers.objects.len())?;
+    let useful = useful_places(alloc, test, objects, tests)?;
+    let links = useful_links(alloc, test, before.len(), useful.is_some())?;
+    let places = useful.as_deref();
+    let mut found = Vec::new(alloc);
     let mut words = Vec::new(alloc);
     let mut slots = Vec::new(alloc);
     let mut wider = Vec::new(alloc);
@@ -189,9 +206,10 @@ fn widened(
         push_behind(
             test,
             links.as_slice(),
+            places,
             &mut words,
             &mut slots,
-            &mut marks,
+            &mut found,
             objects,
             number * objects.len(),
             &mut wider,

@@ -10,6 +10,7 @@ mod costs;
 mod late;
 mod links;
 mod made;
+mod places;
 mod possible;
 
 pub use actions::{steps, steps_among};

@@ -1,6 +1,6 @@
 use Rattle.std.proofs.Common.{◌≡◌, ◌++◌}
 use Rattle.p3_steps.specs.Candidates.{first_taken}
-use Rattle.p3_steps.proofs.choices.push_taken.Given as goal
+use Rattle.p3_steps.proofs.choices.push_all.Given as goal
 
 -- of the objects passed those are taken that may come
 abbrev pub invariant-loop-place : goal.invariant-loop-place
