@@ -1,6 +1,9 @@
 //! The words of the command line, as bytes.
 #![tactic(auto)]
 
+#[cfg(test)]
+mod tests;
+
 use p3_base::{NoMemory, Word};
 use std::alloc::Global;
 use std::env::{Env, FillError};
