@@ -7,7 +7,7 @@ use Rattle.p3_accounts.specs.Spots.{spot_before}
 use Rattle.p3_accounts.specs.States.{moment_text, operand_text, truth_word}
 use Rattle.p3_accounts.specs.Subjects.{argument_of, bindings_text, counted, preference_text}
 use Rattle.p3_accounts.specs.Vocabularies.{Vocabulary}
-use Rattle.p3_accounts.specs.Words.{atom_text, numbered_step_text, placed_text, step_text, value_text}
+use Rattle.p3_accounts.specs.Words.{atom_text, numbered_step_text, step_text, value_text}
 use Rattle.p3_accounts.specs.declared.item.Item.{Item}
 use Rattle.p3_accounts.specs.declared.item.Item.TheVariants as item
 
@@ -21,7 +21,6 @@ item_text V (item.Argument step number) = argument_of step.now number
 item_text V (item.Before spot) = spot_before V spot
 item_text V (item.Words step) = step_text step.now
 item_text V (item.Step number) = numbered_step_text V number
-item_text V (item.Placed placed) = placed_text V placed.now
 item_text V (item.Atom atom) = atom_text V.numbers atom.now
 item_text V (item.Value value) = value_text V.numbers value.now
 item_text V (item.Preference name) = preference_text V name

@@ -11,11 +11,9 @@ use crate::operator::OperatorKind;
 use crate::spot::{Spot, put_spot};
 use crate::subject::{Binding, put_bindings};
 use crate::terms::Terms;
-use crate::words::{
-    argument_at, put_atom, put_given, put_numbered, put_placed, put_preference, put_value,
-};
+use crate::words::{argument_at, put_given, put_named, put_numbered, put_preference};
 use p3_base::{List, Name, Sink, SinkFailed};
-use p3_reasons::{Operand, PlacedStep};
+use p3_reasons::Operand;
 use p3_reports::{Piece, put_pieces};
 use p3_task::Step;
 
@@ -74,8 +72,6 @@ pub(crate) enum Item<'a> {
     Words(&'a Step),
     /// The step of a number.
     Step(u32),
-    /// An action at objects.
-    Placed(&'a PlacedStep),
     /// A predicate at objects.
     Atom(&'a List<u32>),
     /// A function at objects.
@@ -112,9 +108,8 @@ impl Printed for Item<'_> {
             Item::Before(spot) => put_spot(spot, terms, out),
             Item::Words(step) => put_given(step, terms, out),
             Item::Step(number) => put_numbered(*number, terms, out),
-            Item::Placed(placed) => put_placed(placed, terms, out),
-            Item::Atom(atom) => put_atom(atom, terms, out),
-            Item::Value(value) => put_value(value, terms, out),
+            Item::Atom(atom) => put_named(&terms.numbers.predicates, atom, terms, out),
+            Item::Value(value) => put_named(&terms.numbers.functions, value, terms, out),
             Item::Preference(name) => put_preference(*name, terms, out),
             Item::Operator(operator) => put_pieces(&[Piece::Text(operator.word())], out),
             Item::Bindings(bindings) => put_bindings(bindings, terms, out),

@@ -1,12 +1,12 @@
 //! What the names of a written task stand for.
 
-ghost use Rattle.std.specs.Prelude.{◌≤◌, OnErr, OnOk, flat_map};
+ghost use Rattle.std.specs.Prelude.{◌≡◌, ◌≤◌, OnErr, OnOk, flat_map};
 ghost use Rattle.p3_base.specs.Outside.{IsPartlyPut, IsPut, Rose};
 ghost use Rattle.p3_accounts.specs.Meanings.{
-  chain_text,
+  letter_of,
   meaning_line,
   meant_text,
-  monitor_text,
+  sense_text,
   settling_text,
 };
 ghost use Rattle.p3_accounts.specs.Vocabularies.{vocabulary};
@@ -15,6 +15,7 @@ use crate::item::{Item, Printed, put_all, put_items};
 use crate::spot::Spot;
 use crate::subject::{Binding, Subject, put_subject};
 use crate::terms::Terms;
+use crate::words::{put_named, put_placed};
 use p3_base::{List, Sink, SinkFailed};
 use p3_reasons::PlacedStep;
 
@@ -116,76 +117,42 @@ fn put_meant<S: Sink>(
     ensures failed { OnErr result (Rose (S.seen out.old).faults (S.seen out.new).faults) }
     ensures faults_grow { (S.seen out.old).faults ≤ (S.seen out.new).faults }
 {
+    let letter = first_letter(of);
+    put_items(
+        &[Item::Text(letter), Item::Number(number), Item::Text(" ")],
+        terms,
+        out,
+    )?;
+    put_sense(of, terms, out)
+}
+
+/// Gives the letter of the names that stand for the like.
+fn first_letter(of: &Meant) -> &'static str
+    ensures { result.now ≡ letter_of of.now }
+{
     match of {
-        Meant::Step(placed) => put_items(
-            &[
-                Item::Text("s"),
-                Item::Number(number),
-                Item::Text(" "),
-                Item::Placed(placed),
-            ],
-            terms,
-            out,
-        ),
-        Meant::Atom(atom) => put_items(
-            &[
-                Item::Text("f"),
-                Item::Number(number),
-                Item::Text(" "),
-                Item::Atom(atom),
-            ],
-            terms,
-            out,
-        ),
-        Meant::Monitor(subject) => put_monitor(number, subject, terms, out),
-        Meant::Chain(settling) => put_chain(number, settling, terms, out),
+        Meant::Step(_) => "s",
+        Meant::Atom(_) => "f",
+        Meant::Monitor(_) => "m",
+        Meant::Chain(_) => "e",
     }
 }
 
-/// Puts the name of a monitor's atom, and what it watches.
-fn put_monitor<S: Sink>(
-    number: u32,
-    subject: &Subject,
-    terms: &Terms<'_>,
-    out: &mut S,
-) -> Result<(), SinkFailed>
-    ensures ok { OnOk result (IsPut (monitor_text (vocabulary terms.now) number subject.now)
+/// Puts what a name stands for.
+fn put_sense<S: Sink>(of: &Meant, terms: &Terms<'_>, out: &mut S) -> Result<(), SinkFailed>
+    ensures ok { OnOk result (IsPut (sense_text (vocabulary terms.now) of.now)
         (S.seen out.old).written (S.seen out.new).written) }
-    ensures partly { OnErr result
-        (IsPartlyPut (monitor_text (vocabulary terms.now) number subject.now)
+    ensures partly { OnErr result (IsPartlyPut (sense_text (vocabulary terms.now) of.now)
         (S.seen out.old).written (S.seen out.new).written) }
     ensures failed { OnErr result (Rose (S.seen out.old).faults (S.seen out.new).faults) }
     ensures faults_grow { (S.seen out.old).faults ≤ (S.seen out.new).faults }
 {
-    put_items(
-        &[Item::Text("m"), Item::Number(number), Item::Text(" ")],
-        terms,
-        out,
-    )?;
-    put_subject(subject, terms, out)
-}
-
-/// Puts the name of a chain atom, and how far it is settled there.
-fn put_chain<S: Sink>(
-    number: u32,
-    settling: &Settling,
-    terms: &Terms<'_>,
-    out: &mut S,
-) -> Result<(), SinkFailed>
-    ensures ok { OnOk result (IsPut (chain_text (vocabulary terms.now) number settling.now)
-        (S.seen out.old).written (S.seen out.new).written) }
-    ensures partly { OnErr result
-        (IsPartlyPut (chain_text (vocabulary terms.now) number settling.now)
-        (S.seen out.old).written (S.seen out.new).written) }
-    ensures failed { OnErr result (Rose (S.seen out.old).faults (S.seen out.new).faults) }
-    ensures faults_grow { (S.seen out.old).faults ≤ (S.seen out.new).faults }
-{
-    put_items(
-        &[Item::Text("e"), Item::Number(number), Item::Text(" ")],
-        terms,
-        out,
-    )?;
-    put_settling(settling, terms, out)
+    match of {
+        Meant::Step(placed) => put_placed(placed, terms, out),
+        Meant::Atom(atom) => put_named(&terms.numbers.predicates, atom, terms, out),
+        Meant::Monitor(subject) => put_subject(subject, terms, out),
+        Meant::Chain(settling) => put_settling(settling, terms, out),
+    }
 }
 
 /// Puts how far preferences are settled.

@@ -7,12 +7,10 @@ ghost use Rattle.p3_accounts.specs.Subjects.{argument_of, preference_text};
 ghost use Rattle.p3_accounts.specs.Vocabularies.{vocabulary};
 ghost use Rattle.p3_accounts.specs.Words.{
   action_word,
-  atom_text,
   named_text,
   numbered_step_text,
   placed_text,
   step_text,
-  value_text,
   words_text,
 };
 
@@ -160,10 +158,10 @@ pub(crate) fn put_numbered<S: Sink>(
     }
 }
 
-/// Puts what has one of the names, at objects.
-fn put_named<S: Sink>(
+/// Puts what has one of the names, at objects: the number of its name, and then theirs.
+pub(crate) fn put_named<S: Sink>(
     names: &List<Name>,
-    words: &[u32],
+    words: &List<u32>,
     terms: &Terms<'_>,
     out: &mut S,
 ) -> Result<(), SinkFailed>
@@ -175,42 +173,10 @@ fn put_named<S: Sink>(
     ensures failed { OnErr result (Rose (S.seen out.old).faults (S.seen out.new).faults) }
     ensures faults_grow { (S.seen out.old).faults ≤ (S.seen out.new).faults }
 {
-    match words.split_first() {
+    match words.items().split_first() {
         Some((number, objects)) => put_at(name_of(names, *number), objects, terms, out),
         None => put_pieces(&[Piece::Text("()")], out),
     }
-}
-
-/// Puts a predicate at objects.
-pub(crate) fn put_atom<S: Sink>(
-    atom: &List<u32>,
-    terms: &Terms<'_>,
-    out: &mut S,
-) -> Result<(), SinkFailed>
-    ensures ok { OnOk result (IsPut (atom_text terms.now.numbers.now atom.now)
-        (S.seen out.old).written (S.seen out.new).written) }
-    ensures partly { OnErr result (IsPartlyPut (atom_text terms.now.numbers.now atom.now)
-        (S.seen out.old).written (S.seen out.new).written) }
-    ensures failed { OnErr result (Rose (S.seen out.old).faults (S.seen out.new).faults) }
-    ensures faults_grow { (S.seen out.old).faults ≤ (S.seen out.new).faults }
-{
-    put_named(&terms.numbers.predicates, atom.items(), terms, out)
-}
-
-/// Puts a function at objects.
-pub(crate) fn put_value<S: Sink>(
-    value: &List<u32>,
-    terms: &Terms<'_>,
-    out: &mut S,
-) -> Result<(), SinkFailed>
-    ensures ok { OnOk result (IsPut (value_text terms.now.numbers.now value.now)
-        (S.seen out.old).written (S.seen out.new).written) }
-    ensures partly { OnErr result (IsPartlyPut (value_text terms.now.numbers.now value.now)
-        (S.seen out.old).written (S.seen out.new).written) }
-    ensures failed { OnErr result (Rose (S.seen out.old).faults (S.seen out.new).faults) }
-    ensures faults_grow { (S.seen out.old).faults ≤ (S.seen out.new).faults }
-{
-    put_named(&terms.numbers.functions, value.items(), terms, out)
 }
 
 /// Puts the name of a preference by its number.
