@@ -1,5 +1,6 @@
 pub mod FirstWordLemmas
 pub mod SceneLemmas
+pub mod EachChoice
 pub mod BoundLaws
 pub mod StepLaws
 pub mod PlacingLaws

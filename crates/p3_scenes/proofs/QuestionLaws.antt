@@ -56,7 +56,7 @@ operand-passes test (SometimeBefore f g) First passes = (and_parts (test f) (tes
 operand-passes test (SometimeBefore f g) Second passes = (and_parts (test f) (test g) passes).1
 
 -- which of its formulas show something stands on the operator alone
-evidence-over : {F G : Type 0} (become : F → G) (operator : Operator F) (showing : Showing) → evidence_of (over become operator) showing ≡ evidence_of operator showing
+pub evidence-over : {F G : Type 0} (become : F → G) (operator : Operator F) (showing : Showing) → evidence_of (over become operator) showing ≡ evidence_of operator showing
 evidence-over become (AtEnd f) showing = refl
 evidence-over become (Always f) showing = refl
 evidence-over become (Sometime f) showing = refl
@@ -89,7 +89,8 @@ module _ (T : Task) where
   unfolding visited
   first-states plan k within = last_state-walk T (take k plan) ∙ sym (walk-at (start T) plan k within)
 
-  states-of : (s : State) (plan : Plan) → length (visited_from T s plan) ≡ suc (length plan)
+  -- a walk visits one state more than it has steps
+  pub states-of : (s : State) (plan : Plan) → length (visited_from T s plan) ≡ suc (length plan)
   states-of s [] = refl
   states-of s (step ∷ plan) = ap suc (states-of (state_after T s step) plan)
 

@@ -6,7 +6,6 @@ use mathlib.Core.Former.{Count}
 use Rattle.p3_base.specs.declared.refusal.Role.{Role}
 use Rattle.p3_task.proofs.Computes.{trees_compute}
 use Rattle.p3_task.proofs.FoldLemmas.{fold_constraint-Both, fold_goal-Both}
-use Rattle.p3_task.specs.Goals.{named}
 use Rattle.p3_task.specs.Modal.{Modal}
 use Rattle.p3_task.specs.Slots.{words_of}
 use Rattle.p3_task.specs.declared.constraint.Constraint.{Constraint, Row_of-Constraint, end_of-Constraint, more_of-Constraint, items-the_row-Constraint, items_hidden-the_row-Constraint-0}
@@ -23,9 +22,7 @@ use Rattle.p3_numbers.specs.Constraints.{modal_of}
 use Rattle.p3_numbers.specs.Places.{Variables, ranges_of}
 use Rattle.p3_numbers.specs.Slots.{Slots, bound}
 use Rattle.p3_numbers.specs.declared.numbers.Numbers.{Numbers}
-use Rattle.std.specs.Prelude.{true}
-use Rattle.p3_scenes.specs.FirstWords.{first_word, first_word_of}
-use Rattle.p3_scenes.specs.Scenes.{scenes, scenes_layer, soft_scenes, soft_scenes_of_all, soft_scenes_of_one, state_scenes, state_scenes_layer}
+use Rattle.p3_scenes.specs.Scenes.{scene_of, scenes, scenes_layer, soft_scene_of, soft_scenes, soft_scenes_of_all, soft_scenes_of_one, state_scene_of, state_scenes, state_scenes_layer}
 
 module _ (N : Numbers) (role : Role) (within : Bool) (scope : Variables) (slots : Slots) where
   pub scenes-Both : (parts : List Constraint) → scenes N role within (Both parts) scope slots ≡ flat_map (λ part. scenes N role within part scope slots) parts
@@ -36,7 +33,7 @@ module _ (N : Numbers) (role : Role) (within : Bool) (scope : Variables) (slots 
   unfolding scenes trees_compute
   scenes-Each variables body = refl
 
-  pub scenes-Single : (modal : Modal) → scenes N role within (Single modal) scope slots ≡ record { role = role; word = first_word_of modal; operator = modal_of N modal scope; scope = scope; slots = slots } ∷ []
+  pub scenes-Single : (modal : Modal) → scenes N role within (Single modal) scope slots ≡ scene_of role modal (modal_of N modal scope) scope slots ∷ []
   unfolding scenes
   scenes-Single modal = refl
 
@@ -62,7 +59,7 @@ module _ (N : Numbers) (role : Role) (scope : Variables) (slots : Slots) where
   unfolding soft_scenes
   soft_scenes-Single modal = refl
 
-  pub soft_scenes-Soft : (at : ℕ) (name : Option Ref) (body : Constraint) → soft_scenes N role (Soft at name body) scope slots ≡ record { role = role; at = at; name = named name; scope = scope; slots = slots; operators = scenes N role true body scope slots } ∷ []
+  pub soft_scenes-Soft : (at : ℕ) (name : Option Ref) (body : Constraint) → soft_scenes N role (Soft at name body) scope slots ≡ soft_scene_of N role at name body scope slots ∷ []
   unfolding soft_scenes trees_compute
   soft_scenes-Soft at name body = refl
 
@@ -79,6 +76,6 @@ module _ (N : Numbers) (scope : Variables) (slots : Slots) where
   unfolding state_scenes trees_compute
   state_scenes-Each variables body = refl
 
-  pub state_scenes-Soft : (pref : Pref) → state_scenes N (goal.Soft pref) scope slots ≡ record { at = pref.at; name = named pref.name; word = first_word pref.body; condition = condition_of N pref.body scope; scope = scope; slots = slots } ∷ []
+  pub state_scenes-Soft : (pref : Pref) → state_scenes N (goal.Soft pref) scope slots ≡ state_scene_of pref (condition_of N pref.body scope) scope slots ∷ []
   unfolding state_scenes
   state_scenes-Soft pref = refl

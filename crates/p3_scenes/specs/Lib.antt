@@ -2,6 +2,7 @@ pub mod Lent
 pub mod FirstWords
 pub mod Scenes
 pub mod Seen
+pub mod Parts
 pub mod Bound
 pub mod Questions
 pub mod Answers

@@ -7,14 +7,17 @@ use Rattle.p3_base.specs.declared.refusal.Role.TheVariants.{Domain, Problem}
 use Rattle.p3_task.specs.Constraints.{one_constraint}
 use Rattle.p3_task.specs.Folds.{fold_constraint, fold_goal}
 use Rattle.p3_task.specs.Goals.{named}
+use Rattle.p3_task.specs.Modal.{Modal}
 use Rattle.p3_task.specs.Names.{Name}
 use Rattle.p3_task.specs.Slots.{words_of}
 use Rattle.p3_task.specs.declared.constraint.Constraint.{Constraint, Both', Each', Single, Soft', Row_of-Constraint, end_of-Constraint, more_of-Constraint}
 use Rattle.p3_task.specs.declared.constraint.Constraint.TheOpen as layer
+use Rattle.p3_task.specs.declared.goal.Pref.{Pref}
 use Rattle.p3_task.specs.declared.goal.PreGoal.{PreGoal}
 use Rattle.p3_task.specs.declared.goal.PreGoal.TheOpen as goal
 use Rattle.p3_task.specs.declared.task.Action.{Action}
 use Rattle.p3_task.specs.declared.task.Task.{Task}
+use Rattle.p3_task.specs.declared.term.Ref.{Ref}
 use Rattle.p3_numbers.specs.Conditions.{condition_of}
 use Rattle.p3_numbers.specs.Constraints.{modal_of}
 use Rattle.p3_numbers.specs.NumberedModal.{NumberedModal}
@@ -34,11 +37,15 @@ pub record Scene : Type 0 where
   pub scope : Variables
   pub slots : Slots
 
+-- an operator of a half at the objects in slots
+abbrev pub scene_of : Role → Modal → NumberedModal → Variables → Slots → Scene
+scene_of role modal numbered scope slots = record { role = role; word = first_word_of modal; operator = numbered; scope = scope; slots = slots }
+
 -- those outside preferences, or else those within them too
 abbrev pub scenes_layer : Numbers → Role → Bool → layer.Constraint-F (Variables → Slots → List Scene) → Variables → Slots → List Scene
 scenes_layer N role within (layer.Both parts) scope slots = flat_map (λ part. part scope slots) parts
 scenes_layer N role within (layer.Each variables body) scope slots = flat_map (body (scope ++ words_of variables)) (bound N slots (ranges_of N variables))
-scenes_layer N role within (layer.Single modal) scope slots = record { role = role; word = first_word_of modal; operator = modal_of N modal scope; scope = scope; slots = slots } ∷ []
+scenes_layer N role within (layer.Single modal) scope slots = scene_of role modal (modal_of N modal scope) scope slots ∷ []
 scenes_layer N role within (layer.Soft at name body) scope slots = if within then body scope slots else []
 
 unfoldable pub scenes : Numbers → Role → Bool → Constraint → Variables → Slots → List Scene
@@ -54,12 +61,16 @@ pub record SoftScene : Type 0 where
   pub slots : Slots
   pub operators : List Scene
 
+-- a preference of a half at the objects in slots, with the operators of its body
+abbrev pub soft_scene_of : Numbers → Role → ℕ → Option Ref → Constraint → Variables → Slots → SoftScene
+soft_scene_of N role at name body scope slots = record { role = role; at = at; name = named name; scope = scope; slots = slots; operators = scenes N role true body scope slots }
+
 unfoldable mutual
   pub soft_scenes : Numbers → Role → Constraint → Variables → Slots → List SoftScene
   soft_scenes N role (Both' _ parts) scope slots = soft_scenes_of_all N role parts scope slots
   soft_scenes N role (Each' variables _ body) scope slots = flat_map (soft_scenes_of_one N role body (scope ++ words_of variables)) (bound N slots (ranges_of N variables))
   soft_scenes N role (Single modal) scope slots = []
-  soft_scenes N role (Soft' at name _ body) scope slots = record { role = role; at = at; name = named name; scope = scope; slots = slots; operators = scenes N role true (one_constraint body) scope slots } ∷ []
+  soft_scenes N role (Soft' at name _ body) scope slots = soft_scene_of N role at name (one_constraint body) scope slots ∷ []
 
   pub soft_scenes_of_all : Numbers → Role → {n : Count} → Row_of-Constraint n → Variables → Slots → List SoftScene
   soft_scenes_of_all N role end_of-Constraint scope slots = []
@@ -78,11 +89,15 @@ pub record StateScene : Type 0 where
   pub scope : Variables
   pub slots : Slots
 
+-- a preference at the objects in slots
+abbrev pub state_scene_of : Pref → NumberedCondition → Variables → Slots → StateScene
+state_scene_of pref condition scope slots = record { at = pref.at; name = named pref.name; word = first_word pref.body; condition = condition; scope = scope; slots = slots }
+
 abbrev pub state_scenes_layer : Numbers → goal.PreGoal-F (Variables → Slots → List StateScene) → Variables → Slots → List StateScene
 state_scenes_layer N (goal.Plain formula) scope slots = []
 state_scenes_layer N (goal.Both parts) scope slots = flat_map (λ part. part scope slots) parts
 state_scenes_layer N (goal.Each variables body) scope slots = flat_map (body (scope ++ words_of variables)) (bound N slots (ranges_of N variables))
-state_scenes_layer N (goal.Soft pref) scope slots = record { at = pref.at; name = named pref.name; word = first_word pref.body; condition = condition_of N pref.body scope; scope = scope; slots = slots } ∷ []
+state_scenes_layer N (goal.Soft pref) scope slots = state_scene_of pref (condition_of N pref.body scope) scope slots ∷ []
 
 unfoldable pub state_scenes : Numbers → PreGoal → Variables → Slots → List StateScene
 state_scenes N tree = fold_goal (state_scenes_layer N) tree

@@ -3,9 +3,8 @@
 ghost use Rattle.std.specs.Prelude.{◌≡◌, [], ◌∷◌, ◌++◌, map, flat_map, OnOk, IfOk};
 ghost use Rattle.p3_numbers.specs.Constraints.{constraint_of, modal_of};
 ghost use Rattle.p3_numbers.specs.Slots.{bound};
-ghost use Rattle.p3_scenes.specs.FirstWords.{first_word_of};
 ghost use Rattle.p3_scenes.specs.Lent.{lent_words};
-ghost use Rattle.p3_scenes.specs.Scenes.{scenes};
+ghost use Rattle.p3_scenes.specs.Scenes.{scene_of, scenes};
 ghost use Rattle.p3_scenes.specs.Seen.{seen};
 
 use crate::bindings::{Bindings, scope_with};
@@ -34,13 +33,8 @@ fn operator_scene<'t>(
     scope: &[&'t Name],
     slots: &[u32],
 ) -> Result<OperatorScene<'t>, NoMemory>
-    ensures { IfOk result (λ scene. seen scene ≡ record {
-      role = half.now.role;
-      word = first_word_of modal.now;
-      operator = numbered.now;
-      scope = lent_words scope.now;
-      slots = slots.now;
-    }) }
+    ensures { IfOk result (λ scene. seen scene
+        ≡ scene_of half.now.role modal.now numbered.now (lent_words scope.now) slots.now) }
 {
     let bindings = Bindings::of(half.alloc, scope, slots)?;
     Ok(OperatorScene {

@@ -1,12 +1,11 @@
 //! The preferences of a constraint at objects.
 
-ghost use Rattle.std.specs.Prelude.{◌≡◌, ℕ, true, ◌∷◌, [], ◌++◌, map, flat_map, OnOk, IfOk};
-ghost use Rattle.p3_task.specs.Goals.{named};
+ghost use Rattle.std.specs.Prelude.{◌≡◌, ◌∷◌, [], ◌++◌, map, flat_map, OnOk, IfOk};
 ghost use Rattle.p3_numbers.specs.Constraints.{constraint_of};
 ghost use Rattle.p3_numbers.specs.Slots.{bound};
-ghost use Rattle.p3_scenes.specs.Lent.{lent_name, lent_words};
-ghost use Rattle.p3_scenes.specs.Scenes.{at_end as of_last_state, scenes, soft_scenes};
-ghost use Rattle.p3_scenes.specs.Seen.{seen, seen_pref, seen_soft};
+ghost use Rattle.p3_scenes.specs.Lent.{lent_words};
+ghost use Rattle.p3_scenes.specs.Scenes.{at_end as of_last_state, soft_scene_of, soft_scenes};
+ghost use Rattle.p3_scenes.specs.Seen.{IsOverLastState, seen_pref, seen_soft};
 
 use crate::bindings::{Bindings, scope_with};
 use crate::constraint::{Half, push_operators};
@@ -30,15 +29,8 @@ fn instance_scene<'t>(
     slots: &[u32],
 ) -> Result<InstanceScene<'t>, NoMemory>
     requires { other.now ≡ constraint_of half.now.numbers.now body.now (lent_words scope.now) }
-    ensures { IfOk result (λ scene. seen_soft scene ≡ record {
-      role = half.now.role;
-      at = at;
-      name = named name.now;
-      scope = lent_words scope.now;
-      slots = slots.now;
-      operators = scenes half.now.numbers.now half.now.role true body.now
-          (lent_words scope.now) slots.now;
-    }) }
+    ensures { IfOk result (λ scene. seen_soft scene ≡ soft_scene_of half.now.numbers.now
+        half.now.role at name.now body.now (lent_words scope.now) slots.now) }
 {
     let mut operators = List::new(half.alloc);
     push_operators(half, true, body, other, scope, slots, &mut operators)?;
@@ -144,7 +136,7 @@ fn push_bodies<'t>(
 
 /// A preference of the goal, over the last state.
 fn at_end<'t>(alloc: Global, preference: PreferenceScene<'t>) -> Result<InstanceScene<'t>, NoMemory>
-    ensures { IfOk result (λ scene. seen_soft scene ≡ of_last_state (seen_pref preference.entry)) }
+    ensures { IfOk result (IsOverLastState (seen_pref preference.entry)) }
 {
     let PreferenceScene {
         at,

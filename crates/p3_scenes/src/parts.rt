@@ -1,32 +1,23 @@
 //! The parts of numbered trees whose form is known.
 
-ghost use Rattle.std.specs.Prelude.{◌≡◌, ℕ, List as Items, Option, Some};
 ghost use Rattle.std.specs.Option.{option_copied};
-ghost use Rattle.p3_numbers.specs.NumberedModal.{NumberedModal as NamedModal};
-ghost use Rattle.p3_numbers.specs.declared.constraint.NumberedConstraint.TheVariants.{
-  Both as all_of,
-  Each as each_of,
-  Single as single_of,
-  Soft as soft_of,
-};
-ghost use Rattle.p3_numbers.specs.declared.constraint.NumberedConstraint.{
-  NumberedConstraint as Tree,
-};
-ghost use Rattle.p3_numbers.specs.declared.goal.NumberedGoal.TheVariants.{
-  Both as all_goals,
-  Each as each_goal,
-  Soft as soft_goal,
-};
-ghost use Rattle.p3_numbers.specs.declared.goal.NumberedGoal.{NumberedGoal as Goal};
-ghost use Rattle.p3_numbers.specs.declared.goal.NumberedPreference.{
-  NumberedPreference as Preference,
+ghost use Rattle.p3_scenes.specs.Parts.{
+  AreGoalRanges,
+  AreGoals,
+  AreParts,
+  AreRanges,
+  IsBody,
+  IsGoalBody,
+  IsOperator,
+  IsPreference,
+  IsPreferred,
 };
 
 use p3_numbers::{NumberedConstraint, NumberedGoal, NumberedModal, NumberedPreference};
 
 /// The parts of a conjunction.
 pub(crate) fn constraints_in(constraint: &NumberedConstraint) -> &[NumberedConstraint]
-    ensures { (parts : Items Tree) → constraint.now ≡ all_of parts → result.now ≡ parts }
+    ensures { AreParts constraint.now result.now }
 {
     match constraint {
         NumberedConstraint::Both(parts) => parts.items(),
@@ -36,8 +27,7 @@ pub(crate) fn constraints_in(constraint: &NumberedConstraint) -> &[NumberedConst
 
 /// The ranges of a quantifier.
 pub(crate) fn ranges_in(constraint: &NumberedConstraint) -> &[u32]
-    ensures { (ranges : Items ℕ) (body : Tree) → constraint.now ≡ each_of ranges body
-        → result.now ≡ ranges }
+    ensures { AreRanges constraint.now result.now }
 {
     match constraint {
         NumberedConstraint::Each(ranges, _) => ranges.items(),
@@ -47,10 +37,8 @@ pub(crate) fn ranges_in(constraint: &NumberedConstraint) -> &[u32]
 
 /// The body of a quantifier or of a preference.
 pub(crate) fn body_in(constraint: &NumberedConstraint) -> &NumberedConstraint
-    ensures each { (ranges : Items ℕ) (body : Tree) → constraint.now ≡ each_of ranges body
-        → result.now ≡ body }
-    ensures soft { (at : ℕ) (name : Option ℕ) (body : Tree) → constraint.now ≡ soft_of at name body
-        → result.now ≡ body }
+    ensures each { IsBody constraint.now result.now }
+    ensures soft { IsPreferred constraint.now result.now }
 {
     match constraint {
         NumberedConstraint::Each(_, body) => body.get(),
@@ -61,8 +49,7 @@ pub(crate) fn body_in(constraint: &NumberedConstraint) -> &NumberedConstraint
 
 /// The operator.
 pub(crate) fn modal_in(constraint: &NumberedConstraint) -> Option<&NumberedModal>
-    ensures { (modal : NamedModal) → constraint.now ≡ single_of modal
-        → option_copied result ≡ Some modal }
+    ensures { IsOperator constraint.now (option_copied result) }
 {
     match constraint {
         NumberedConstraint::Single(modal) => Some(modal),
@@ -72,7 +59,7 @@ pub(crate) fn modal_in(constraint: &NumberedConstraint) -> Option<&NumberedModal
 
 /// The parts of a conjunction.
 pub(crate) fn goals_in(goal: &NumberedGoal) -> &[NumberedGoal]
-    ensures { (parts : Items Goal) → goal.now ≡ all_goals parts → result.now ≡ parts }
+    ensures { AreGoals goal.now result.now }
 {
     match goal {
         NumberedGoal::Both(parts) => parts.items(),
@@ -82,8 +69,7 @@ pub(crate) fn goals_in(goal: &NumberedGoal) -> &[NumberedGoal]
 
 /// The ranges of a quantifier.
 pub(crate) fn goal_ranges_in(goal: &NumberedGoal) -> &[u32]
-    ensures { (ranges : Items ℕ) (body : Goal) → goal.now ≡ each_goal ranges body
-        → result.now ≡ ranges }
+    ensures { AreGoalRanges goal.now result.now }
 {
     match goal {
         NumberedGoal::Each(ranges, _) => ranges.items(),
@@ -93,8 +79,7 @@ pub(crate) fn goal_ranges_in(goal: &NumberedGoal) -> &[u32]
 
 /// The body of a quantifier.
 pub(crate) fn goal_body_in(goal: &NumberedGoal) -> &NumberedGoal
-    ensures { (ranges : Items ℕ) (body : Goal) → goal.now ≡ each_goal ranges body
-        → result.now ≡ body }
+    ensures { IsGoalBody goal.now result.now }
 {
     match goal {
         NumberedGoal::Each(_, body) => body.get(),
@@ -104,8 +89,7 @@ pub(crate) fn goal_body_in(goal: &NumberedGoal) -> &NumberedGoal
 
 /// The preference.
 pub(crate) fn preference_in(goal: &NumberedGoal) -> Option<&NumberedPreference>
-    ensures { (preference : Preference) → goal.now ≡ soft_goal preference
-        → option_copied result ≡ Some preference }
+    ensures { IsPreference goal.now (option_copied result) }
 {
     match goal {
         NumberedGoal::Soft(preference) => Some(preference),

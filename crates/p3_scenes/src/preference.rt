@@ -4,9 +4,8 @@ ghost use Rattle.std.specs.Prelude.{◌≡◌, ◌∷◌, [], ◌++◌, map, fla
 ghost use Rattle.p3_task.specs.Goals.{named};
 ghost use Rattle.p3_numbers.specs.Goals.{goal_of};
 ghost use Rattle.p3_numbers.specs.Slots.{bound};
-ghost use Rattle.p3_scenes.specs.FirstWords.{first_word};
 ghost use Rattle.p3_scenes.specs.Lent.{lent_name, lent_words};
-ghost use Rattle.p3_scenes.specs.Scenes.{state_scenes};
+ghost use Rattle.p3_scenes.specs.Scenes.{state_scene_of, state_scenes};
 ghost use Rattle.p3_scenes.specs.Seen.{seen_pref};
 
 use crate::bindings::{Bindings, scope_with};
@@ -37,14 +36,8 @@ fn preference_scene<'t>(
     scope: &[&'t Name],
     slots: &[u32],
 ) -> Result<PreferenceScene<'t>, NoMemory>
-    ensures { IfOk result (λ scene. seen_pref scene ≡ record {
-      at = preference.now.at;
-      name = named preference.now.name;
-      word = first_word preference.now.body;
-      condition = numbered.now.body;
-      scope = lent_words scope.now;
-      slots = slots.now;
-    }) }
+    ensures { IfOk result (λ scene. seen_pref scene
+        ≡ state_scene_of preference.now numbered.now.body (lent_words scope.now) slots.now) }
 {
     let bindings = Bindings::of(alloc, scope, slots)?;
     Ok(PreferenceScene {

@@ -1,22 +1,18 @@
-use Rattle.std.proofs.Common.{rules, ◌≡◌, ◌∙◌, ◌<◌, ◌≤◌, Bool, None, Some, List, [], ◌∷◌, ◌++◌, if◌then◌else◌, map, length, take, sym, ap, subst}
+use Rattle.std.proofs.Common.{rules, ◌≡◌, ◌∙◌, Bool, None, Some, List, [], ◌∷◌, ◌++◌, if◌then◌else◌, map, sym, ap, subst}
 use Rattle.std.specs.Prelude.{flat_map, OnOk}
 use Rattle.std.specs.Option.{option_copied}
-use Rattle.std.proofs.Math.Seq.{take-append_seam}
-use Rattle.std.proofs.lemmas.List.{append-nil, map-append, take_all}
+use Rattle.std.proofs.lemmas.List.{append-nil, map-append}
 use Rattle.p3_task.specs.Slots.{words_of}
 use Rattle.p3_task.specs.declared.constraint.Constraint.TheViews.{the_lemmas}
-use Rattle.p3_numbers.specs.Choices.{choice, choice_count}
 use Rattle.p3_numbers.specs.Constraints.{constraint_of, modal_of}
 use Rattle.p3_numbers.specs.Places.{ranges_of}
 use Rattle.p3_numbers.specs.Slots.{Slots, bound}
-use Rattle.p3_scenes.specs.FirstWords.{first_word_of}
 use Rattle.p3_scenes.specs.Lent.{lent_words}
-use Rattle.p3_scenes.specs.Scenes.{Scene, scenes}
+use Rattle.p3_scenes.specs.Scenes.{Scene, scene_of, scenes}
 use Rattle.p3_scenes.specs.Seen.{seen}
-use Rattle.p3_expansion.proofs.ChoiceLemmas.{length-bound, bound-at}
 use Rattle.p3_resolve.proofs.ConstraintLemmas.{constraint_of-Both, constraint_of-Each, constraint_of-Single, constraint_of-Soft}
+use Rattle.p3_scenes.proofs.EachChoice.{found-all, found-more, slots-stay}
 use Rattle.p3_scenes.proofs.SceneLemmas.{scenes-Both, scenes-Each, scenes-Single, scenes-Soft}
-use Rattle.p3_reasons.proofs.EffectLemmas.{taken-more}
 use Rattle.p3_scenes.proofs.constraint.+operators.Goals as goal
 
 pub push_operators-push_parts-requires : goal.push_operators-push_parts-requires
@@ -84,26 +80,18 @@ push_bodies-loop-choice-preserved t c =
     let N = c.args.half.now.numbers.now in
     let slots = c.args.slots.now in
     let ranges = c.args.ranges.now in
-    let k = c.loop-choice.choice in
-    let within : k < choice_count N ranges = subst (λ n. k < n) c.in_ok-count.ensures c.loop-choice-test.true in
-    let placed : c.place_choice.new.slots.items ≡ slots ++ choice N ranges k = c.in_ok-place_choice.ensures ∙ ap (λ front. front ++ choice N ranges k) c.loop-choice.invariant.outer in
-    let of : Slots → List Scene = scenes N c.args.half.now.role c.args.within c.args.body.now (lent_words c.args.scope.now) in
+    let of : Slots → List Scene = scenes c.args.half.now.numbers.now c.args.half.now.role c.args.within c.args.body.now (lent_words c.args.scope.now) in
     record {
-      outer = ap (take (length slots)) placed ∙ take-append_seam slots (choice N ranges k);
+      outer = slots-stay N slots ranges _ _ c.in_ok-place_choice.ensures c.loop-choice.invariant.outer;
       found =
-          taken-more of (bound N slots ranges) k c.place_choice.new.slots.items (map seen c.args.found.now) (map seen c.loop-choice.found) (map seen c.push_operators.new.found) (subst (λ n. k < n) (sym (length-bound N slots ranges)) within)
-          (bound-at N slots ranges c.place_choice.new.slots.items k within placed) c.loop-choice.invariant.found (c.in_ok-push_operators.ensures ∙ ap (λ inner. map seen c.loop-choice.found ++ of inner) c.as_slice.ensures.value);
+          found-more N slots ranges of c.in_ok-count.ensures _ _ (map seen c.args.found.now) (map seen c.loop-choice.found) (map seen c.push_operators.new.found) c.loop-choice-test.true
+          c.in_ok-place_choice.ensures c.loop-choice.invariant.outer c.as_slice.ensures.value c.loop-choice.invariant.found c.in_ok-push_operators.ensures;
     }
 
 pub push_bodies-returns : goal.push_bodies-returns
 push_bodies-returns t c =
-    let N = c.args.half.now.numbers.now in
-    let slots = c.args.slots.now in
-    let ranges = c.args.ranges.now in
-    let k = c.loop-choice.choice in
-    let past : length (bound N slots ranges) ≤ k = subst (λ n. n ≤ k) (c.in_ok-count.ensures ∙ sym (length-bound N slots ranges)) c.loop-choice-test.false in
-    let of : Slots → List Scene = scenes N c.args.half.now.role c.args.within c.args.body.now (lent_words c.args.scope.now) in
-    c.loop-choice.invariant.found ∙ ap (λ passed. map seen c.args.found.now ++ flat_map of passed) (take_all k (bound N slots ranges) past)
+    let of : Slots → List Scene = scenes c.args.half.now.numbers.now c.args.half.now.role c.args.within c.args.body.now (lent_words c.args.scope.now) in
+    found-all c.args.half.now.numbers.now c.args.slots.now c.args.ranges.now of c.in_ok-count.ensures (map seen c.args.found.now) (map seen c.loop-choice.found) c.loop-choice-test.false c.loop-choice.invariant.found
 
 pub push_operators-returns-then-within : goal.push_operators-returns-then-within
 push_operators-returns-then-within t c =
@@ -139,5 +127,5 @@ push_operators-returns-in_ok-push-in-Single t c =
     let same : c.in-Some.other.now ≡ modal_of N modal scope = cc in
     ap (map seen) c.in_ok-push-in-Single.ensures.ok ∙ map-append seen c.args.found.now (c.in_ok-scene-in-Single.scene ∷ [])
     ∙ ap (λ more. map seen c.args.found.now ++ more)
-    (ap (λ (one : Scene). one ∷ []) (c.in_ok-scene-in-Single.ensures ∙ (λ i. record { role = role; word = first_word_of modal; operator = same i; scope = scope; slots = slots }))
+    (ap (λ (one : Scene). one ∷ []) (c.in_ok-scene-in-Single.ensures ∙ (λ i. scene_of role modal (same i) scope slots))
     ∙ sym (ap (λ tree. scenes N role c.args.within tree scope slots) c.in-Single.is ∙ scenes-Single N role c.args.within scope slots modal))

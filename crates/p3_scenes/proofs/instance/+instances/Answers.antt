@@ -1,21 +1,17 @@
-use Rattle.std.proofs.Common.{rules, ◌≡◌, ◌∙◌, ◌<◌, ◌≤◌, true, List, [], ◌∷◌, ◌++◌, map, length, take, sym, ap, subst}
+use Rattle.std.proofs.Common.{rules, ◌≡◌, ◌∙◌, true, List, [], ◌∷◌, ◌++◌, map, sym, ap, subst}
 use Rattle.std.specs.Prelude.{flat_map, OnOk}
-use Rattle.std.proofs.Math.Seq.{take-append_seam}
-use Rattle.std.proofs.lemmas.List.{append-nil, map-append, take_all}
-use Rattle.p3_task.specs.Goals.{named}
+use Rattle.std.proofs.lemmas.List.{append-nil, map-append}
 use Rattle.p3_task.specs.Slots.{words_of}
 use Rattle.p3_task.specs.declared.constraint.Constraint.TheViews.{the_lemmas}
-use Rattle.p3_numbers.specs.Choices.{choice, choice_count}
 use Rattle.p3_numbers.specs.Constraints.{constraint_of}
 use Rattle.p3_numbers.specs.Places.{ranges_of}
 use Rattle.p3_numbers.specs.Slots.{Slots, bound}
 use Rattle.p3_scenes.specs.Lent.{lent_words}
-use Rattle.p3_scenes.specs.Scenes.{SoftScene, scenes, soft_scenes}
+use Rattle.p3_scenes.specs.Scenes.{SoftScene, soft_scene_of, soft_scenes}
 use Rattle.p3_scenes.specs.Seen.{seen_soft}
-use Rattle.p3_expansion.proofs.ChoiceLemmas.{length-bound, bound-at}
 use Rattle.p3_resolve.proofs.ConstraintLemmas.{constraint_of-Both, constraint_of-Each, constraint_of-Soft}
+use Rattle.p3_scenes.proofs.EachChoice.{found-all, found-more, slots-stay}
 use Rattle.p3_scenes.proofs.SceneLemmas.{soft_scenes-Both, soft_scenes-Each, soft_scenes-Single, soft_scenes-Soft}
-use Rattle.p3_reasons.proofs.EffectLemmas.{taken-more}
 use Rattle.p3_scenes.proofs.instance.+instances.Goals as goal
 
 pub push_instances-push_parts-requires : goal.push_instances-push_parts-requires
@@ -66,26 +62,18 @@ push_bodies-loop-choice-preserved t c =
     let N = c.args.half.now.numbers.now in
     let slots = c.args.slots.now in
     let ranges = c.args.ranges.now in
-    let k = c.loop-choice.choice in
-    let within : k < choice_count N ranges = subst (λ n. k < n) c.in_ok-count.ensures c.loop-choice-test.true in
-    let placed : c.place_choice.new.slots.items ≡ slots ++ choice N ranges k = c.in_ok-place_choice.ensures ∙ ap (λ front. front ++ choice N ranges k) c.loop-choice.invariant.outer in
-    let of : Slots → List SoftScene = soft_scenes N c.args.half.now.role c.args.body.now (lent_words c.args.scope.now) in
+    let of : Slots → List SoftScene = soft_scenes c.args.half.now.numbers.now c.args.half.now.role c.args.body.now (lent_words c.args.scope.now) in
     record {
-      outer = ap (take (length slots)) placed ∙ take-append_seam slots (choice N ranges k);
+      outer = slots-stay N slots ranges _ _ c.in_ok-place_choice.ensures c.loop-choice.invariant.outer;
       found =
-          taken-more of (bound N slots ranges) k c.place_choice.new.slots.items (map seen_soft c.args.found.now) (map seen_soft c.loop-choice.found) (map seen_soft c.push_instances.new.found) (subst (λ n. k < n) (sym (length-bound N slots ranges)) within)
-          (bound-at N slots ranges c.place_choice.new.slots.items k within placed) c.loop-choice.invariant.found (c.in_ok-push_instances.ensures ∙ ap (λ inner. map seen_soft c.loop-choice.found ++ of inner) c.as_slice.ensures.value);
+          found-more N slots ranges of c.in_ok-count.ensures _ _ (map seen_soft c.args.found.now) (map seen_soft c.loop-choice.found) (map seen_soft c.push_instances.new.found) c.loop-choice-test.true
+          c.in_ok-place_choice.ensures c.loop-choice.invariant.outer c.as_slice.ensures.value c.loop-choice.invariant.found c.in_ok-push_instances.ensures;
     }
 
 pub push_bodies-returns : goal.push_bodies-returns
 push_bodies-returns t c =
-    let N = c.args.half.now.numbers.now in
-    let slots = c.args.slots.now in
-    let ranges = c.args.ranges.now in
-    let k = c.loop-choice.choice in
-    let past : length (bound N slots ranges) ≤ k = subst (λ n. n ≤ k) (c.in_ok-count.ensures ∙ sym (length-bound N slots ranges)) c.loop-choice-test.false in
-    let of : Slots → List SoftScene = soft_scenes N c.args.half.now.role c.args.body.now (lent_words c.args.scope.now) in
-    c.loop-choice.invariant.found ∙ ap (λ passed. map seen_soft c.args.found.now ++ flat_map of passed) (take_all k (bound N slots ranges) past)
+    let of : Slots → List SoftScene = soft_scenes c.args.half.now.numbers.now c.args.half.now.role c.args.body.now (lent_words c.args.scope.now) in
+    found-all c.args.half.now.numbers.now c.args.slots.now c.args.ranges.now of c.in_ok-count.ensures (map seen_soft c.args.found.now) (map seen_soft c.loop-choice.found) c.loop-choice-test.false c.loop-choice.invariant.found
 
 pub push_instances-returns-in-Single : goal.push_instances-returns-in-Single
 push_instances-returns-in-Single t c =
@@ -113,5 +101,5 @@ push_instances-returns-in_ok-push-in-Soft t c =
     let name = c.in-Soft.name in
     ap (map seen_soft) c.in_ok-push-in-Soft.ensures.ok ∙ map-append seen_soft c.args.found.now (c.in_ok-scene-in-Soft.scene ∷ [])
     ∙ ap (λ more. map seen_soft c.args.found.now ++ more)
-    (ap (λ (one : SoftScene). one ∷ []) (c.in_ok-scene-in-Soft.ensures ∙ (λ i. record { role = role; at = at; name = named name; scope = scope; slots = slots; operators = scenes N role true (c.get-body.ensures i) scope slots }))
+    (ap (λ (one : SoftScene). one ∷ []) (c.in_ok-scene-in-Soft.ensures ∙ (λ i. soft_scene_of N role at name (c.get-body.ensures i) scope slots))
     ∙ sym (ap (λ tree. soft_scenes N role tree scope slots) c.in-Soft.is ∙ soft_scenes-Soft N role scope slots at name c.in-Soft.body))

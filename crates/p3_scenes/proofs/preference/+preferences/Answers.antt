@@ -1,26 +1,20 @@
-use Rattle.std.proofs.Common.{rules, ◌≡◌, ◌∙◌, ◌<◌, ◌≤◌, None, Some, List, [], ◌∷◌, ◌++◌, map, length, take, sym, ap, subst}
+use Rattle.std.proofs.Common.{rules, ◌≡◌, ◌∙◌, None, Some, List, [], ◌∷◌, ◌++◌, map, sym, ap, subst}
 use Rattle.std.specs.Prelude.{flat_map, OnOk}
 use Rattle.std.specs.Option.{option_copied}
-use Rattle.std.proofs.Math.Seq.{take-append_seam}
-use Rattle.std.proofs.lemmas.List.{append-nil, map-append, take_all}
-use Rattle.p3_task.specs.Goals.{named}
+use Rattle.std.proofs.lemmas.List.{append-nil, map-append}
 use Rattle.p3_task.specs.Slots.{words_of}
-use Rattle.p3_task.specs.declared.goal.Pref.{Pref}
 use Rattle.p3_task.specs.declared.goal.PreGoal.TheViews.{the_lemmas}
-use Rattle.p3_numbers.specs.Choices.{choice, choice_count}
 use Rattle.p3_numbers.specs.Conditions.{condition_of}
 use Rattle.p3_numbers.specs.Goals.{goal_of, numbered_name}
 use Rattle.p3_numbers.specs.Places.{ranges_of}
 use Rattle.p3_numbers.specs.Slots.{Slots, bound}
 use Rattle.p3_numbers.specs.declared.goal.NumberedPreference.{NumberedPreference}
-use Rattle.p3_scenes.specs.FirstWords.{first_word}
 use Rattle.p3_scenes.specs.Lent.{lent_words}
-use Rattle.p3_scenes.specs.Scenes.{StateScene, state_scenes}
+use Rattle.p3_scenes.specs.Scenes.{StateScene, state_scene_of, state_scenes}
 use Rattle.p3_scenes.specs.Seen.{seen_pref}
-use Rattle.p3_expansion.proofs.ChoiceLemmas.{length-bound, bound-at}
 use Rattle.p3_resolve.proofs.GoalLemmas.{goal_of-Both, goal_of-Each, goal_of-Soft}
+use Rattle.p3_scenes.proofs.EachChoice.{found-all, found-more, slots-stay}
 use Rattle.p3_scenes.proofs.SceneLemmas.{state_scenes-Plain, state_scenes-Both, state_scenes-Each, state_scenes-Soft}
-use Rattle.p3_reasons.proofs.EffectLemmas.{taken-more}
 use Rattle.p3_scenes.proofs.preference.+preferences.Goals as goal
 
 pub push_preferences-push_parts-requires : goal.push_preferences-push_parts-requires
@@ -89,10 +83,9 @@ push_preferences-returns-in_ok-push-in-Soft t c =
     let other : NumberedPreference = record { at = pref.at; name = numbered_name N pref.name; body = condition_of N pref.body scope } in
     let there : Some c.in-Some.other.now ≡ Some other = c.in-Some.ensures _ (c.requires ∙ ap (λ tree. goal_of N tree scope) c.in-Soft.is ∙ goal_of-Soft N scope pref) in
     let same : c.in-Some.other.now ≡ other = cc in
-    let made : Pref → NumberedPreference → StateScene = λ own (numbered : NumberedPreference). record { at = own.at; name = named own.name; word = first_word own.body; condition = numbered.body; scope = scope; slots = slots } in
     ap (map seen_pref) c.in_ok-push-in-Soft.ensures.ok ∙ map-append seen_pref c.args.found.now (c.in_ok-scene-in-Soft.scene ∷ [])
     ∙ ap (λ more. map seen_pref c.args.found.now ++ more)
-    (ap (λ (one : StateScene). one ∷ []) (c.in_ok-scene-in-Soft.ensures ∙ (λ i. made (c.get-in-Soft.ensures i) (same i)))
+    (ap (λ (one : StateScene). one ∷ []) (c.in_ok-scene-in-Soft.ensures ∙ (λ i. state_scene_of (c.get-in-Soft.ensures i) (same i).body scope slots))
     ∙ sym (ap (λ tree. state_scenes N tree scope slots) c.in-Soft.is ∙ state_scenes-Soft N scope slots pref))
 
 pub push_bodies-loop-choice-preserved : goal.push_bodies-loop-choice-preserved
@@ -100,23 +93,15 @@ push_bodies-loop-choice-preserved t c =
     let N = c.args.numbers.now in
     let slots = c.args.slots.now in
     let ranges = c.args.ranges.now in
-    let k = c.loop-choice.choice in
-    let within : k < choice_count N ranges = subst (λ n. k < n) c.in_ok-count.ensures c.loop-choice-test.true in
-    let placed : c.place_choice.new.slots.items ≡ slots ++ choice N ranges k = c.in_ok-place_choice.ensures ∙ ap (λ front. front ++ choice N ranges k) c.loop-choice.invariant.outer in
-    let of : Slots → List StateScene = state_scenes N c.args.body.now (lent_words c.args.scope.now) in
+    let of : Slots → List StateScene = state_scenes c.args.numbers.now c.args.body.now (lent_words c.args.scope.now) in
     record {
-      outer = ap (take (length slots)) placed ∙ take-append_seam slots (choice N ranges k);
+      outer = slots-stay N slots ranges _ _ c.in_ok-place_choice.ensures c.loop-choice.invariant.outer;
       found =
-          taken-more of (bound N slots ranges) k c.place_choice.new.slots.items (map seen_pref c.args.found.now) (map seen_pref c.loop-choice.found) (map seen_pref c.push_preferences.new.found) (subst (λ n. k < n) (sym (length-bound N slots ranges)) within)
-          (bound-at N slots ranges c.place_choice.new.slots.items k within placed) c.loop-choice.invariant.found (c.in_ok-push_preferences.ensures ∙ ap (λ inner. map seen_pref c.loop-choice.found ++ of inner) c.as_slice.ensures.value);
+          found-more N slots ranges of c.in_ok-count.ensures _ _ (map seen_pref c.args.found.now) (map seen_pref c.loop-choice.found) (map seen_pref c.push_preferences.new.found) c.loop-choice-test.true
+          c.in_ok-place_choice.ensures c.loop-choice.invariant.outer c.as_slice.ensures.value c.loop-choice.invariant.found c.in_ok-push_preferences.ensures;
     }
 
 pub push_bodies-returns : goal.push_bodies-returns
 push_bodies-returns t c =
-    let N = c.args.numbers.now in
-    let slots = c.args.slots.now in
-    let ranges = c.args.ranges.now in
-    let k = c.loop-choice.choice in
-    let past : length (bound N slots ranges) ≤ k = subst (λ n. n ≤ k) (c.in_ok-count.ensures ∙ sym (length-bound N slots ranges)) c.loop-choice-test.false in
-    let of : Slots → List StateScene = state_scenes N c.args.body.now (lent_words c.args.scope.now) in
-    c.loop-choice.invariant.found ∙ ap (λ passed. map seen_pref c.args.found.now ++ flat_map of passed) (take_all k (bound N slots ranges) past)
+    let of : Slots → List StateScene = state_scenes c.args.numbers.now c.args.body.now (lent_words c.args.scope.now) in
+    found-all c.args.numbers.now c.args.slots.now c.args.ranges.now of c.in_ok-count.ensures (map seen_pref c.args.found.now) (map seen_pref c.loop-choice.found) c.loop-choice-test.false c.loop-choice.invariant.found
