@@ -10,13 +10,10 @@ use Rattle.p3_accounts.specs.Meanings.{meaning_line}
 use Rattle.p3_accounts.specs.Subjects.{bindings_text, equation_text}
 use Rattle.p3_accounts.specs.Vocabularies.{Vocabulary}
 use Rattle.p3_accounts.specs.declared.meaning.Meaning.{Meaning}
-use Rattle.p3_accounts.specs.declared.meaning.Meant.{Meant}
-use Rattle.p3_accounts.specs.declared.meaning.Meant.TheVariants.{Atom, Chain, Monitor, Step}
-use Rattle.p3_accounts.specs.declared.spot.Spot.{Spot}
 use Rattle.p3_reports.proofs.PutLemmas.{both_put, partly_first, partly_second}
 use Rattle.p3_unmet.specs.Bindings.{paired_with}
 use Rattle.p3_meanings.specs.Environments.{environment_text}
-use Rattle.p3_meanings.specs.Heard.{heard, letter_of, numbered_from, words_of}
+use Rattle.p3_meanings.specs.Heard.{heard, numbered_from}
 use Rattle.p3_meanings.specs.Said.{Said, said_line, said_lines}
 use Rattle.p3_meanings.specs.declared.unnumbered.Unnumbered.{Unnumbered}
 
@@ -36,15 +33,9 @@ bindings_are_told V scope objects = sym (bindings_behind V [] scope objects)
 
 -- ---- lines
 
-meant_is_said : (V : Vocabulary) (spot : Option Spot) (number : ℕ) (of : Meant) → meaning_line V (record { spot = spot; number = number; of = of }) ≡ said_line V number (record { letter = letter_of of; spot = spot; text = words_of V of })
-meant_is_said V spot number (Step placed) = refl
-meant_is_said V spot number (Atom atom) = refl
-meant_is_said V spot number (Monitor subject) = refl
-meant_is_said V spot number (Chain settling) = refl
-
 pub numbered_is_said : (V : Vocabulary) (number : ℕ) (items : List Unnumbered) → flat_map (meaning_line V) (numbered_from number items) ≡ said_lines V number (map (heard V) items)
 numbered_is_said V number [] = refl
-numbered_is_said V number (item ∷ items) = λ i. meant_is_said V item.spot number item.of i ++ numbered_is_said V (number + 1) items i
+numbered_is_said V number (item ∷ items) = ap (λ lines. said_line V number (heard V item) ++ lines) (numbered_is_said V (number + 1) items)
 
 -- one list behind another
 pub said_behind : (V : Vocabulary) (number : ℕ) (first second : List Said) → said_lines V number (first ++ second) ≡ said_lines V number first ++ said_lines V (number + length first) second

@@ -3,13 +3,10 @@ use Rattle.std.specs.Prelude.{ℕ, ◌+◌, List, [], ◌∷◌, ◌++◌, codes
 use Rattle.p3_numbers.specs.Places.{environment_of}
 use Rattle.p3_scenes.specs.Scenes.{Scene, SoftScene}
 use Rattle.p3_accounts.specs.Operators.{kind_of}
-use Rattle.p3_accounts.specs.Subjects.{preference_text, subject_text}
-use Rattle.p3_accounts.specs.Meanings.{settling_text}
+use Rattle.p3_accounts.specs.Meanings.{letter_of, sense_text}
+use Rattle.p3_accounts.specs.Subjects.{preference_text}
 use Rattle.p3_accounts.specs.Vocabularies.{Vocabulary}
-use Rattle.p3_accounts.specs.Words.{atom_text, placed_text}
 use Rattle.p3_accounts.specs.declared.meaning.Meaning.{Meaning}
-use Rattle.p3_accounts.specs.declared.meaning.Meant.{Meant}
-use Rattle.p3_accounts.specs.declared.meaning.Meant.TheVariants.{Atom, Chain, Monitor, Step}
 use Rattle.p3_unmet.specs.Sources.{Texts, spot_of}
 use Rattle.p3_meanings.specs.Environments.{environment_text}
 use Rattle.p3_meanings.specs.Monitors.{of_constraint, of_preference, watches}
@@ -21,20 +18,8 @@ use Rattle.p3_accounts.specs.declared.spot.Spot.{Spot}
 
 -- ---- what is meant, in words
 
-abbrev pub letter_of : Meant → List ℕ
-letter_of (Step placed) = codes "s"
-letter_of (Atom atom) = codes "f"
-letter_of (Monitor subject) = codes "m"
-letter_of (Chain settling) = codes "e"
-
-abbrev pub words_of : Vocabulary → Meant → List ℕ
-words_of V (Step placed) = placed_text V placed
-words_of V (Atom atom) = atom_text V.numbers atom
-words_of V (Monitor subject) = subject_text V subject
-words_of V (Chain settling) = settling_text V settling
-
 abbrev pub heard : Vocabulary → Unnumbered → Said
-heard V item = record { letter = letter_of item.of; spot = item.spot; text = words_of V item.of }
+heard V item = record { letter = letter_of item.of; spot = item.spot; text = sense_text V item.of }
 
 -- ---- numbered in order
 

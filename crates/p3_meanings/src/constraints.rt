@@ -2,7 +2,7 @@
 
 ghost use Rattle.std.specs.Prelude.{◌≡◌, ◌≤◌, ◌++◌, IfErr, IfOk, OnErr, OnOk};
 ghost use Rattle.std.specs.Prelude.{flat_map, map};
-ghost use Rattle.p3_base.specs.Outside.{IsPartlyPut, IsPut};
+ghost use Rattle.p3_base.specs.Outside.{IsPartlyPut, IsPut, Rose};
 ghost use Rattle.p3_scenes.specs.Seen.{seen_soft};
 ghost use Rattle.p3_accounts.specs.Meanings.{meaning_line};
 ghost use Rattle.p3_accounts.specs.Vocabularies.{vocabulary};
@@ -15,12 +15,11 @@ ghost use Rattle.p3_meanings.specs.Told.{AreNamed, AreScenesOf};
 
 use crate::chain::chain;
 use crate::error::NamesFail;
-use crate::lines::put_lines;
 use crate::monitors::{push_hard, push_soft};
 use crate::telling::Telling;
 use crate::unnumbered::numbered;
-use p3_accounts::Meaning;
-use p3_base::{List, NoMemory, Sink};
+use p3_accounts::{Meaning, put_meanings};
+use p3_base::{List, NoMemory, Sink, SinkFailed};
 use p3_formula::GroundSoft;
 use p3_scenes::{InstanceScene, hard_scenes, instance_scenes};
 use p3_types::Checked;
@@ -108,7 +107,7 @@ fn put_both<S: Sink>(
     telling: &Telling<'_>,
     names: &ConstraintNames,
     out: &mut S,
-) -> Result<(), NamesFail>
+) -> Result<(), SinkFailed>
     ensures ok { OnOk result (IsPut
         (flat_map (meaning_line (vocabulary telling.now.terms.now)) names.now.monitors
         ++ flat_map (meaning_line (vocabulary telling.now.terms.now)) names.now.chain)
@@ -117,11 +116,11 @@ fn put_both<S: Sink>(
         (flat_map (meaning_line (vocabulary telling.now.terms.now)) names.now.monitors
         ++ flat_map (meaning_line (vocabulary telling.now.terms.now)) names.now.chain)
         (S.seen out.old).written (S.seen out.new).written) }
-    ensures failed { IfErr result (IsFailOf (S.seen out.old).faults (S.seen out.new).faults) }
+    ensures failed { OnErr result (Rose (S.seen out.old).faults (S.seen out.new).faults) }
     ensures faults_grow { (S.seen out.old).faults ≤ (S.seen out.new).faults }
 {
-    put_lines(names.monitors.items(), telling.terms, out)?;
-    put_lines(names.chain.items(), telling.terms, out)
+    put_meanings(names.monitors.items(), telling.terms, out)?;
+    put_meanings(names.chain.items(), telling.terms, out)
 }
 
 /// Puts the lines of the names that come from constraints and preferences.
@@ -144,7 +143,10 @@ pub(crate) fn put_constraints<S: Sink>(
     ensures faults_grow { (S.seen out.old).faults ≤ (S.seen out.new).faults }
 {
     match constraint_names(telling, checked, softs) {
-        Ok(names) => put_both(telling, &names, out),
+        Ok(names) => match put_both(telling, &names, out) {
+            Ok(()) => Ok(()),
+            Err(SinkFailed) => Err(NamesFail::SinkFailed),
+        },
         Err(NoMemory) => Err(NamesFail::NoMemory),
     }
 }

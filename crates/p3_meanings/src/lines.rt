@@ -1,13 +1,13 @@
-//! Lines of names.
+//! The line of a name.
 
-ghost use Rattle.std.specs.Prelude.{◌≤◌, IfErr, OnErr, OnOk, flat_map};
+ghost use Rattle.std.specs.Prelude.{◌≤◌, IfErr, OnErr, OnOk};
 ghost use Rattle.p3_base.specs.Outside.{IsPartlyPut, IsPut, Rose};
 ghost use Rattle.p3_accounts.specs.Meanings.{meaning_line};
 ghost use Rattle.p3_accounts.specs.Vocabularies.{vocabulary};
 ghost use Rattle.p3_meanings.specs.Names.{IsFailOf};
 
 use crate::error::NamesFail;
-use p3_accounts::{Meaning, Terms, put_meaning, put_meanings};
+use p3_accounts::{Meaning, Terms, put_meaning};
 use p3_base::{Sink, SinkFailed};
 use p3_reports::StackSink;
 
@@ -46,26 +46,5 @@ fn put_at_once<S: Sink>(meaning: &Meaning, terms: &Terms<'_>, out: &mut S) -> Re
     match put_meaning(meaning, terms, &mut room) {
         Ok(()) => out.put(room.bytes()),
         Err(SinkFailed) => put_meaning(meaning, terms, out),
-    }
-}
-
-/// Puts the lines of names one behind another.
-pub(crate) fn put_lines<S: Sink>(
-    meanings: &[Meaning],
-    terms: &Terms<'_>,
-    out: &mut S,
-) -> Result<(), NamesFail>
-    ensures ok { OnOk result
-        (IsPut (flat_map (meaning_line (vocabulary terms.now)) meanings.now)
-        (S.seen out.old).written (S.seen out.new).written) }
-    ensures partly { OnErr result
-        (IsPartlyPut (flat_map (meaning_line (vocabulary terms.now)) meanings.now)
-        (S.seen out.old).written (S.seen out.new).written) }
-    ensures failed { IfErr result (IsFailOf (S.seen out.old).faults (S.seen out.new).faults) }
-    ensures faults_grow { (S.seen out.old).faults ≤ (S.seen out.new).faults }
-{
-    match put_meanings(meanings, terms, out) {
-        Ok(()) => Ok(()),
-        Err(SinkFailed) => Err(NamesFail::SinkFailed),
     }
 }
