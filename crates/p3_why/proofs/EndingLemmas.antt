@@ -2,18 +2,21 @@
 use Rattle.std.proofs.Common.{◌≡◌, ◌≢◌, ◌∙◌, ◌⊎◌, ◌↔◌, ℕ, Bool, true, false, List, Option, Some, None, refl, sym, ap, subst, inl, inr}
 use Rattle.std.specs.Prelude.{IfSome}
 use Rattle.p3_base.specs.Outside.{FilesSeen, SinkSeen, Store}
+use Rattle.p3_base.specs.declared.refusal.Role.{Role}
+use Rattle.p3_reports.specs.declared.refusal.Rejection.{Rejection}
 use Rattle.p3_tree.specs.Commands.{Input}
 use Rattle.p3_cli.specs.Ending as unanswered
 use Rattle.p3_cli.specs.Outcome.{ReadFails, ReadsAll}
 use Rattle.p3_cli.specs.Refusing.{IsRejectedBy}
+use Rattle.p3_cli.specs.Run.{AnyFaultRose}
 use Rattle.p3_cli.specs.Status as status
-use Rattle.p3_cli.specs.Store.{Texts, reading}
+use Rattle.p3_cli.specs.Store.{Texts, TooLong, reading}
 use Rattle.p3_cli.specs.Texts.{AllTexts}
 use Rattle.p3_cli.specs.declared.ending.Ending as code
 use Rattle.p3_cli.specs.declared.ending.Ending.TheVariants as coded
 use Rattle.p3_why.specs.Asked.{Asking, inputs_of}
 use Rattle.p3_why.specs.Ending.{Ending, Answered, CutShort, Unanswered, Usage, IsAnswered, IsAnsweredOrCut, PutsOr, Tells, answer_status}
-use Rattle.p3_why.specs.Run.{Answers, AnswersBy, Comes, ComesOf, Ends, IsUnanswered, OfReading, Refuses}
+use Rattle.p3_why.specs.Run.{Answers, AnswersBy, Comes, ComesOf, Ends, IsAccepted, IsAcceptedIn, IsAnswerOrWant, IsUnanswered, MustAnswer, OfReading, Refuses}
 use Rattle.p3_why.specs.declared.question.Question.{Question}
 use Rattle.p3_why.specs.declared.question.Question.TheVariants.{Names}
 
@@ -123,3 +126,49 @@ ends_so asked asking is old new before mid after answered unput how comes tells 
     tells = subst (λ (first : SinkSeen). unanswered.Tells first after answered how) unput tells;
   },
 )
+
+-- ---- what must be answered
+
+answer_or_want : (is_valid : Bool) (answered : ℕ) → answered ≡ answer_status is_valid → IsAnswerOrWant answered
+answer_or_want true answered is = inl is
+answer_or_want false answered is = inr (inl is)
+
+module _ (asking : Asking) (store : Store) (accepted : IsAccepted asking store) where
+  -- nothing is refused of what is accepted
+  never_refused : (rejection : Rejection) → OfReading asking (Some store) (λ texts. Refuses asking.question texts (unanswered.Refused rejection)) → ⊥
+  never_refused rejection (texts, read, refuses) =
+      let one = accepted.read in
+      let same : texts ≡ accepted.texts = cc in
+      accepted.unrefused rejection (subst (λ own. Refuses asking.question own (unanswered.Refused rejection)) same refuses)
+
+  never_long : (role : Role) → reading store (inputs_of asking) ≡ TooLong role → ⊥
+  never_long role long = let one = accepted.read in cc
+
+  module _ (old new : FilesSeen) (before after : SinkSeen) (answered : ℕ) (is : old.held ≡ Some store) where
+    unanswered_or : (how : unanswered.Ending) → IsUnanswered asking old new how → unanswered.Tells before after answered how → AnyFaultRose old new before after ⊎ IsAnswerOrWant answered
+    unanswered_or (unanswered.Refused rejection) comes tells = absurd (never_refused rejection (subst (λ told. OfReading asking told (λ texts. Refuses asking.question texts (unanswered.Refused rejection))) is comes))
+    unanswered_or (unanswered.TooLong role) comes tells = absurd (never_long role (subst (λ told. IfSome told (λ store. reading store (inputs_of asking) ≡ TooLong role)) is comes))
+    unanswered_or (unanswered.ReadFailed role) comes tells = inl (inl comes.1)
+    unanswered_or unanswered.OutOfMemory comes tells = elim tells [ inl t ↦ inr (inr (inr t.0)) | inr t ↦ inl (inr (inr t.1)) ]
+    unanswered_or (unanswered.Done lines) comes tells = absurd comes
+    unanswered_or (unanswered.Invalid fault) comes tells = absurd comes
+    unanswered_or (unanswered.WriteFailed role) comes tells = absurd comes
+    unanswered_or unanswered.Usage comes tells = absurd comes
+
+    answered_or : (how : Ending) → Comes asking old new how → Tells before after answered how → AnyFaultRose old new before after ⊎ IsAnswerOrWant answered
+    answered_or (Answered lines is_valid) comes tells = elim tells [ inl t ↦ inr (answer_or_want is_valid answered t.0) | inr t ↦ inl (inr (inr t.1)) ]
+    answered_or (CutShort lines) comes tells = inr (inr (inr tells.0))
+    answered_or (Unanswered how) comes tells = unanswered_or how comes tells
+    answered_or Usage comes tells = absurd comes
+
+-- what is accepted is answered, where nothing fails
+pub must_answer : (asked : Option Asking) (old new : FilesSeen) (before after : SinkSeen) (answered : ℕ) (how : Ending) → Ends asked old new before after answered how → MustAnswer asked old new before after answered
+must_answer asked old new before after answered how ends = held old.held refl
+  where
+    asks : (asked : Option Asking) (store : Store) → old.held ≡ Some store → ComesOf asked old new how → IsAcceptedIn asked store → AnyFaultRose old new before after ⊎ IsAnswerOrWant answered
+    asks None store is comes accepted = absurd accepted
+    asks (Some asking) store is comes accepted = answered_or asking store accepted old new before after answered is how comes ends.tells
+
+    held : (told : Option Store) → old.held ≡ told → IfSome told (λ store. IsAcceptedIn asked store → AnyFaultRose old new before after ⊎ IsAnswerOrWant answered)
+    held None is = tt
+    held (Some store) is = λ accepted. asks asked store is ends.comes accepted

@@ -1,11 +1,14 @@
 -- A whole run: when each ending comes.
-use Rattle.std.specs.Prelude.{ℕ, ◌≡◌, Bool, List, Option, Some, None, IfSome, ⊤}
+use Rattle.std.specs.Prelude.{ℕ, ◌≡◌, ◌⊎◌, Bool, List, Option, Some, None, IfSome, ⊤}
 use Rattle.p3_base.specs.Outside.{FilesSeen, SinkSeen, Rose, Store}
 use Rattle.p3_base.specs.declared.refusal.Side.TheVariants.{Source}
+use Rattle.p3_reports.specs.declared.refusal.Rejection.{Rejection}
 use Rattle.p3_task.specs.Refusals.First.{Given, given_task}
 use Rattle.p3_cli.specs.Ending as unanswered
 use Rattle.p3_cli.specs.Evaluation.{given_plan}
 use Rattle.p3_cli.specs.Refusing.{IsRefusal}
+use Rattle.p3_cli.specs.Run.{AnyFaultRose}
+use Rattle.p3_cli.specs.Status as status
 use Rattle.p3_cli.specs.Store.{AreStored, IsUnreadAt, Texts, TooLong, reading}
 use Rattle.p3_cli.specs.Texts.{AllTexts}
 use Rattle.p3_why.specs.Accounts.{IsToldOfPlan}
@@ -67,3 +70,24 @@ AreHeld (Some asking) told = AreStored told (inputs_of asking)
 pub record Ends (asked : Option Asking) (old new : FilesSeen) (before after : SinkSeen) (status : ℕ) (how : Ending) : Type 0 where
   pub comes : ComesOf asked old new how
   pub tells : Tells before after status how
+
+-- ---- what must be answered
+
+-- the store holds the texts that are asked for, and nothing is refused of them
+pub record IsAccepted (asking : Asking) (store : Store) : Type 0 where
+  pub texts : AllTexts
+  pub read : reading store (inputs_of asking) ≡ Texts texts
+  pub unrefused : (rejection : Rejection) → Refuses asking.question texts (unanswered.Refused rejection) → ⊥
+
+abbrev pub IsAcceptedIn : Option Asking → Store → Type 0
+IsAcceptedIn None store = ⊥
+IsAcceptedIn (Some asking) store = IsAccepted asking store
+
+-- the status of an answer, or that memory was wanting for it
+abbrev pub IsAnswerOrWant : ℕ → Type 0
+IsAnswerOrWant answered = (answered ≡ status.done) ⊎ ((answered ≡ status.invalid) ⊎ (answered ≡ status.out_of_memory))
+
+-- where the store tells, and what it holds is accepted, it is answered, but for faults of the outside and want of memory
+abbrev pub MustAnswer : Option Asking → FilesSeen → FilesSeen → SinkSeen → SinkSeen → ℕ → Type 0
+MustAnswer asked old new before after answered =
+    IfSome old.held (λ store. IsAcceptedIn asked store → AnyFaultRose old new before after ⊎ IsAnswerOrWant answered)

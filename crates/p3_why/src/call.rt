@@ -6,7 +6,7 @@ ghost use Rattle.p3_cli.specs.Status as status;
 ghost use Rattle.p3_cli.specs.Store.{AreStored};
 ghost use Rattle.p3_why.specs.Asked.{asking_in, asking_of, inputs_of};
 ghost use Rattle.p3_why.specs.Ending.{Ending as HowItEnds, Tells, Unanswered, Usage};
-ghost use Rattle.p3_why.specs.Run.{AreHeld, Comes, Ends};
+ghost use Rattle.p3_why.specs.Run.{AreHeld, Comes, Ends, MustAnswer};
 
 use crate::asked::asked;
 use crate::asking::Asking;
@@ -36,7 +36,29 @@ pub fn why<F: Files, S: Sink>(alloc: Global, words: &[Word], files: &mut F, out:
     // The files hold what they held.
     ensures held { (F.seen files.new).held ≡ (F.seen files.old).held }
 
+    // What is accepted is answered, but for faults and want of memory.
+    ensures completes { MustAnswer (asking_of words.now)
+        (F.seen files.old) (F.seen files.new) (S.seen out.old) (S.seen out.new) result }
+
     // What is put is what the ending says.
+    ensures ending { (how : HowItEnds) × Ends (asking_of words.now)
+        (F.seen files.old) (F.seen files.new) (S.seen out.old) (S.seen out.new) result how }
+{
+    carried_through(alloc, words, files, out)
+}
+
+/// Answers what the words ask for, or puts why it does not, and gives the status.
+fn carried_through<F: Files, S: Sink>(
+    alloc: Global,
+    words: &[Word],
+    files: &mut F,
+    out: &mut S,
+) -> u8
+    requires { IsTrue (F.seen files.old).is_sure
+        → AreHeld (asking_of words.now) (F.seen files.old).held }
+    ensures usage { (result ≡ status.usage) ↔ (asking_of words.now ≡ None) }
+    ensures untouched { asking_of words.now ≡ None → files.new ≡ files.old }
+    ensures held { (F.seen files.new).held ≡ (F.seen files.old).held }
     ensures ending { (how : HowItEnds) × Ends (asking_of words.now)
         (F.seen files.old) (F.seen files.new) (S.seen out.old) (S.seen out.new) result how }
 {
