@@ -39,7 +39,7 @@ use Rattle.p3_accounts.specs.declared.state.Shown.TheVariants.{States}
 use Rattle.p3_accounts.specs.declared.subject.StepFault.{StepFault}
 use Rattle.p3_inapplicable.specs.Arguments.{argument_fault, fault_by}
 use Rattle.p3_inapplicable.specs.Headings.{FailsBy, HasFaultyArguments, IsMisfitIn, IsReason, IsUnknown, LacksValue}
-use Rattle.p3_inapplicable.specs.Reasons.{IsDone, IsPlain, ShowsLiterals, action_in, deciding}
+use Rattle.p3_inapplicable.specs.Reasons.{IsDone, IsPlain, NamesValue, ShowsStep, action_in, deciding}
 use Rattle.p3_inapplicable.specs.Values.{first_missing, missing_value, value_fact}
 use Rattle.p3_inapplicable.specs.declared.reason.Reason.{Reason}
 use Rattle.p3_inapplicable.proofs.ArgumentLemmas.{by-number, faulty-where-no-arguments}
@@ -164,8 +164,7 @@ module _ (T : Task) (X : NumberedTask) (well : WellFormed T) (numbered : IsNumbe
       (first-state T plan (length steps) (number - 1) (omega (arith, within)))
       (preconditions-answered T X first steps are (number - 1) (omega (arith, many, long, some, within)) step stands.placed stands.is)
 
-  pub precondition-reason : (reason : Reason) → ((placed : PlacedStep) (action : _) → IsDone X steps (number - 1) placed action → ShowsLiterals X steps (number - 1) placed action reason)
-      → IsMisfitIn T X plan steps number validity.Precondition → FailsBy T X plan number step reason
+  pub precondition-reason : (reason : Reason) → ShowsStep X steps (number - 1) reason → IsMisfitIn T X plan steps number validity.Precondition → FailsBy T X plan number step reason
   precondition-reason reason shows in_plan =
       let (some, why) = before-step T plan number validity.Precondition step at in_plan.first in
       let stands = stands-there in_plan.placed some in_plan.among in
@@ -182,8 +181,7 @@ module _ (T : Task) (X : NumberedTask) (well : WellFormed T) (numbered : IsNumbe
         decide = record { truth = sym (precondition-why T s step action stands.is.named why); decide = decided.decide };
       }
 
-  pub cost-reason : (reason : Reason) → ((placed : PlacedStep) (action : _) (value : List ℕ) → IsDone X steps (number - 1) placed action → first_missing (cost_places T) X.values placed.objects action.effect ≡ Some value → IsPlain (StepFault.NoValue value) reason)
-      → IsMisfitIn T X plan steps number validity.NoCost → LacksValue T X step reason
+  pub cost-reason : (reason : Reason) → NamesValue (cost_places T) X steps (number - 1) reason → IsMisfitIn T X plan steps number validity.NoCost → LacksValue T X step reason
   cost-reason reason names in_plan =
       let (some, why) = before-step T plan number validity.NoCost step at in_plan.first in
       let stands = stands-there in_plan.placed some in_plan.among in

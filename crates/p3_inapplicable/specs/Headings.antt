@@ -95,6 +95,10 @@ pub record IsMisfitIn (T : Task) (X : NumberedTask) (plan : Plan) (steps : List 
   pub among : IsAmong kind number steps
   pub first : first_fault T plan ≡ Some (AtStep number kind)
 
+-- the reason is why the step of the number is wrong in that way, in each plan with that step of which this is known
+abbrev pub IsReasonIn : Task → NumberedTask → List PlacedStep → ℕ → Step → validity.Misfit → Reason → Type 0
+IsReasonIn T X steps number step kind reason = (plan : Plan) → slice_get plan (number - 1) ≡ Some step → IsMisfitIn T X plan steps number kind → IsReason T X plan number step kind reason
+
 -- and the text is the plan's
 pub record IsMisfitOf (T : Task) (X : NumberedTask) (text : List ℕ) (plan : Plan) (steps : List PlacedStep) (number : ℕ) (kind : validity.Misfit) : Type 0 where
   pub spelled : IsPlanText text plan

@@ -1,26 +1,21 @@
 //! Why a step does not fit.
 
-ghost use Rattle.std.specs.Prelude.{◌≡◌, ◌<◌, ◌≤◌, ◌-◌, Some, None, [], ◌∷◌, ℕ, List as Items};
+ghost use Rattle.std.specs.Prelude.{◌≡◌, ◌<◌, ◌≤◌, Some, None};
 ghost use Rattle.std.specs.Prelude.{length, slice_get, IfOk, IfSome, MatchOption};
 ghost use Rattle.p3_task.specs.Offences.{WellFormed};
-ghost use Rattle.p3_task.specs.Plans.{Plan};
 ghost use Rattle.p3_numbers.specs.Tasks.{IsNumberedTask};
-ghost use Rattle.p3_numbers.specs.declared.task.NumberedAction.{NumberedAction as Numbered};
-ghost use Rattle.p3_reasons.specs.declared.decision.Decision.{Decision as Decided};
-ghost use Rattle.p3_reasons.specs.declared.visited.PlacedStep.{PlacedStep as Placed};
 ghost use Rattle.p3_types.specs.Finds.{HasOtherArguments};
 ghost use Rattle.p3_accounts.specs.declared.subject.StepFault.{StepFault as Fault};
-ghost use Rattle.p3_accounts.specs.declared.subject.StepFault.TheVariants as faults;
 ghost use Rattle.p3_reports.specs.Faults.{misfit_of};
-ghost use Rattle.p3_inapplicable.specs.Headings.{HasFaultyArguments, IsMisfitIn, IsReason};
+ghost use Rattle.p3_inapplicable.specs.Headings.{HasFaultyArguments, IsReasonIn};
 ghost use Rattle.p3_inapplicable.specs.Reasons.{
   action_in,
+  AreOfTheOne,
   deciding,
-  IsDone,
   IsPlain,
-  ShowsLiterals,
+  NamesValue,
+  ShowsStep,
 };
-ghost use Rattle.p3_inapplicable.specs.Values.{first_missing};
 
 use crate::argument::argument_fault;
 use crate::value::missing_value;
@@ -103,7 +98,7 @@ fn arguments_reason(
 
 /// Takes the literals of the one decision.
 fn literals_of(alloc: Global, decisions: List<Decision>) -> List<Literal>
-    ensures { (decision : Decided) → decisions ≡ decision ∷ [] → result ≡ decision.literals }
+    ensures { AreOfTheOne decisions result }
 {
     let mut decisions = decisions.into_items();
     match decisions.pop() {
@@ -140,9 +135,7 @@ fn precondition_reason(
     steps: &[PlacedStep],
     place: u32,
 ) -> Result<Reason, NoMemory>
-    ensures { IfOk result (λ reason. (placed : Placed) (action : Numbered)
-        → IsDone task.now steps.now place placed action
-        → ShowsLiterals task.now steps.now place placed action reason) }
+    ensures { IfOk result (ShowsStep task.now steps.now place) }
 {
     let Some(placed) = steps.get(place as usize) else {
         return Ok(Reason::plain(alloc, StepFault::Precondition));
@@ -168,10 +161,7 @@ fn cost_reason(
     place: u32,
 ) -> Result<Reason, NoMemory>
     requires { places ≤ 6 }
-    ensures { IfOk result (λ reason. (placed : Placed) (action : Numbered) (value : Items ℕ)
-        → IsDone task.now steps.now place placed action
-        → first_missing places task.now.values placed.objects action.effect ≡ Some value
-        → IsPlain (faults.NoValue value) reason) }
+    ensures { IfOk result (NamesValue places task.now steps.now place) }
 {
     let Some(placed) = steps.get(place as usize) else {
         return Ok(Reason::plain(alloc, StepFault::Precondition));
@@ -195,10 +185,8 @@ pub(crate) fn reason_of(
     step: &Step,
     kind: Misfit,
 ) -> Result<Reason, NoMemory>
-    ensures { IfOk result (λ reason. (plan : Plan) → slice_get plan (number - 1) ≡ Some step.now
-        → IsMisfitIn checked.now.task checked.now.numbered plan steps.now number (misfit_of kind)
-        → IsReason checked.now.task checked.now.numbered plan number step.now
-        (misfit_of kind) reason) }
+    ensures { IfOk result (IsReasonIn checked.now.task checked.now.numbered steps.now number
+        step.now (misfit_of kind)) }
 {
     let place = number.saturating_sub(1);
     let (task, numbered) = (checked.task(), checked.numbered());

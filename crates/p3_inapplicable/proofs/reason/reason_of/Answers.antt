@@ -1,16 +1,11 @@
-use Rattle.std.proofs.Common.{◌≡◌, ℕ, List, subst}
+use Rattle.std.proofs.Common.{ℕ, subst}
 use Rattle.p3_task.specs.Costs.{cost_places}
 use Rattle.p3_task.specs.declared.task.Task.{Task}
 use Rattle.p3_numbers.specs.declared.task.NumberedTask.{NumberedTask}
 use Rattle.p3_types.specs.Finds.{HasOtherArguments}
 use Rattle.p3_inapplicable.specs.Headings.{HasFaultyArguments}
-use Rattle.p3_numbers.specs.declared.task.NumberedAction.{NumberedAction}
-use Rattle.p3_reasons.specs.declared.visited.PlacedStep.{PlacedStep}
 use Rattle.p3_reports.specs.declared.fault.Misfit.TheVariants as misfit
-use Rattle.p3_accounts.specs.declared.subject.StepFault.TheVariants as fault
-use Rattle.p3_inapplicable.specs.Reasons.{IsDone, IsPlain, ShowsLiterals}
-use Rattle.p3_inapplicable.specs.Values.{first_missing}
-use Rattle.std.specs.Prelude.{Some}
+use Rattle.p3_inapplicable.specs.Reasons.{NamesValue, ShowsStep}
 use Rattle.p3_inapplicable.proofs.ReasonLemmas.{cost-reason, has-other-arguments, of-kind, precondition-reason, unknown-reason}
 use Rattle.p3_inapplicable.proofs.reason.reason_of.Goals as goal
 
@@ -30,8 +25,9 @@ pub returns-in_ok-reason-in-Precondition : goal.returns-in_ok-reason-in-Precondi
 returns-in_ok-reason-in-Precondition c plan at =
     let S = c.args.checked.now in
     let reason = c.in_ok-reason-in-Precondition.reason in
-    let Shows : NumberedTask → ℕ → Type 0 = λ X place. (placed : PlacedStep) (action : NumberedAction) → IsDone X c.args.steps.now place placed action → ShowsLiterals X c.args.steps.now place placed action reason in
-    let shows = subst (Shows S.numbered) c.saturating_sub-place.ensures (subst (λ (X : NumberedTask). Shows X c.saturating_sub-place.result) c.numbered-numbered.ensures.task c.in_ok-reason-in-Precondition.ensures) in
+    let shows =
+    subst (λ (place : ℕ). ShowsStep S.numbered c.args.steps.now place reason) c.saturating_sub-place.ensures
+    (subst (λ (X : NumberedTask). ShowsStep X c.args.steps.now c.saturating_sub-place.result reason) c.numbered-numbered.ensures.task c.in_ok-reason-in-Precondition.ensures) in
     of-kind S.task S.numbered plan c.args.steps.now c.args.number c.args.step.now reason c.args.kind misfit.Precondition c.in-Precondition.is
     (precondition-reason S.task S.numbered c.task-task.ensures.well_formed c.numbered-numbered.ensures.numbered plan c.args.steps.now c.args.number c.args.step.now at reason shows)
 
@@ -39,10 +35,9 @@ pub returns-in_ok-reason-in-NoCost : goal.returns-in_ok-reason-in-NoCost
 returns-in_ok-reason-in-NoCost c plan at =
     let S = c.args.checked.now in
     let reason = c.in_ok-reason-in-NoCost.reason in
-    let Names : NumberedTask → ℕ → ℕ → Type 0 = λ X places place. (placed : PlacedStep) (action : NumberedAction) (value : List ℕ) → IsDone X c.args.steps.now place placed action → first_missing places X.values placed.objects action.effect ≡ Some value → IsPlain (fault.NoValue value) reason in
     let names =
-    subst (Names S.numbered (cost_places S.task)) c.saturating_sub-place.ensures
-    (subst (λ (places : ℕ). Names S.numbered places c.saturating_sub-place.result) c.cost_places.ensures.places
-    (subst (λ (X : NumberedTask). Names X c.cost_places.result c.saturating_sub-place.result) c.numbered-numbered.ensures.task c.in_ok-reason-in-NoCost.ensures)) in
+    subst (λ (place : ℕ). NamesValue (cost_places S.task) S.numbered c.args.steps.now place reason) c.saturating_sub-place.ensures
+    (subst (λ (places : ℕ). NamesValue places S.numbered c.args.steps.now c.saturating_sub-place.result reason) c.cost_places.ensures.places
+    (subst (λ (X : NumberedTask). NamesValue c.cost_places.result X c.args.steps.now c.saturating_sub-place.result reason) c.numbered-numbered.ensures.task c.in_ok-reason-in-NoCost.ensures)) in
     of-kind S.task S.numbered plan c.args.steps.now c.args.number c.args.step.now reason c.args.kind misfit.NoCost c.in-NoCost.is
     (cost-reason S.task S.numbered c.task-task.ensures.well_formed c.numbered-numbered.ensures.numbered plan c.args.steps.now c.args.number c.args.step.now at reason names)
