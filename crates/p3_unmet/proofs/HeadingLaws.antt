@@ -9,7 +9,7 @@ use Rattle.p3_base.specs.declared.showing.Showing.{Showing}
 use Rattle.p3_base.specs.declared.showing.Showing.TheVariants.{Holds, HoldsAt, HoldsNowhere, FailsAt, Again}
 use Rattle.p3_task.specs.Constraints.{HardModal}
 use Rattle.p3_task.specs.Explanations.{shown}
-use Rattle.p3_task.specs.Plans.{Plan, state_after, state_at, visited, visited_from}
+use Rattle.p3_task.specs.Plans.{Plan, state_at, visited}
 use Rattle.p3_task.specs.States.{State, start}
 use Rattle.p3_task.specs.declared.formula.Formula.{Formula}
 use Rattle.p3_task.specs.declared.task.Task.{Task}
@@ -25,7 +25,7 @@ use Rattle.p3_reasons.proofs.EvidenceLaws.{what-is-shown-is-evident}
 use Rattle.p3_scenes.specs.Bound.{IsBound}
 use Rattle.p3_scenes.specs.Questions.{AreSteps}
 use Rattle.p3_scenes.specs.Scenes.{Scene}
-use Rattle.p3_scenes.proofs.QuestionLaws.{operators-answered}
+use Rattle.p3_scenes.proofs.QuestionLaws.{evidence-over, operators-answered, states-of}
 use Rattle.p3_accounts.specs.Operators.{kind_of}
 use Rattle.p3_accounts.specs.States.{operand_shown}
 use Rattle.p3_accounts.specs.declared.spot.Spot.{Spot}
@@ -43,14 +43,6 @@ kind-over become (AtMostOnce f) = refl
 kind-over become (SometimeAfter f g) = refl
 kind-over become (SometimeBefore f g) = refl
 
-pub evidence-over : {F G : Type 0} (become : F → G) (operator : Operator F) (showing : Showing) → evidence_of (over become operator) showing ≡ evidence_of operator showing
-evidence-over become (AtEnd f) showing = refl
-evidence-over become (Always f) showing = refl
-evidence-over become (Sometime f) showing = refl
-evidence-over become (AtMostOnce f) showing = refl
-evidence-over become (SometimeAfter f g) showing = refl
-evidence-over become (SometimeBefore f g) showing = refl
-
 -- ---- lists
 
 pub zip-found : {A B : Type 0} (R : A → B → Type 0) (xs : List A) (ys : List B) → AllZip R xs ys → (k : ℕ) (x : A) → slice_get xs k ≡ Some x → (y : B) × (slice_get ys k ≡ Some y) × R x y
@@ -61,10 +53,6 @@ zip-found R (w ∷ xs) (y ∷ ys) all zero x at = (y, refl, subst (λ one. R one
 zip-found R (w ∷ xs) (y ∷ ys) all (suc k) x at = zip-found R xs ys all.1 k x at
 
 -- ---- states
-
-states-of : (T : Task) (s : State) (plan : Plan) → length (visited_from T s plan) ≡ suc (length plan)
-states-of T s [] = refl
-states-of T s (step ∷ plan) = ap suc (states-of T (state_after T s step) plan)
 
 pub states-long : (T : Task) (plan : Plan) → length (visited T plan) ≡ suc (length plan)
 unfolding visited
