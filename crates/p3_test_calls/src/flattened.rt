@@ -54,15 +54,25 @@ fn push_set(effects: &mut Effects, cond: Form, atom: usize) -> Result<(), NoMemo
     })
 }
 
+/// Sets the atom where another one is not set.
+fn push_unset(alloc: Global, effects: &mut Effects) -> Result<(), NoMemory> {
+    let unset = Form::negation(alloc, Form::Atom(1))?;
+    push_set(effects, unset, 4)
+}
+
+/// Sets the atom where one atom is set, and another one not.
+fn push_both(alloc: Global, effects: &mut Effects) -> Result<(), NoMemory> {
+    let unset = Form::negation(alloc, Form::Atom(1))?;
+    let both = Form::both(alloc, Form::Atom(2), unset)?;
+    push_set(effects, both, 5)
+}
+
 /// A condition, its negation, and a conjunction with the negation.
 fn related_conditions(alloc: Global) -> Result<Effects, NoMemory> {
-    let unset = Form::negation(alloc, Form::Atom(1))?;
-    let other = Form::negation(alloc, Form::Atom(1))?;
-    let both = Form::both(alloc, Form::Atom(2), other)?;
     let mut effects = List::new(alloc);
     push_set(&mut effects, Form::Atom(1), 3)?;
-    push_set(&mut effects, unset, 4)?;
-    push_set(&mut effects, both, 5)?;
+    push_unset(alloc, &mut effects)?;
+    push_both(alloc, &mut effects)?;
     Ok(effects)
 }
 
@@ -76,15 +86,29 @@ fn names(alloc: Global, target: &Target) -> Result<Vec<u8>, NoMemory> {
     Ok(names)
 }
 
-#[test]
-fn patterns_that_hold_in_no_state_are_left_out(rt: HostRuntime) -> Result<(), Fail> {
-    let alloc = rt.alloc();
+/// Flattens an action with related conditions.
+fn flattened(alloc: Global) -> Result<Target, NoMemory> {
     let effects = related_conditions(alloc)?;
     let target = target(alloc, effects)?;
-    let Ok(flat) = flatten(alloc, &target) else {
-        return Err(Fail::from(NoMemory));
-    };
-    let names = names(alloc, &flat)?;
+    let flat = flatten(alloc, &target);
+    drop(target);
+    match flat {
+        Ok(flat) => Ok(flat),
+        Err(_) => Err(NoMemory),
+    }
+}
+
+/// Gives the names of the actions that it becomes.
+fn flattened_names(alloc: Global) -> Result<Vec<u8>, NoMemory> {
+    let flat = flattened(alloc)?;
+    let names = names(alloc, &flat);
+    drop(flat);
+    names
+}
+
+#[test]
+fn patterns_that_hold_in_no_state_are_left_out(rt: HostRuntime) -> Result<(), Fail> {
+    let names = flattened_names(rt.alloc())?;
     assert!(rt; names.as_slice() == b"s0vc010 s0vc011 s0vc100 ".as_slice());
     Ok(())
 }

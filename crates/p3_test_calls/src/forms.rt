@@ -1,37 +1,64 @@
 //! Tables of forms, a form that is simplified, bits, and names in order.
 
-use p3_base::{List, Name};
-use p3_formula::{Bits, Form, Node, Table, simplify};
+use p3_base::{List, Name, NoMemory};
+use p3_formula::{Bits, Form, Node, Table, same_form, simplify};
+use std::alloc::Global;
 use std::cmp::Ordering;
 use std::test::Fail;
+
+/// Makes the form that an atom is set, and is not.
+fn contradiction(alloc: Global) -> Result<Form, NoMemory> {
+    let unset = Form::negation(alloc, Form::Atom(0))?;
+    Form::both(alloc, Form::Atom(0), unset)
+}
+
+/// Gives the number of the form in a table, and how many nodes that has; and once more, asked again.
+fn numbered_twice(alloc: Global, form: &Form) -> Result<[usize; 4], NoMemory> {
+    let mut table = Table::new(alloc);
+    let first = table.of(form)?;
+    let nodes = table.len();
+    let second = table.of(form)?;
+    Ok([first, nodes, second, table.len()])
+}
 
 #[test]
 fn shared_parts_stand_once(rt: HostRuntime) -> Result<(), Fail> {
     let alloc = rt.alloc();
-    let form = Form::both(alloc, Form::Atom(0), Form::negation(alloc, Form::Atom(0))?)?;
-    let mut table = Table::new(alloc);
-    let first = table.of(&form)?;
-    assert_eq!(&rt; table.len(), 3);
-    let second = table.of(&form)?;
-    assert_eq!(&rt; table.len(), 3);
-    assert_eq!(&rt; first, second);
-    assert_eq!(&rt; first, 2);
-    assert_eq!(&rt;
-        format!(in alloc; "{:?}", table.form(alloc, first)?)?.as_str(),
-        format!(in alloc; "{form:?}")?.as_str()
-    );
+    let found = numbered_twice(alloc, &contradiction(alloc)?)?;
+    assert_eq!(&rt; found, [2, 3, 2, 3]);
     Ok(())
 }
 
-/// A table of a million nodes is made in about a second.
+/// Whether a table gives the form back for its number.
+fn comes_back(alloc: Global, form: &Form) -> Result<bool, NoMemory> {
+    let mut table = Table::new(alloc);
+    let number = table.of(form)?;
+    let back = table.form(alloc, number)?;
+    Ok(same_form(&back, form))
+}
+
 #[test]
-fn a_large_table(rt: HostRuntime) -> Result<(), Fail> {
-    let mut table = Table::new(rt.alloc());
+fn a_form_comes_back_from_a_table(rt: HostRuntime) -> Result<(), Fail> {
+    let alloc = rt.alloc();
+    let found = comes_back(alloc, &contradiction(alloc)?)?;
+    assert!(&rt; found);
+    Ok(())
+}
+
+/// How many nodes a table has, made of a million.
+fn large_table(alloc: Global) -> Result<usize, NoMemory> {
+    let mut table = Table::new(alloc);
     for atom in 0..500_000 {
         let number = table.add(Node::Atom(atom))?;
         table.add(Node::Not(number))?;
     }
-    assert_eq!(&rt; table.len(), 1_000_000);
+    Ok(table.len())
+}
+
+/// It is made in about a second.
+#[test]
+fn a_large_table(rt: HostRuntime) -> Result<(), Fail> {
+    assert_eq!(&rt; large_table(rt.alloc())?, 1_000_000);
     Ok(())
 }
 
@@ -39,9 +66,10 @@ fn a_large_table(rt: HostRuntime) -> Result<(), Fail> {
 fn bits_are_set_one_by_one(rt: HostRuntime) -> Result<(), Fail> {
     let mut state = Bits::new(rt.alloc(), 2)?;
     state.set(1, true);
-    assert_eq!(&rt; state.count(), 2);
-    assert_eq!(&rt; state.get(0), false);
-    assert_eq!(&rt; state.get(1), true);
+    assert_eq!(&rt;
+        (state.count(), state.get(0), state.get(1)),
+        (2, false, true)
+    );
     Ok(())
 }
 
@@ -54,11 +82,17 @@ fn constants_are_left_out(rt: HostRuntime) -> Result<(), Fail> {
     Ok(())
 }
 
+/// How a name stands to another in capital letters, and that to itself.
+fn orders(alloc: Global) -> Result<(Ordering, Ordering), NoMemory> {
+    let first = Name::of(alloc, b"a9")?;
+    let second = Name::of(alloc, b"AB")?;
+    Ok((first.compare(&second), second.compare(&second)))
+}
+
 #[test]
 fn names_are_compared_by_bytes(rt: HostRuntime) -> Result<(), Fail> {
-    let alloc = rt.alloc();
-    let (first, second) = (Name::of(alloc, b"a9")?, Name::of(alloc, b"AB")?);
-    assert_eq!(&rt; first.compare(&second), Ordering::Less);
-    assert_eq!(&rt; second.compare(&second), Ordering::Equal);
+    let (other, same) = orders(rt.alloc())?;
+    assert_eq!(&rt; other, Ordering::Less);
+    assert_eq!(&rt; same, Ordering::Equal);
     Ok(())
 }

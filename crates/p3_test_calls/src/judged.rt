@@ -1,7 +1,8 @@
 //! Texts of plans, judged by one call, and a plan that is explained by another.
 
-ghost use Rattle.std.specs.Prelude.{◌≤◌, length};
+ghost use Rattle.std.specs.Prelude.{◌≤◌, length, IfOk};
 ghost use Rattle.p3_base.specs.declared.refusal.Side.TheVariants.{Source};
+ghost use Rattle.p3_task.specs.PlanTexts.{step_limit};
 ghost use Rattle.p3_task.specs.Sides.{byte_limit, plan_byte_limit};
 
 use p3_base::{Code, NoMemory, Pos, Reason, Refusal, Role, Showing, Side, Subject};
@@ -9,6 +10,7 @@ use p3_eval::{FaultKind, PlanFault, TextVerdict, Whole, judge_text};
 use p3_explain::explain;
 use p3_plans::read_plan;
 use p3_syntax::{read_domain, read_problem};
+use p3_task::Plan;
 use p3_types::check;
 use std::alloc::Global;
 use std::test::Fail;
@@ -70,6 +72,7 @@ fn task_of(alloc: Global, domain: &[u8], problem: &[u8]) -> Result<Whole, NoMemo
         return Err(NoMemory);
     };
     let Ok(problem) = read_problem(alloc, Side::Source, problem) else {
+        drop(domain);
         return Err(NoMemory);
     };
     let Ok(checked) = check(alloc, Side::Source, domain, problem) else {
@@ -82,7 +85,7 @@ fn task_of(alloc: Global, domain: &[u8], problem: &[u8]) -> Result<Whole, NoMemo
 }
 
 /// What is told of a plan, and of the steps of it that were done.
-#[derive(Drop)]
+#[derive(Clone, Copy)]
 struct Judged {
     verdict: TextVerdict,
     steps: u32,
@@ -96,31 +99,46 @@ fn judge(alloc: Global, whole: &Whole, text: &[u8]) -> Result<Judged, NoMemory>
 {
     let mut run = whole.begin(alloc)?;
     let verdict = judge_text(whole, &mut run, text);
-    Ok(Judged {
+    let judged = Judged {
         verdict,
         steps: run.steps(),
         cost: run.total_cost(),
         metric: run.metric(),
-    })
+    };
+    drop(run);
+    Ok(judged)
+}
+
+/// Judges the plan that brings both crates to their places.
+fn judge_delivery(alloc: Global) -> Result<Judged, NoMemory> {
+    let whole = task_of(alloc, TRUCKS.as_bytes(), DELIVERY.as_bytes())?;
+    let judged = judge(alloc, &whole, BOTH_CRATES.as_bytes());
+    drop(whole);
+    judged
 }
 
 #[test]
 fn a_valid_plan_has_its_value(rt: HostRuntime) -> Result<(), Fail> {
-    let alloc = rt.alloc();
-    let whole = task_of(alloc, TRUCKS.as_bytes(), DELIVERY.as_bytes())?;
-    let judged = judge(alloc, &whole, BOTH_CRATES.as_bytes())?;
+    let judged = judge_delivery(rt.alloc())?;
     assert!(&rt; matches!(judged.verdict, TextVerdict::Valid));
-    assert_eq!(&rt; judged.steps, 6);
-    assert_eq!(&rt; judged.cost, 11);
-    assert_eq!(&rt; judged.metric, 37);
+    let numbers = (judged.steps, judged.cost, judged.metric);
+    assert_eq!(&rt; numbers, (6, 11, 37));
     Ok(())
+}
+
+/// Judges the text of a plan of steps that undo their own precondition.
+fn judge_once(alloc: Global, text: &[u8]) -> Result<Judged, NoMemory>
+    requires { length text.now ≤ plan_byte_limit }
+{
+    let whole = task_of(alloc, ONCE.as_bytes(), NOTHING.as_bytes())?;
+    let judged = judge(alloc, &whole, text);
+    drop(whole);
+    judged
 }
 
 #[test]
 fn a_plan_is_not_valid_at_its_second_step(rt: HostRuntime) -> Result<(), Fail> {
-    let alloc = rt.alloc();
-    let whole = task_of(alloc, ONCE.as_bytes(), NOTHING.as_bytes())?;
-    let judged = judge(alloc, &whole, b"(a) (a)")?;
+    let judged = judge_once(rt.alloc(), b"(a) (a)")?;
     assert!(&rt;
         matches!(
             judged.verdict,
@@ -135,9 +153,7 @@ fn a_plan_is_not_valid_at_its_second_step(rt: HostRuntime) -> Result<(), Fail> {
 
 #[test]
 fn a_plan_that_is_cut_is_refused_at_its_end(rt: HostRuntime) -> Result<(), Fail> {
-    let alloc = rt.alloc();
-    let whole = task_of(alloc, ONCE.as_bytes(), NOTHING.as_bytes())?;
-    let judged = judge(alloc, &whole, b"(a) (a")?;
+    let judged = judge_once(rt.alloc(), b"(a) (a")?;
     assert!(&rt;
         matches!(
             judged.verdict,
@@ -161,21 +177,49 @@ const LAMP: &str =
 const LIT: &str =
     "(define (problem q) (:domain d) (:init (p)) (:goal (and)) (:constraints (preference o (at-most-once (p)))))";
 
+/// Reads the plan that lights the lamp once more.
+fn lamp_plan(alloc: Global) -> Result<Plan, NoMemory>
+    ensures { IfOk result (λ plan. length plan ≤ step_limit) }
+{
+    match read_plan(alloc, b"(on) (off) (on)") {
+        Ok(plan) => Ok(plan),
+        Err(_) => Err(NoMemory),
+    }
+}
+
+/// Explains a plan, and gives how many reasons are told, and the first of them.
+fn first_reason(alloc: Global, whole: &Whole, plan: &Plan) -> Result<(usize, Reason), NoMemory>
+    requires { length plan.now ≤ step_limit }
+{
+    let Ok(reasons) = explain(alloc, whole, plan) else {
+        return Err(NoMemory);
+    };
+    let found = match reasons.get(0) {
+        Some(reason) => Ok((reasons.len(), *reason)),
+        None => Err(NoMemory),
+    };
+    drop(reasons);
+    found
+}
+
+/// Does so with the plan of the lamp.
+fn lamp_reason(alloc: Global) -> Result<(usize, Reason), NoMemory> {
+    let plan = lamp_plan(alloc)?;
+    let whole = task_of(alloc, LAMP.as_bytes(), LIT.as_bytes())?;
+    let found = first_reason(alloc, &whole, &plan);
+    drop(whole);
+    drop(plan);
+    found
+}
+
 #[test]
 fn a_lamp_is_on_again(rt: HostRuntime) -> Result<(), Fail> {
-    let alloc = rt.alloc();
-    let whole = task_of(alloc, LAMP.as_bytes(), LIT.as_bytes())?;
-    let Ok(plan) = read_plan(alloc, b"(on) (off) (on)") else {
-        return Err(Fail::from(NoMemory));
-    };
-    let Ok(reasons) = explain(alloc, &whole, &plan) else {
-        return Err(Fail::from(NoMemory));
-    };
-    assert_eq!(&rt; reasons.len(), 1);
+    let (count, reason) = lamp_reason(rt.alloc())?;
+    assert_eq!(&rt; count, 1);
     assert!(&rt;
         matches!(
-            reasons.get(0),
-            Some(Reason {
+            reason,
+            Reason {
                 subject: Subject::Soft {
                     instance: 0,
                     part: 0,
@@ -185,7 +229,7 @@ fn a_lamp_is_on_again(rt: HostRuntime) -> Result<(), Fail> {
                     gap: 2,
                     again: 3,
                 },
-            })
+            }
         )
     );
     Ok(())

@@ -32,41 +32,57 @@ fn watching(alloc: Global) -> Result<Monitor, NoMemory>
     ensures modal { IfOk result (λ monitor.
         monitor.modal ≡ ground_modal.Sometime (form.Atom 0)) }
 {
-    let modal = GroundModal::Sometime(Form::Atom(0));
     let initial = Bits::new(alloc, 2)?;
-    monitor(alloc, &modal, &initial, 2)
+    let modal = GroundModal::Sometime(Form::Atom(0));
+    let made = monitor(alloc, &modal, &initial, 2);
+    drop(modal);
+    drop(initial);
+    made
 }
 
 /// What it does on a step that sets the first atom.
 fn riding(alloc: Global) -> Result<Effects, NoMemory> {
-    let monitor = watching(alloc)?;
     let step = setting(alloc, 0)?;
-    monitor.effects(alloc, &step)
+    let monitor = watching(alloc)?;
+    let effects = monitor.effects(alloc, &step);
+    drop(monitor);
+    drop(step);
+    effects
+}
+
+/// Whether a step that sets the atom touches it.
+fn is_touched(alloc: Global, atom: usize) -> Result<bool, NoMemory> {
+    let step = setting(alloc, atom)?;
+    let monitor = watching(alloc)?;
+    let is_touched = monitor.touched(&step);
+    drop(monitor);
+    drop(step);
+    Ok(is_touched)
 }
 
 #[test]
 fn a_monitor_is_touched_by_its_atom(rt: HostRuntime) -> Result<(), Fail> {
     let alloc = rt.alloc();
-    let watching = watching(alloc)?;
-    assert!(&rt; !watching.touched(&setting(alloc, 1)?));
-    assert!(&rt; watching.touched(&setting(alloc, 0)?));
+    assert!(&rt; !is_touched(alloc, 1)?);
+    assert!(&rt; is_touched(alloc, 0)?);
     Ok(())
 }
 
 #[test]
 fn a_monitor_rides_on_a_step_that_touches_it(rt: HostRuntime) -> Result<(), Fail> {
     let effects = riding(rt.alloc())?;
-    assert_eq!(&rt; effects.len(), 1);
-    assert!(&rt;
-        matches!(
-            effects.get(0),
-            Some(Change {
-                cond: Form::True,
-                atom: 2,
-                add: true,
-            })
-        )
+    let count = effects.len();
+    let is_set = matches!(
+        effects.get(0),
+        Some(Change {
+            cond: Form::True,
+            atom: 2,
+            add: true,
+        })
     );
+    drop(effects);
+    assert_eq!(&rt; count, 1);
+    assert!(&rt; is_set);
     Ok(())
 }
 
@@ -88,22 +104,45 @@ fn one_instance(alloc: Global) -> Result<List<SoftEnd>, NoMemory>
 fn settling(alloc: Global) -> Result<EndPhase, NoMemory> {
     let finish = Form::True;
     let instances = one_instance(alloc)?;
-    end_phase(alloc, &finish, &instances, 1)
+    let phase = end_phase(alloc, &finish, &instances, 1);
+    drop(instances);
+    phase
+}
+
+/// How many atoms and how many actions the end phase has, and whether its goal is its last atom.
+fn settled_sizes(alloc: Global) -> Result<(usize, usize, bool), NoMemory> {
+    let phase = settling(alloc)?;
+    let is_last = matches!(phase.goal, Form::Atom(3));
+    let (atoms, actions) = (phase.atoms, phase.actions.len());
+    drop(phase);
+    Ok((atoms, actions, is_last))
+}
+
+#[test]
+fn an_end_phase_ends_at_its_last_atom(rt: HostRuntime) -> Result<(), Fail> {
+    let (atoms, actions, is_last) = settled_sizes(rt.alloc())?;
+    assert_eq!(&rt; (atoms, actions), (3, 3));
+    assert!(&rt; is_last);
+    Ok(())
+}
+
+/// Whether the action at that place of the end phase has this name and this cost.
+fn is_settled_by(alloc: Global, place: usize, name: &[u8], cost: u64) -> Result<bool, NoMemory> {
+    let phase = settling(alloc)?;
+    let is_there = match phase.actions.get(place) {
+        Some(action) => action.name.bytes() == name && action.cost == cost,
+        None => false,
+    };
+    drop(phase);
+    Ok(is_there)
 }
 
 #[test]
 fn one_instance_is_settled_by_one_of_two_actions(rt: HostRuntime) -> Result<(), Fail> {
-    let phase = settling(rt.alloc())?;
-    assert_eq!(&rt; phase.atoms, 3);
-    assert!(&rt; matches!(phase.goal, Form::Atom(3)));
-    assert_eq!(&rt; phase.actions.len(), 3);
-    for (place, name, cost) in [(0, "finish", 0), (1, "collect0", 0), (2, "forgo0", 5)] {
-        let Some(action) = phase.actions.get(place) else {
-            return Err(Fail::from(NoMemory));
-        };
-        assert_eq!(&rt; action.name.bytes(), name.as_bytes());
-        assert_eq!(&rt; action.cost, cost);
-    }
+    let alloc = rt.alloc();
+    assert!(&rt; is_settled_by(alloc, 0, b"finish", 0)?);
+    assert!(&rt; is_settled_by(alloc, 1, b"collect0", 0)?);
+    assert!(&rt; is_settled_by(alloc, 2, b"forgo0", 5)?);
     Ok(())
 }
 
@@ -113,8 +152,9 @@ fn a_step_has_its_words(rt: HostRuntime) -> Result<(), Fail> {
         return Err(Fail::from(NoMemory));
     };
     assert_eq!(&rt; step.offset, 1);
-    assert_eq!(&rt; step.word(0), Some(b"Drive".as_slice()));
-    assert_eq!(&rt; step.word(2), Some(b"A".as_slice()));
-    assert!(&rt; step.word(3).is_none());
+    assert_eq!(&rt;
+        (step.word(0), step.word(2), step.word(3)),
+        (Some(b"Drive".as_slice()), Some(b"A".as_slice()), None)
+    );
     Ok(())
 }

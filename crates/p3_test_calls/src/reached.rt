@@ -120,14 +120,19 @@ fn start(alloc: Global) -> Result<Bits, NoMemory>
 }
 
 fn chain_marks(alloc: Global) -> Result<Marks, NoMemory> {
-    let steps = links(alloc)?;
     let initial = start(alloc)?;
-    reachable(alloc, &task_of(alloc, initial, steps))
+    let steps = links(alloc)?;
+    let task = task_of(alloc, initial, steps);
+    let marks = reachable(alloc, &task);
+    drop(task);
+    marks
 }
 
 #[test]
 fn every_step_of_a_long_chain_is_reached(rt: HostRuntime) -> Result<(), Fail> {
     let marks = chain_marks(rt.alloc())?;
-    assert!(rt; marks.steps.items().iter().all(|mark| *mark));
+    let are_set = marks.steps.items().iter().all(|mark| *mark);
+    drop(marks);
+    assert!(rt; are_set);
     Ok(())
 }

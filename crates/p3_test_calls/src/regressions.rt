@@ -1,7 +1,7 @@
 //! What a regression answers for the second time, where nothing is changed, and in which states.
 
 use p3_base::{List, NoMemory};
-use p3_formula::{Change, Effects, Form, Table};
+use p3_formula::{Change, Effects, Form, Table, same_form};
 use p3_regress::{Regressed, regress};
 use std::alloc::Global;
 use std::test::Fail;
@@ -22,31 +22,42 @@ fn two_changes(alloc: Global) -> Result<Effects, NoMemory> {
     Ok(effects)
 }
 
-#[test]
-fn a_number_is_answered_once(rt: HostRuntime) -> Result<(), Fail> {
-    let alloc = rt.alloc();
+/// Gives the number of what an atom is before a step, and how many nodes the table has then; and once
+/// more, asked again.
+fn answered_twice(alloc: Global) -> Result<[usize; 4], NoMemory> {
     let effects = two_changes(alloc)?;
     let mut table = Table::new(alloc);
     let number = table.of(&Form::Atom(0))?;
     let mut regressed = Regressed::open(alloc, table, &effects)?;
     let first = regressed.of(number)?;
-    let count = regressed.table().len();
+    let nodes = regressed.table().len();
     let second = regressed.of(number)?;
-    assert_eq!(&rt; first, second);
-    assert_eq!(&rt; regressed.table().len(), count);
+    Ok([first, nodes, second, regressed.table().len()])
+}
+
+#[test]
+fn a_number_is_answered_once(rt: HostRuntime) -> Result<(), Fail> {
+    let [first, nodes, second, nodes_again] = answered_twice(rt.alloc())?;
+    assert_eq!(&rt; (first, nodes), (second, nodes_again));
     Ok(())
+}
+
+/// What a form is before the step.
+fn before_step(alloc: Global, form: &Form) -> Result<Form, NoMemory> {
+    let effects = two_changes(alloc)?;
+    regress(alloc, form, &effects)
+}
+
+/// Whether a form over another atom is the same before the step, the part that never holds as well.
+fn untouched_stays(alloc: Global) -> Result<bool, NoMemory> {
+    let form = Form::Or(List::from(vec![in alloc; Form::Atom(3), Form::False]?));
+    let before = before_step(alloc, &form)?;
+    Ok(same_form(&before, &form))
 }
 
 #[test]
 fn what_nothing_touches_stays(rt: HostRuntime) -> Result<(), Fail> {
-    let alloc = rt.alloc();
-    let mut parts = List::new(alloc);
-    parts.push(Form::Atom(3))?;
-    parts.push(Form::False)?;
-    let form = Form::Or(parts);
-    let before = regress(alloc, &form, &two_changes(alloc)?)?;
-    let text = format!(in alloc; "{before:?}")?;
-    assert_eq!(&rt; text.as_str(), format!(in alloc; "{form:?}")?.as_str());
+    assert!(&rt; untouched_stays(rt.alloc())?);
     Ok(())
 }
 
@@ -74,17 +85,26 @@ fn hold_to(parts: &[Form], set: &[usize], value: bool) -> bool {
     true
 }
 
+/// Whether the atom is set behind the step, where before it none of three atoms is set, one, two of
+/// them, and all.
+fn are_set_behind(alloc: Global) -> Result<[bool; 8], NoMemory> {
+    let before = before_step(alloc, &Form::Atom(0))?;
+    Ok([
+        holds(&before, &[]),
+        holds(&before, &[0]),
+        holds(&before, &[1]),
+        holds(&before, &[2]),
+        holds(&before, &[0, 1]),
+        holds(&before, &[0, 2]),
+        holds(&before, &[1, 2]),
+        holds(&before, &[0, 1, 2]),
+    ])
+}
+
 #[test]
 fn what_is_added_beside_what_is_deleted_holds_in_five_states(rt: HostRuntime) -> Result<(), Fail> {
-    let alloc = rt.alloc();
-    let before = regress(alloc, &Form::Atom(0), &two_changes(alloc)?)?;
-    assert!(&rt; !holds(&before, &[]));
-    assert!(&rt; holds(&before, &[0]));
-    assert!(&rt; !holds(&before, &[1]));
-    assert!(&rt; holds(&before, &[2]));
-    assert!(&rt; !holds(&before, &[0, 1]));
-    assert!(&rt; holds(&before, &[0, 2]));
-    assert!(&rt; holds(&before, &[1, 2]));
-    assert!(&rt; holds(&before, &[0, 1, 2]));
+    let found = are_set_behind(rt.alloc())?;
+    let wanted = [false, true, false, true, false, true, true, true];
+    assert_eq!(&rt; found, wanted);
     Ok(())
 }

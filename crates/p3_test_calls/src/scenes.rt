@@ -5,7 +5,7 @@ use p3_numbers::{
     NumberedAction, NumberedArgument, NumberedCondition, NumberedConstraint, NumberedEffect,
     NumberedGoal, NumberedTask, Numbers,
 };
-use p3_reasons::PlacedStep;
+use p3_reasons::{Decision, PlacedStep};
 use p3_scenes::{Asked, Question, answers};
 use std::alloc::Global;
 use std::test::Fail;
@@ -43,8 +43,8 @@ fn action(alloc: Global) -> Result<NumberedAction, NoMemory> {
 
 /// A task with that action, in whose initial state nothing is true.
 fn task(alloc: Global) -> Result<NumberedTask, NoMemory> {
-    let numbers = numbers(alloc)?;
     let actions = one(alloc, action(alloc)?)?;
+    let numbers = numbers(alloc)?;
     Ok(NumberedTask {
         numbers,
         actions,
@@ -56,19 +56,19 @@ fn task(alloc: Global) -> Result<NumberedTask, NoMemory> {
     })
 }
 
-/// Whether the predicate is true of the object in the second state and in the first, asked in this
-/// order.
-fn told(alloc: Global) -> Result<(bool, bool), NoMemory> {
-    let task = task(alloc)?;
-    let step = PlacedStep {
-        action: 0,
-        objects: List::new(alloc),
-    };
-    let condition = NumberedCondition::Atom {
-        predicate: 0,
-        args: one(alloc, NumberedArgument::Object(0))?,
-    };
-    let asked = Asked::Condition(&condition);
+/// The condition that the predicate is true of the object.
+fn condition(alloc: Global) -> Result<NumberedCondition, NoMemory> {
+    let args = one(alloc, NumberedArgument::Object(0))?;
+    Ok(NumberedCondition::Atom { predicate: 0, args })
+}
+
+/// Asks whether the condition holds in the second state and in the first, in this order.
+fn decisions(
+    alloc: Global,
+    task: &NumberedTask,
+    condition: &NumberedCondition,
+) -> Result<List<Decision>, NoMemory> {
+    let asked = Asked::Condition(condition);
     let questions = [
         Question {
             state: 1,
@@ -81,11 +81,36 @@ fn told(alloc: Global) -> Result<(bool, bool), NoMemory> {
             slots: &[],
         },
     ];
-    let found = answers(alloc, &task, &[step], &questions)?;
-    match (found.get(0), found.get(1)) {
+    let step = PlacedStep {
+        action: 0,
+        objects: List::new(alloc),
+    };
+    let steps = one(alloc, step)?;
+    let found = answers(alloc, task, steps.items(), &questions);
+    drop(steps);
+    found
+}
+
+/// Gives what is decided, for the condition that the predicate is true of the object.
+fn decided(alloc: Global) -> Result<List<Decision>, NoMemory> {
+    let condition = condition(alloc)?;
+    let task = task(alloc)?;
+    let found = decisions(alloc, &task, &condition);
+    drop(task);
+    drop(condition);
+    found
+}
+
+/// Whether the predicate is true of the object in the second state and in the first, asked in this
+/// order.
+fn told(alloc: Global) -> Result<(bool, bool), NoMemory> {
+    let found = decided(alloc)?;
+    let told = match (found.get(0), found.get(1)) {
         (Some(second), Some(first)) => Ok((second.holds, first.holds)),
         _ => Err(NoMemory),
-    }
+    };
+    drop(found);
+    told
 }
 
 #[test]

@@ -58,21 +58,42 @@ fn conditional(alloc: Global) -> Result<TargetAction, NoMemory>
     })
 }
 
-/// Two predicates, no atom that is set, one action, and this goal.
+/// So many actions, all alike: the writer does not ask that names differ.
+fn alike(alloc: Global, count: u32) -> Result<List<TargetAction>, NoMemory>
+    ensures sized { IfOk result (λ actions. IsTrue (list_all (is_sized_action 2) actions)) }
+    ensures names { IfOk result (λ actions.
+        IsTrue (list_all is_name (map (λ action. action.name) actions))) }
+    ensures spelled { IfOk result (λ actions. AreSpelled (map (λ action. action.name) actions)) }
+{
+    let mut actions = List::new(alloc);
+    for _ in 0..count {
+        actions.push(conditional(alloc)?)?;
+    }
+    Ok(actions)
+}
+
+/// Two predicates.
+fn two_predicates(alloc: Global) -> Result<List<Name>, NoMemory>
+    ensures { IfOk result (λ names. names ≡ codes "p" ∷ codes "q" ∷ []) }
+{
+    let mut predicates = List::new(alloc);
+    predicates.push(Name::of(alloc, b"p")?)?;
+    predicates.push(Name::of(alloc, b"q")?)?;
+    Ok(predicates)
+}
+
+/// Two predicates, no atom that is set, so many actions, and this goal.
 #[tactic(auto, using(p3_formula::proofs::FormLemmas::atom_laws))]
-fn with_goal(alloc: Global, goal: Form) -> Result<Target, NoMemory>
+fn with_goal(alloc: Global, count: u32, goal: Form) -> Result<Target, NoMemory>
     requires { IsBelow 2 goal }
     ensures sized { IfOk result IsSized }
     ensures predicates { IfOk result (λ X. IsTrue (list_all is_predicate_name X.predicates)) }
     ensures actions { IfOk result (λ X. IsTrue (list_all is_name (action_names X))) }
     ensures spelled { IfOk result (λ X. AreSpelled (X.predicates ++ action_names X)) }
 {
-    let mut predicates = List::new(alloc);
-    predicates.push(Name::of(alloc, b"p")?)?;
-    predicates.push(Name::of(alloc, b"q")?)?;
+    let predicates = two_predicates(alloc)?;
     let initial = Bits::new(alloc, 2)?;
-    let mut actions = List::new(alloc);
-    actions.push(conditional(alloc)?)?;
+    let actions = alike(alloc, count)?;
     Ok(Target {
         predicates,
         initial,
@@ -100,69 +121,63 @@ fn deep(alloc: Global, levels: u32) -> Result<Form, NoMemory>
     Ok(form)
 }
 
+/// Gives the domain of a target with so many actions.
+fn domain_of(alloc: Global, count: u32) -> Result<Vec<u8>, NoMemory> {
+    let target = with_goal(alloc, count, always())?;
+    let domain = write_domain(alloc, &target);
+    drop(target);
+    domain
+}
+
+/// Gives the problem of a target whose goal always holds.
+fn always_problem(alloc: Global) -> Result<Vec<u8>, NoMemory> {
+    let target = with_goal(alloc, 1, always())?;
+    let problem = write_problem(alloc, &target);
+    drop(target);
+    problem
+}
+
 #[test]
 fn what_always_holds_is_written(rt: HostRuntime) -> Result<(), Fail> {
-    let alloc = rt.alloc();
-    let target = with_goal(alloc, always())?;
-    let domain = write_domain(alloc, &target)?;
-    assert_eq!(rt; domain.as_slice(), MOVE_DOMAIN.as_bytes());
-    let problem = write_problem(alloc, &target)?;
+    let problem = always_problem(rt.alloc())?;
     assert_eq!(rt; problem.as_slice(), MOVE_PROBLEM.as_bytes());
     Ok(())
+}
+
+/// Gives the problem of a target whose goal is an atom under so many negations.
+fn deep_problem(alloc: Global, levels: u32) -> Result<Vec<u8>, NoMemory> {
+    let goal = deep(alloc, levels)?;
+    let target = with_goal(alloc, 1, goal)?;
+    let problem = write_problem(alloc, &target);
+    drop(target);
+    problem
+}
+
+/// How many bytes that has.
+fn deep_size(alloc: Global, levels: u32) -> Result<usize, NoMemory> {
+    let problem = deep_problem(alloc, levels)?;
+    Ok(problem.len())
 }
 
 #[test]
 fn a_deep_goal_is_written(rt: HostRuntime) -> Result<(), Fail> {
     let alloc = rt.alloc();
-    let target = with_goal(alloc, deep(alloc, 0)?)?;
-    let flat = write_problem(alloc, &target)?;
-    let target = with_goal(alloc, deep(alloc, 1000)?)?;
-    let problem = write_problem(alloc, &target)?;
-    assert_eq!(rt; problem.len(), flat.len() + 1000 * "(not )".len());
+    let flat = deep_size(alloc, 0)?;
+    let deep = deep_size(alloc, 1000)?;
+    assert_eq!(rt; deep.checked_sub(flat), Some(1000 * "(not )".len()));
     Ok(())
 }
 
-/// So many actions, all alike: the writer does not ask that names differ.
-fn alike(alloc: Global, count: u32) -> Result<List<TargetAction>, NoMemory>
-    ensures sized { IfOk result (λ actions. IsTrue (list_all (is_sized_action 2) actions)) }
-    ensures names { IfOk result (λ actions.
-        IsTrue (list_all is_name (map (λ action. action.name) actions))) }
-    ensures spelled { IfOk result (λ actions. AreSpelled (map (λ action. action.name) actions)) }
-{
-    let mut actions = List::new(alloc);
-    for _ in 0..count {
-        actions.push(conditional(alloc)?)?;
-    }
-    Ok(actions)
-}
-
-/// Two predicates, and so many actions.
-#[tactic(auto, using(p3_formula::proofs::FormLemmas::atom_laws))]
-fn large(alloc: Global, count: u32) -> Result<Target, NoMemory>
-    ensures sized { IfOk result IsSized }
-    ensures predicates { IfOk result (λ X. IsTrue (list_all is_predicate_name X.predicates)) }
-    ensures actions { IfOk result (λ X. IsTrue (list_all is_name (action_names X))) }
-    ensures spelled { IfOk result (λ X. AreSpelled (X.predicates ++ action_names X)) }
-{
-    let mut predicates = List::new(alloc);
-    predicates.push(Name::of(alloc, b"p")?)?;
-    predicates.push(Name::of(alloc, b"q")?)?;
-    let initial = Bits::new(alloc, 2)?;
-    let actions = alike(alloc, count)?;
-    let goal = Form::True;
-    Ok(Target {
-        predicates,
-        initial,
-        actions,
-        goal,
-    })
+#[test]
+fn a_domain_of_one_action_is_written(rt: HostRuntime) -> Result<(), Fail> {
+    let domain = domain_of(rt.alloc(), 1)?;
+    assert_eq!(rt; domain.as_slice(), MOVE_DOMAIN.as_bytes());
+    Ok(())
 }
 
 #[test]
 fn a_large_domain_is_written(rt: HostRuntime) -> Result<(), Fail> {
-    let alloc = rt.alloc();
-    let target = large(alloc, 800_000)?;
-    let domain = write_domain(alloc, &target)?;
+    let domain = domain_of(rt.alloc(), 800_000)?;
     let one = MOVE_DOMAIN.len() - SHELL_BYTES;
     assert_eq!(rt; domain.len(), SHELL_BYTES + 800_000 * one);
     Ok(())

@@ -5,8 +5,8 @@ use Rattle.p3_base.specs.declared.operator.Operator.TheVariants.{Sometime}
 use Rattle.p3_monitors.specs.KeepsOn.{HasNone}
 use Rattle.p3_test_calls.proofs.monitored.riding.Goals as goal
 
-pub effects-requires : goal.effects-requires
-effects-requires c =
+pub effects-effects-requires : goal.effects-effects-requires
+effects-effects-requires c =
     let monitor = c.in_ok-monitor.monitor in
     let step = c.in_ok-step.step in
     record {

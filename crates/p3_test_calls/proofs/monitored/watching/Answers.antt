@@ -5,10 +5,10 @@ use Rattle.p3_formula.specs.declared.form.Form.TheVariants.{Atom}
 use Rattle.p3_base.specs.declared.operator.Operator.TheVariants.{Sometime}
 use Rattle.p3_test_calls.proofs.monitored.watching.Goals as goal
 
-pub monitor-requires-clause-below : goal.monitor-requires-clause-below
+pub monitor-made-requires-clause-below : goal.monitor-made-requires-clause-below
 unfolding has_atoms
-monitor-requires-clause-below c = refl
+monitor-made-requires-clause-below c = refl
 
-pub monitor-requires-clause-inside : goal.monitor-requires-clause-inside
+pub monitor-made-requires-clause-inside : goal.monitor-made-requires-clause-inside
 unfolding has_atoms
-monitor-requires-clause-inside c = subst (λ (state : State). IsModalBelow (length state) (Sometime (Atom 0))) (sym c.in_ok-initial.ensures) refl
+monitor-made-requires-clause-inside c = subst (λ (state : State). IsModalBelow (length state) (Sometime (Atom 0))) (sym c.in_ok-initial.ensures) refl
