@@ -1,8 +1,9 @@
 -- The plan that is embedded is the one source of the plan in the task that is written.
 use Rattle.std.proofs.Common.{◌≡◌, ◌∙◌, ℕ, List, [], ◌∷◌, length, pos, refl, sym, ap, true}
-use Rattle.std.specs.Prelude.{ℤ}
+use Rattle.std.specs.Prelude.{ℤ, slice_index_or}
 use Rattle.std.specs.List.{list_all}
 use Rattle.std.proofs.lemmas.Bool.{and_from, and_parts}
+use Rattle.std.proofs.lemmas.List.{length-map}
 use Rattle.p3_task.specs.Erased.{erased}
 use Rattle.p3_task.specs.Faithful.{Faithful}
 use Rattle.p3_task.specs.Metrics.{value}
@@ -12,7 +13,7 @@ use Rattle.p3_task.specs.PlanTexts.{IsPlanText}
 use Rattle.p3_tree.specs.Reports.Plans.{embedded_lines}
 use Rattle.p3_task.specs.declared.task.Task.{Task}
 use Rattle.p3_task.proofs.OffsetLemmas.{offset_free}
-use Rattle.p3_formula.specs.Targets.{Compiled, target_cost}
+use Rattle.p3_formula.specs.Targets.{Compiled, action_names, target_cost}
 use Rattle.p3_formula.specs.declared.target.Target.{Target}
 use Rattle.p3_formula.specs.declared.target.Weights.{Weights}
 use Rattle.p3_formula.specs.declared.task.GroundTask.{GroundTask}
@@ -21,7 +22,7 @@ use Rattle.p3_ground.specs.PlansByNumber.{are_bare, names_of}
 use Rattle.p3_plans.specs.Layout.{has_written_words, is_written_word}
 use Rattle.p3_writer.specs.TaskOf.{task_of}
 use Rattle.p3_writer.specs.Texts.{IsDomainTextOf, IsProblemTextOf}
-use Rattle.p3_embed.specs.Plans.{IsEmbeddedPlan}
+use Rattle.p3_embed.specs.Plans.{IsEmbeddedPlan, bare_step, steps_at}
 use Rattle.p3_cli.specs.Embedding.{IsEmbedded, IsSource}
 use Rattle.p3_cli.specs.Translation.{CanBeCompiled}
 use Rattle.p3_tree.specs.Reports.Plans.{generated_lines}
@@ -47,6 +48,11 @@ bare_words (step ∷ plan) bare words =
 
 pub embedded_words : (T : Task) (G : GroundTask) (w : Weights) (X : Target) (p q : Plan) → Compiled G w X → IsEmbeddedPlan T G X p q → list_all has_written_words q ≡ true
 embedded_words T G w X p q compiled is = bare_words q is.bare (target_words X compiled.named (names_of q) is.embedded.valid)
+
+-- ---- the steps of a source
+
+pub steps_counted : (X : Target) (places : List ℕ) → length (steps_at X places) ≡ length places
+steps_counted X places = length-map places (λ place. bare_step (slice_index_or (action_names X) place []))
 
 -- ---- the task that is read of the texts
 

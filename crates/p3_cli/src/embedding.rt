@@ -1,15 +1,15 @@
 //! What `embed` makes of the texts of a task and of a plan for it.
 
-ghost use Rattle.std.specs.Prelude.{◌≡◌, IfErr, IfOk, IsTrue, OnOk, length, pos};
-ghost use Rattle.std.specs.List.{list_all};
+ghost use Rattle.std.specs.Prelude.{◌≡◌, ◌++◌, ◌<◌, IfErr, IfOk, IsTrue, OnOk, length, pos};
+ghost use Rattle.std.specs.List.{All, list_all};
 ghost use Rattle.p3_task.specs.PlanTexts.{IsPlanText};
 ghost use Rattle.p3_tree.specs.Reports.Plans.{embedded_lines};
 ghost use Rattle.p3_task.specs.Validity.{Valid};
 ghost use Rattle.p3_formula.specs.Targets.{Compiled, target_cost};
 ghost use Rattle.p3_ground.specs.PlansByNumber.{names_of};
 ghost use Rattle.p3_eval.specs.Steps.{AreOfPlan, OfSteps};
-ghost use Rattle.p3_plans.specs.Layout.{has_written_words};
-ghost use Rattle.p3_embed.specs.Plans.{IsEmbeddedPlan};
+ghost use Rattle.p3_plans.specs.Layout.{has_written_words, plan_layout, step_layout};
+ghost use Rattle.p3_embed.specs.Plans.{IsEmbeddedPlan, bare_step, steps_at};
 ghost use Rattle.p3_reports.specs.Reports.{report_text};
 ghost use Rattle.p3_cli.specs.Embedding.{IsEmbedding};
 ghost use Rattle.p3_cli.specs.Evaluation.{IsFaultOf, IsRejectedPlan};
@@ -25,10 +25,9 @@ use crate::report_parts::embedded_report;
 use crate::texts::{Made, Texts};
 use p3_base::NoMemory;
 use p3_compile::compile;
-use p3_embed::{EmbedFail, Embedded, embed_steps};
+use p3_embed::{EmbedFail, Source, embed_steps};
 use p3_eval::{Steps, Whole};
 use p3_formula::Target;
-use p3_plans::write_plan;
 use p3_reports::Report;
 use p3_writer::{write_domain, write_problem};
 use std::alloc::Global;
@@ -48,67 +47,97 @@ pub(crate) fn embed(alloc: Global, texts: &Texts) -> Result<Product, Ending>
 {
     let (whole, steps) = judged_whole(alloc, texts)?;
     let target = compile(alloc, whole.ground_task(), whole.weights())?;
-    let embedded = match embedded(alloc, &whole, &target, &steps) {
-        Ok(embedded) => embedded,
+    let source = match source_of(alloc, &whole, &target, &steps) {
+        Ok(source) => source,
         Err(ending) => return Err(ending),
     };
-    let made = embedding_of(alloc, &whole, &target, &embedded)?;
+    let made = embedding_of(alloc, &whole, &target, &source)?;
     forget((whole, target));
-    forget((steps, embedded));
+    forget((steps, source));
     Ok(made)
 }
 
 /// Finds the source of the plan of these steps in the target, where the plan is valid.
-pub(crate) fn embedded(
+pub(crate) fn source_of(
     alloc: Global,
     whole: &Whole,
     target: &Target,
     steps: &Steps,
-) -> Result<Embedded, Ending>
+) -> Result<Source, Ending>
     requires compiled { Compiled whole.now.ground_task whole.now.weights target.now }
     requires some { AreOfPlan whole.now.checked.task steps.now }
     ensures valid { OnOk result (OfSteps whole.now.checked.task steps.now
         (Valid whole.now.checked.task)) }
-    ensures plan { IfOk result (λ embedded. OfSteps whole.now.checked.task steps.now
+    ensures within { IfOk result (λ source.
+        All (λ place. place < length target.now.actions) source.places.items) }
+    ensures plan { IfOk result (λ source. OfSteps whole.now.checked.task steps.now
         (λ plan. IsEmbeddedPlan whole.now.checked.task whole.now.ground_task target.now
-        plan embedded.plan)) }
-    ensures cost { IfOk result (λ embedded. embedded.cost
-        ≡ pos (target_cost target.now (names_of embedded.plan))) }
+        plan (steps_at target.now source.places.items))) }
+    ensures cost { IfOk result (λ source. source.cost
+        ≡ pos (target_cost target.now (names_of (steps_at target.now source.places.items)))) }
     ensures err { IfErr result (IsRejectedBy (λ how. OfSteps whole.now.checked.task steps.now
         (IsFaultOf whole.now.checked.task how))) }
 {
     match embed_steps(alloc, whole, target, steps) {
-        Ok(embedded) => Ok(embedded),
+        Ok(source) => Ok(source),
         Err(EmbedFail::Invalid(fault)) => Err(invalid(fault)),
         Err(EmbedFail::NoMemory) => Err(Ending::OutOfMemory),
     }
 }
 
-/// Writes the target of a task and a plan that is embedded in it, and makes the report.
+/// Writes the target of a task and the source of a plan in it, and makes the report.
 fn embedding_of(
     alloc: Global,
     whole: &Whole,
     target: &Target,
-    embedded: &Embedded,
+    source: &Source,
 ) -> Result<Product, NoMemory>
     requires can { CanBeCompiled
         whole.now.checked.task whole.now.ground_task whole.now.weights }
     requires compiled { Compiled whole.now.ground_task whole.now.weights target.now }
-    requires named { IsTrue (list_all has_written_words embedded.now.plan) }
+    requires within { All (λ place. place < length target.now.actions) source.now.places.items }
+    requires named { IsTrue (list_all has_written_words
+        (steps_at target.now source.now.places.items)) }
     ensures text { IfOk result (λ product.
         AreTextsOf target.now product.made.domain.items product.made.problem.items) }
-    ensures plan { IfOk result (λ product. IsPlanText product.made.plan.items embedded.now.plan) }
+    ensures plan { IfOk result (λ product. IsPlanText product.made.plan.items
+        (steps_at target.now source.now.places.items)) }
     ensures lines { IfOk result (λ product. HasPlanLayout product.made.plan.items) }
     ensures report { IfOk result (λ product. report_text product.report ≡ embedded_lines
-        whole.now.checked.task (length embedded.now.plan) embedded.now.cost) }
+        whole.now.checked.task (length source.now.places.items) source.now.cost) }
 {
     let made = Made {
         domain: write_domain(alloc, target)?,
         problem: write_problem(alloc, target)?,
-        plan: write_plan(alloc, &embedded.plan)?,
+        plan: source_text(alloc, target, source.places.as_slice())?,
     };
     Ok(Product {
         made,
-        report: Report::Embed(embedded_report(whole, embedded)),
+        report: Report::Embed(embedded_report(whole, source)),
     })
+}
+
+/// Writes the plan of the actions at the places: a line for each, with its name.
+fn source_text(alloc: Global, target: &Target, places: &[usize]) -> Result<Vec<u8>, NoMemory>
+    requires within { All (λ place. place < length target.now.actions) places.now }
+    requires named { IsTrue (list_all has_written_words (steps_at target.now places.now)) }
+    ensures text { IfOk result (λ text. text.items ≡ plan_layout (steps_at target.now places.now)) }
+    ensures plan { IfOk result (λ text. IsPlanText text.items (steps_at target.now places.now)) }
+{
+    let mut text = Vec::new(alloc);
+    for place in places {
+        push_line(&mut text, target.actions.items()[*place].name.bytes())?;
+    }
+    Ok(text)
+}
+
+/// Puts the line of the step of that name.
+fn push_line(text: &mut Vec<u8>, name: &[u8]) -> Result<(), NoMemory>
+    ensures { OnOk result
+        (text.new.items ≡ text.old.items ++ step_layout (bare_step name.now)) }
+{
+    text.push(b'(')?;
+    text.extend_from_slice(name)?;
+    text.extend_from_slice(b")\n")?;
+    Ok(())
 }

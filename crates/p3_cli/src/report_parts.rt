@@ -26,7 +26,7 @@ ghost use Rattle.p3_cli.specs.Lifting.{differ_rejection};
 ghost use Rattle.p3_cli.specs.Translation.{CanBeCompiled};
 
 use p3_base::{List, Name, NoMemory};
-use p3_embed::Embedded;
+use p3_embed::Source;
 use p3_eval::{Run, Steps, Whole};
 use p3_lift::{Differ, Lifted};
 use p3_metric::metric_places;
@@ -59,15 +59,15 @@ pub(crate) fn compiled_report(whole: &Whole) -> CompileReport
 
 /// Gives the report of a plan that is embedded in the target of a task: that of the task, and the
 /// length and the cost of the plan's source.
-pub(crate) fn embedded_report(whole: &Whole, embedded: &Embedded) -> EmbedReport
+pub(crate) fn embedded_report(whole: &Whole, source: &Source) -> EmbedReport
     requires { CanBeCompiled whole.now.checked.task whole.now.ground_task whole.now.weights }
     ensures { embed_text result ≡ embedded_lines
-        whole.now.checked.task (length embedded.now.plan) embedded.now.cost }
+        whole.now.checked.task (length source.now.places.items) source.now.cost }
 {
     EmbedReport {
         task: compiled_report(whole),
-        len: embedded.plan.len() as u64,
-        cost: embedded.cost,
+        len: source.places.len() as u64,
+        cost: source.cost,
     }
 }
 
@@ -111,22 +111,22 @@ pub(crate) fn lifted_report(checked: &Checked, lifted: &Lifted) -> LiftReport
 pub(crate) fn sampled_report(
     whole: &Whole,
     steps: &Steps,
-    embedded: &Embedded,
+    source: &Source,
     metric: i128,
 ) -> GenerateReport
     requires can { CanBeCompiled whole.now.checked.task whole.now.ground_task whole.now.weights }
     ensures { (plan : Plan) → AreNumbers whole.now.checked.task plan steps.now.numbers.items
         → metric ≡ value whole.now.checked.task plan
         → generate_text result ≡ generated_lines
-        whole.now.checked.task plan (length embedded.now.plan) embedded.now.cost }
+        whole.now.checked.task plan (length source.now.places.items) source.now.cost }
 {
     let task = whole.ground_task();
     GenerateReport {
         steps: task.step_count as u64,
         preferences: task.soft.len() as u64,
         plan: steps.numbers.len() as u64,
-        embedded: embedded.plan.len() as u64,
-        cost: embedded.cost,
+        embedded: source.places.len() as u64,
+        cost: source.cost,
         metric: metric_of(whole.checked(), metric),
     }
 }

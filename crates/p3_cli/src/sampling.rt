@@ -11,7 +11,7 @@ ghost use Rattle.p3_reports.specs.Reports.{report_text};
 ghost use Rattle.p3_cli.specs.Sampling.{IsSampleReport, IsSampling};
 
 use crate::Ending;
-use crate::embedding::embedded;
+use crate::embedding::source_of;
 use crate::evaluation::judged_whole;
 use crate::product::Product;
 use crate::report_parts::sampled_report;
@@ -68,12 +68,12 @@ fn report_of(alloc: Global, texts: &Texts) -> Result<Report, Ending>
 {
     let (whole, steps) = judged_whole(alloc, texts)?;
     let target = compile(alloc, whole.ground_task(), whole.weights())?;
-    let embedded = match embedded(alloc, &whole, &target, &steps) {
-        Ok(embedded) => embedded,
+    let source = match source_of(alloc, &whole, &target, &steps) {
+        Ok(source) => source,
         Err(ending) => return Err(ending),
     };
     let metric = value_of(alloc, &whole, &steps)?;
-    let report = sampled_report(&whole, &steps, &embedded, metric);
+    let report = sampled_report(&whole, &steps, &source, metric);
     Ok(Report::Generate(report))
 }
 

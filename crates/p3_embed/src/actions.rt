@@ -51,7 +51,7 @@ fn counts_of(
     ensures { IfOk result (λ counts. counts.items
         ≡ map (λ (action : TargetAction). lifted_number task.now action.name) actions.now) }
 {
-    let mut counts = Vec::new(alloc);
+    let mut counts = Vec::with_capacity(alloc, actions.len())?;
     for action in actions {
         counts.push(counted_step(task, action.name.bytes()))?;
     }

@@ -1,26 +1,26 @@
 //! The one valid plan of a target that lifts to a ground plan.
 
-ghost use Rattle.std.specs.Prelude.{◌≡◌, ◌+◌, ◌<◌, [], length, slice_index_or, pos, true, IfOk, OnOk};
+ghost use Rattle.std.specs.Prelude.{◌≡◌, ◌+◌, ◌<◌, length, pos, true, IfOk, OnOk};
 ghost use Rattle.std.specs.List.{All};
 ghost use Rattle.p3_formula.specs.Forms.{truth};
-ghost use Rattle.p3_formula.specs.Targets.{action_names, target_cost};
+ghost use Rattle.p3_formula.specs.Targets.{target_cost};
 ghost use Rattle.p3_embed.specs.Embeds.{CanEmbed, IsEmbedded, names_at};
 ghost use Rattle.p3_embed.specs.Sought.{IsSought, IsWalkFor};
 
 use crate::actions::{Actions, actions_of};
 use crate::fitting::{fitting_copy, fitting_other};
 use crate::walking::{EmbeddingWalk, begun, take};
-use p3_base::{List, Name, NoMemory};
+use p3_base::NoMemory;
 use p3_formula::{GroundTask, Target, Weights, eval};
 use std::alloc::Global;
 
-/// A plan of a target, and what it costs.
-#[derive(Drop)]
-pub(crate) struct Embedding {
-    /// The names of its actions.
-    pub(crate) plan: List<Name>,
+/// The one valid plan of a target that lifts to a plan, by the places of its actions.
+#[derive(Debug, Drop)]
+pub struct Source {
+    /// The place of each of its actions in the target.
+    pub places: Vec<usize>,
     /// What it costs.
-    pub(crate) cost: i128,
+    pub cost: i128,
 }
 
 /// The one valid plan of the target that lifts to the steps of these numbers, and its cost. Its time
@@ -32,12 +32,14 @@ pub(crate) fn embed_numbers(
     weights: &Weights,
     target: &Target,
     numbers: &[u32],
-) -> Result<Embedding, NoMemory>
+) -> Result<Source, NoMemory>
     requires { CanEmbed task.now weights.now target.now numbers.now }
-    ensures plan { IfOk result (λ embedding.
-        IsEmbedded task.now target.now numbers.now embedding.plan) }
-    ensures cost { IfOk result (λ embedding.
-        embedding.cost ≡ pos (target_cost target.now embedding.plan)) }
+    ensures within { IfOk result (λ source.
+        All (λ place. place < length target.now.actions) source.places.items) }
+    ensures plan { IfOk result (λ source.
+        IsEmbedded task.now target.now numbers.now (names_at target.now source.places.items)) }
+    ensures cost { IfOk result (λ source. source.cost
+        ≡ pos (target_cost target.now (names_at target.now source.places.items))) }
 {
     let actions = actions_of(alloc, task, target)?;
     let sought = Sought {
@@ -52,9 +54,10 @@ pub(crate) fn embed_numbers(
         take_step(alloc, &sought, &mut walk, at)?;
     }
     take_rest(alloc, &sought, &mut walk)?;
-    Ok(Embedding {
-        plan: names_of(alloc, target, walk.places.as_slice())?,
-        cost: walk.cost as i128,
+    let cost = walk.cost as i128;
+    Ok(Source {
+        places: walk.places,
+        cost,
     })
 }
 
@@ -71,26 +74,6 @@ struct Sought<'a> {
     numbers: &'a [u32],
     /// The actions of the target by the steps as which they count.
     actions: Actions,
-}
-
-/// The names of the actions at the places.
-fn names_of(alloc: Global, target: &Target, places: &[usize]) -> Result<List<Name>, NoMemory>
-    requires { All (λ place. place < length target.now.actions) places.now }
-    ensures { IfOk result (λ names. names ≡ names_at target.now places.now) }
-{
-    let mut names = List::new(alloc);
-    for place in places {
-        names.push(name_at(alloc, target, *place)?)?;
-    }
-    Ok(names)
-}
-
-/// The name of the action at the place.
-fn name_at(alloc: Global, target: &Target, place: usize) -> Result<Name, NoMemory>
-    requires { place < length target.now.actions }
-    ensures { IfOk result (λ name. name ≡ slice_index_or (action_names target.now) place []) }
-{
-    Name::of(alloc, target.actions.items()[place].name.bytes())
 }
 
 /// Where the next action is looked for first: behind the last one.

@@ -9,5 +9,6 @@ mod fitting;
 mod plans;
 mod walking;
 
+pub use embedding::Source;
 pub use error::EmbedFail;
 pub use plans::{Embedded, embed, embed_steps};

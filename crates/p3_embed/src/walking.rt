@@ -40,7 +40,7 @@ fn conditions(alloc: Global, state: &Bits, changes: &[Change]) -> Result<Vec<boo
     ensures { IfOk result (λ holding. holding.items
         ≡ map (λ (change : Change). truth state.now change.cond) changes.now) }
 {
-    let mut holding = Vec::new(alloc);
+    let mut holding = Vec::with_capacity(alloc, changes.len())?;
     for change in changes {
         holding.push(eval(&change.cond, state))?;
     }

@@ -1,14 +1,16 @@
-use Rattle.std.proofs.Common.{◌∙◌, rules, subst}
+use Rattle.std.proofs.Common.{◌∙◌, ap, rules, subst, sym}
 use Rattle.std.proofs.lemmas.Int.{to_z-of_z}
 use mir.Syntax.{w128}
 use mir.Val.{SFits}
 use Rattle.p3_task.proofs.StepNumberLaws.{steps_have_numbers}
+use Rattle.p3_tree.specs.Reports.Plans.{generated_lines}
 use Rattle.p3_formula.specs.Targets.{Compiled}
 use Rattle.p3_reports.specs.Reports.{generate_text}
 use Rattle.p3_ground.proofs.PlanNumbers.{has_numbers, valid_fits}
+use Rattle.p3_embed.specs.Plans.{steps_at}
 use Rattle.p3_eval.proofs.StepsLemmas.{all_numbered}
 use Rattle.p3_cli.specs.Texts.{all_texts}
-use Rattle.p3_cli.proofs.EmbeddingLemmas.{is_sampled}
+use Rattle.p3_cli.proofs.EmbeddingLemmas.{is_sampled, steps_counted}
 use Rattle.p3_cli.proofs.ProductLemmas.{its_texts, rejected_plan, the_plan, the_steps}
 use Rattle.p3_cli.proofs.sampling.report_of.Goals as goal
 
@@ -42,6 +44,7 @@ returns-clause-means c =
       of = its_texts texts T whole.ensures.accepted whole.ensures.free whole.steps are;
       valid = valid;
       sampled =
-          is_sampled T G w X whole.ensures.ready compiled plan source.embedded.plan source.embedded.cost (source.ensures.plan plan has) source.ensures.cost (generate_text c.sampled_report-report.result)
-          (c.sampled_report-report.ensures plan numbers (to_z-of_z w128 c.in_ok-metric.metric fits ∙ c.in_ok-metric.ensures plan has));
+          is_sampled T G w X whole.ensures.ready compiled plan (steps_at X source.source.places.items) source.source.cost (source.ensures.plan plan has) source.ensures.cost (generate_text c.sampled_report-report.result)
+          (c.sampled_report-report.ensures plan numbers (to_z-of_z w128 c.in_ok-metric.metric fits ∙ c.in_ok-metric.ensures plan has)
+          ∙ ap (λ count. generated_lines T plan count source.source.cost) (sym (steps_counted X source.source.places.items)));
     }

@@ -1,6 +1,4 @@
-use Rattle.std.proofs.Common.{◌∙◌, ap, length, refl, subst, sym}
-use Rattle.p3_formula.specs.Targets.{TargetPlan}
-use Rattle.p3_embed.specs.Embeds.{IsEmbedded, names_at}
+use Rattle.std.proofs.Common.{length, refl}
 use Rattle.p3_embed.proofs.TakenLaws.{begins_walk, embedded}
 use Rattle.p3_embed.proofs.embedding.embed_numbers.Goals as goal
 
@@ -9,5 +7,4 @@ loop-at-init c = begins_walk c.args.task.now c.args.weights.now c.args.target.no
 
 pub returns-clause-plan : goal.returns-clause-plan
 returns-clause-plan c =
-    subst (λ (plan : TargetPlan). IsEmbedded c.args.task.now c.args.target.now c.args.numbers.now plan) (sym (c.in_ok-names_of.ensures ∙ ap (names_at c.args.target.now) c.as_slice.ensures.value))
-    (embedded c.args.task.now c.args.weights.now c.args.target.now c.args.numbers.now c.requires c.in_ok-actions.actions c.in_ok-actions.ensures (length c.args.numbers.now) c.take_rest.new.walk c.in_ok-take_rest.ensures.walk refl c.in_ok-take_rest.ensures.goal)
+    embedded c.args.task.now c.args.weights.now c.args.target.now c.args.numbers.now c.requires c.in_ok-actions.actions c.in_ok-actions.ensures (length c.args.numbers.now) c.take_rest.new.walk c.in_ok-take_rest.ensures.walk refl c.in_ok-take_rest.ensures.goal

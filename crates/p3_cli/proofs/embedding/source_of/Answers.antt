@@ -8,7 +8,7 @@ use Rattle.p3_eval.specs.Steps.{OfSteps}
 use Rattle.p3_cli.specs.Ending.{Invalid}
 use Rattle.p3_cli.specs.Evaluation.{IsFaultOf}
 use Rattle.p3_cli.proofs.SpelledLemmas.{says_more}
-use Rattle.p3_cli.proofs.embedding.embedded.Goals as goal
+use Rattle.p3_cli.proofs.embedding.source_of.Goals as goal
 
 pub returns-in-Ok-clause-valid : goal.returns-in-Ok-clause-valid
 returns-in-Ok-clause-valid c = λ plan are. (valid_where_no_fault c.args.whole.now.checked.task plan).1 (c.in-Ok.ensures.valid plan are)
