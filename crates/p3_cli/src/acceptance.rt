@@ -44,7 +44,10 @@ pub(crate) fn spelled_task(alloc: Global, side: Side, texts: &Texts) -> Result<T
     };
     let problem = match read_problem(alloc, side, texts.problem_of(side)) {
         Ok(half) => half,
-        Err(fail) => return Err(not_read(texts, fail)),
+        Err(fail) => {
+            drop(domain);
+            return Err(not_read(texts, fail));
+        }
     };
     Ok(Task { domain, problem })
 }
