@@ -38,24 +38,6 @@ up_to P end before at offset low = by (cases_lt end offset) where
 
 -- ---- the start of a text
 
-pub first_start : (text : List ℕ) → AreStarts text 0 (0 ∷ [])
-first_start text = record { count = refl; within = within; begin = begin; past = past; reached = reached } where
-  within : (offset : ℕ) → offset ≤ 0 → feeds text offset < 1
-  within zero low = omega arith
-  within (suc offset) low = absurd (omega (arith, low))
-
-  begin : (offset : ℕ) → offset ≤ 0 → get_or (0 ∷ []) (feeds text offset) 0 + bytes_before text offset ≡ offset
-  begin zero low = refl
-  begin (suc offset) low = absurd (omega (arith, low))
-
-  past : (offset place : ℕ) → offset ≤ 0 → place < 1 → get_or (0 ∷ []) place 0 ≤ offset → place ≤ feeds text offset
-  past offset place low first is = omega (arith, first)
-
-  reached : (offset place : ℕ) → offset ≤ 0 → place ≤ feeds text offset → get_or (0 ∷ []) place 0 ≤ offset
-  reached offset zero low is = omega arith
-  reached zero (suc place) low is = absurd (omega (arith, is))
-  reached (suc offset) (suc place) low is = absurd (omega (arith, low))
-
 -- ---- one byte more
 
 module _ (text : List ℕ) (end : ℕ) (starts : List ℕ) (byte : ℕ) (low : end < length text) where

@@ -1,5 +1,5 @@
 -- What a command makes of a plan that a text spells, by its steps, and why it makes nothing of it.
-use Rattle.std.proofs.Common.{◌≡◌, ◌≤◌, List, None, length, inl, inr, ℕ}
+use Rattle.std.proofs.Common.{◌≡◌, ◌≤◌, List, None, length, inr, ℕ}
 use Rattle.p3_base.specs.declared.refusal.Side.TheVariants.{Source, Written}
 use Rattle.p3_task.specs.PlanTexts.{IsPlanText, plan_offence, step_limit}
 use Rattle.p3_task.specs.Plans.{Plan}
@@ -9,13 +9,12 @@ use Rattle.p3_plans.proofs.PlanLaws.{a_plan_where_no_offence}
 use Rattle.p3_eval.specs.Steps as of
 use Rattle.p3_eval.specs.Steps.{AreStepsOf, OfPlanText, OfSteps}
 use Rattle.p3_eval.specs.declared.steps.Steps.{Steps}
-use Rattle.p3_cli.specs.Evaluation.{AreOfPlan, IsEvaluation, IsFaultOf, IsRejectedPlan, IsReportOf, RejectsPlan, given_plan}
+use Rattle.p3_cli.specs.Evaluation.{AreOfPlan, IsEvaluation, IsFaultOf, IsRejectedPlan, IsReportOf, RejectsPlan}
 use Rattle.p3_cli.specs.Explaining.{IsExplained, IsExplanation, IsUnexplained, IsUnfit, RejectsExplaining}
-use Rattle.p3_cli.specs.Flattening.{IsStoppedFlat, StopsFlat}
 use Rattle.p3_lift.specs.Lifting.{IsLiftFail}
 use Rattle.p3_lift.specs.declared.answers.LiftFail.{LiftFail}
 use Rattle.p3_cli.specs.Lifting.{RejectsLift, TellsFail}
-use Rattle.p3_cli.specs.Refusing.{AreAcceptedFor, IsRefusal, IsRefusedTask, IsRejectedBy, RejectsTask}
+use Rattle.p3_cli.specs.Refusing.{AreAcceptedFor, IsRejectedBy}
 use Rattle.p3_cli.specs.Texts.{AllTexts}
 use Rattle.p3_cli.specs.declared.ending.Ending as code
 use Rattle.p3_cli.proofs.SpelledLemmas.{says_more}
@@ -26,10 +25,6 @@ module _ (texts : AllTexts) (task : Task) (accepted : AreAcceptedFor Source text
 
   pub the_steps : AreStepsOf task the_plan.plan steps
   the_steps = are the_plan.plan the_plan.spelled
-
-  -- the steps are those of a plan
-  pub of_some_plan : of.AreOfPlan task steps
-  of_some_plan = record { plan = the_plan.plan; are = the_steps }
 
   pub its_texts : AreOfPlan texts.domain texts.problem texts.plan task the_plan.plan
   its_texts = record { accepted = accepted; spelled = the_plan.spelled; few = the_plan.few }
@@ -50,12 +45,6 @@ module _ (texts : AllTexts) (task : Task) (accepted : AreAcceptedFor Source text
       says_more (λ end. OfSteps task steps (IsUnfit task end)) (RejectsExplaining texts) (λ how told.
       inr (record { task = task; plan = the_plan.plan; texts = its_texts; unfit = told the_plan.plan the_steps }))
 
-pub refused_flat : (texts : AllTexts) (how : code.Ending) → IsRefusedTask texts how → IsStoppedFlat texts how
-refused_flat texts = says_more (RejectsTask texts) (StopsFlat texts) (λ how said. inl said)
-
-pub refused_explaining : (texts : AllTexts) (how : code.Ending) → IsRejectedBy (IsRefusal (given_plan texts) texts) how → IsUnexplained texts how
-refused_explaining texts = says_more (IsRefusal (given_plan texts) texts) (RejectsExplaining texts) (λ how said. inl said)
-
 -- a plan that is read and is not lifted
 pub unlifted_plan : (texts : AllTexts) (T U : Task) (plan : Plan) → AreAcceptedFor Source texts T → AreAcceptedFor Written texts U → IsPlanText texts.plan plan → length plan ≤ step_limit
     → (why : LiftFail) → IsLiftFail T U plan why → (how : code.Ending) → IsRejectedBy (TellsFail why) how → IsRejectedBy (RejectsLift texts) how
@@ -67,6 +56,3 @@ unlifted_plan texts T U plan source written spelled few why shows =
       of = record { source = source; written = written; spelled = spelled; few = few };
       unlifted = record { why = why; shows = shows; says = told };
     }))
-
-pub refused_plan : (texts : AllTexts) (how : code.Ending) → IsRejectedBy (IsRefusal (given_plan texts) texts) how → IsRejectedPlan texts how
-refused_plan texts = says_more (IsRefusal (given_plan texts) texts) (RejectsPlan texts) (λ how said. inl said)

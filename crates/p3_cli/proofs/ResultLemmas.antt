@@ -1,10 +1,6 @@
 -- What is so of a result where it is an answer, or where it is a failure.
 use Rattle.std.specs.Prelude.{IfErr, IfOk, OnOk, Result, Ok, Err}
 
-pub on_ok : {A E : Type 0} {P Q : Type 0} (result : Result A E) → (P → Q) → OnOk result P → OnOk result Q
-on_ok (Ok answer) more is = more is
-on_ok (Err error) more is = tt
-
 pub on_both : {A E : Type 0} {P Q R : Type 0} (result : Result A E) → (P → Q → R) → OnOk result P → OnOk result Q → OnOk result R
 on_both (Ok answer) more first second = more first second
 on_both (Err error) more first second = tt

@@ -6,7 +6,7 @@ use Rattle.p3_base.specs.declared.refusal.Side.TheVariants.{Source, Written}
 use Rattle.p3_task.specs.Grammar.Halves.{domain_place, problem_place}
 use Rattle.p3_task.specs.FirstOffence.{first_offence}
 use Rattle.p3_task.specs.PlanTexts.{plan_offence}
-use Rattle.p3_task.specs.Refusals.First.{AreReadable, HalfText, IsFirstRefusal, SpellATask, IsReadable, IsRefusedText, given_task, given_texts, halves, refusal_of, task_refusal}
+use Rattle.p3_task.specs.Refusals.First.{AreReadable, HalfText, IsFirstRefusal, SpellATask, IsReadable, IsRefusedText, given_texts, halves, refusal_of, task_refusal}
 use Rattle.p3_task.specs.Refusals.Counts.{action_refusals, size_refusals}
 use Rattle.p3_task.specs.Refusals.Metric.{metric_refusals}
 use Rattle.p3_task.specs.Refusals.Places.{first_some}
@@ -23,7 +23,7 @@ use Rattle.p3_cli.specs.Ending as ending
 use Rattle.p3_cli.specs.Ending.{Ending}
 use Rattle.p3_cli.specs.Evaluation.{given_plan}
 use Rattle.p3_cli.specs.Lifting.{given_lift}
-use Rattle.p3_cli.specs.Refusing.{AreAcceptedFor, EndsAs, IsOfHalves, IsOfPlan, IsOfTask, IsRefusal, IsRefusedFor, IsRefusedTask, IsRejectedBy, IsSpelled, Says, refused_in}
+use Rattle.p3_cli.specs.Refusing.{AreAcceptedFor, EndsAs, IsOfHalves, IsOfPlan, IsOfTask, IsRefusal, IsRefusedFor, IsRejectedBy, IsSpelled, Says, refused_in}
 use Rattle.p3_cli.specs.Texts.{AllTexts, all_texts, domain_of, problem_of, task_texts, text_of}
 use Rattle.p3_cli.specs.declared.texts.Texts.{Texts}
 use Rattle.p3_cli.specs.declared.ending.Ending as code
@@ -139,29 +139,11 @@ module _ (side : Side) (texts : AllTexts) where
       → IsRejectedBy (λ end. end ≡ refused_in (text_of refusal.pos.role texts) refusal) how → IsRefusedFor texts (IsOfTask side texts) how
   offence_refused task refusal how spelled shown told = task_refused task refusal how spelled (offence_first task refusal shown) told
 
--- ---- a task that is read alone
-
-module _ (texts : AllTexts) where
-  pub alone_of_halves : (how : code.Ending) → IsRefusedFor texts (IsOfHalves Source texts) how → IsRefusedTask texts how
-  alone_of_halves = shows_more texts (IsOfHalves Source texts) (IsFirstRefusal (given_task Source texts.domain texts.problem)) (λ refusal shown. inl shown)
-
-  pub alone_of_task : (task : Task) → IsSpelled (task_texts Source texts) task → (how : code.Ending) → IsRefusedFor texts (IsOfTask Source texts) how → IsRefusedTask texts how
-  alone_of_task task spelled =
-      shows_more texts (IsOfTask Source texts) (IsFirstRefusal (given_task Source texts.domain texts.problem)) (λ refusal shown. inr (spelled.readable, inl shown))
-
 -- ---- a task with a plan
 
 module _ (texts : AllTexts) where
   abbrev Shown : Refusal → Type 0
   Shown = IsFirstRefusal (given_plan texts)
-
-  with_halves : (refusal : Refusal) → IsOfHalves Source texts refusal → Shown refusal
-  with_halves refusal (inl one) = inl (inl one)
-  with_halves refusal (inr (before, inl other)) = inl (inr (before, inl other))
-  with_halves refusal (inr (before, inr (also, none))) = absurd none
-
-  pub plan_of_halves : (how : code.Ending) → IsRefusedFor texts (IsOfHalves Source texts) how → IsRejectedBy (IsRefusal (given_plan texts) texts) how
-  plan_of_halves = shows_more texts (IsOfHalves Source texts) Shown with_halves
 
   module _ (task : Task) (spelled : IsSpelled (task_texts Source texts) task) where
     one_readable : IsReadable (HalfText Source InDomain texts.domain)
@@ -187,14 +169,6 @@ module _ (texts : AllTexts) where
 module _ (texts : AllTexts) where
   abbrev IsShown : Refusal → Type 0
   IsShown = IsFirstRefusal (given_lift texts)
-
-  source_half : (refusal : Refusal) → IsOfHalves Source texts refusal → IsShown refusal
-  source_half refusal (inl one) = inl (inl one)
-  source_half refusal (inr (before, inl other)) = inl (inr (before, inl other))
-  source_half refusal (inr (before, inr (also, none))) = absurd none
-
-  pub lift_of_source : (how : code.Ending) → IsRefusedFor texts (IsOfHalves Source texts) how → IsRejectedBy (IsRefusal (given_lift texts) texts) how
-  lift_of_source = shows_more texts (IsOfHalves Source texts) IsShown source_half
 
   module _ (task : Task) (spelled : IsSpelled (task_texts Source texts) task) where
     source_one : IsReadable (HalfText Source InDomain texts.domain)

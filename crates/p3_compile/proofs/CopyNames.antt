@@ -1,5 +1,5 @@
 -- The names of copies have no upper case letters.
-use Rattle.std.proofs.Common.{◌≡◌, ◌∙◌, ◌<◌, ◌^◌, ℕ, Bool, true, false, List, [], ◌∷◌, ◌++◌, refl, ap, append_assoc}
+use Rattle.std.proofs.Common.{◌≡◌, ◌∙◌, ◌<◌, ◌^◌, ℕ, Bool, true, false, List, [], ◌∷◌, ◌++◌, refl, ap}
 use Rattle.std.specs.Char.{to_ascii_lowercase}
 use Rattle.std.specs.Fmt.{decimal}
 use Rattle.std.specs.Str.{str_to_ascii_lowercase}
@@ -16,6 +16,3 @@ lowered_pattern (false ∷ violated) = ap (λ rest. 48 ∷ rest) (lowered_patter
 pub lowered_copy : (number : ℕ) (violated : List Bool) → number < 2 ^ 64 → str_to_ascii_lowercase (copy_name number (pattern violated)) ≡ copy_name number (pattern violated)
 lowered_copy number violated fits =
     ap (λ rest. 115 ∷ rest) (map-append to_ascii_lowercase (decimal number) (118 ∷ pattern violated) ∙ (λ i. lowered_decimal number fits i ++ (118 ∷ lowered_pattern violated i)))
-
-pub copy_name_joined : (number : ℕ) (rest : List ℕ) → copy_name number [] ++ rest ≡ copy_name number rest
-copy_name_joined number rest = ap (λ more. 115 ∷ more) (append_assoc (decimal number) (118 ∷ []) rest)

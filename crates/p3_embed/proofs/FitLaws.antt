@@ -35,9 +35,6 @@ module _ (counts : List (Option ℕ)) (X : Target) (state : State) (place : ℕ)
   pub fits_here : place < length X.actions → (count : Option ℕ) → slice_get counts place ≡ Some count → test ≡ true → FitsAt counts X state count place
   fits_here here count so e = let found = found_at X.actions place here in record { action = found.item; at = found.at; counts_so = so; holds = sym (tells found.item found.at) ∙ e }
 
-  pub none_here : (count : Option ℕ) → test ≡ false → NoneFitsAt counts X state count place
-  none_here count e action at so = sym (tells action at) ∙ e
-
 -- one place more
 pub none_within : (counts : List (Option ℕ)) (X : Target) (state : State) (count : Option ℕ) (from end : ℕ) → NoneFitsWithin counts X state count from end → NoneFitsAt counts X state count end → NoneFitsWithin counts X state count from (end + 1)
 none_within counts X state count from end before here place low high = by (cases_lt place end)

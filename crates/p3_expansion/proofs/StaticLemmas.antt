@@ -7,7 +7,6 @@ use Rattle.std.proofs.lemmas.Bool.{and_parts, and_from, lt-ltb}
 use Rattle.std.proofs.lemmas.Bool.Decides.{Decides-eqb, nat_tests}
 use Rattle.std.proofs.lemmas.List.{get_or-set_same, get_or-set_other, get_or-replicate, length-replicate, map-append}
 use Rattle.std.proofs.lemmas.List.Folds.{flat_map-map, list_any-append}
-use Rattle.std.proofs.lemmas.List.Sums.{fold-append}
 use Rattle.std.proofs.lemmas.Option.{get_or_from_slice_get}
 use Rattle.std.proofs.lemmas.Slice.Eq.{bytes_eq-Decides}
 use denote.Hole.Carrier.{hidden}
@@ -79,9 +78,6 @@ predicates-If condition body = refl
 pub predicates-Cost : (amount : NumberedAmount) → changed_predicates (Cost amount) ≡ []
 unfolding changed_predicates
 predicates-Cost amount = refl
-
-pub marked-append : (bits : List Bool) (first second : List ℕ) → marked bits (first ++ second) ≡ marked (marked bits first) second
-marked-append bits first second = fold-append (λ marks number. slice_set marks number true) bits first second
 
 -- ---- they are the numbers of those that the effect names
 

@@ -31,10 +31,6 @@ part_of_part xs ys (z ∷ zs) p (inr kept) = by (λ those below. part_of_part th
     by later (inl skipped) = inl (later xs skipped)
     by later (inr both) = inr (both.0, both.1, later both.0 both.2)
 
-part_itself : (xs : List (List Bool)) → IsPartOf xs xs
-part_itself [] = refl
-part_itself (x ∷ xs) = inr (xs, refl, part_itself xs)
-
 part_both_ways : (xs ys : List (List Bool)) → IsPartOf xs ys → IsPartOf (flat_map both_ways xs) (flat_map both_ways ys)
 part_both_ways xs [] p = ap (flat_map both_ways) p
 part_both_ways xs (y ∷ ys) (inl skipped) = inl (inl (part_both_ways xs ys skipped))
@@ -80,9 +76,6 @@ module _ (pre : Form) (choice : Choice) (form : Form) (holds : Bool) where
       by false = refl
 
 -- ---- both halves of each choice
-
-pub no_halves : (pre condition : Form) → AreHalves pre condition [] []
-no_halves pre condition = record { shows = λ state fits. refl; part = refl; atoms = λ allowed own more. refl }
 
 module _ (pre : Form) (literal : Literal) (is : IsLiteral literal) (old new : List Choice) (choice : Choice) (without with : Option Choice)
     (are : AreHalves pre literal.holds old new) (first : IsHalf pre choice literal.fails false without) (second : IsHalf pre choice literal.holds true with) where

@@ -177,10 +177,6 @@ conditions_in allowed (change ∷ effects) seen known within =
     by true own = known
     by false own = list_all-append (has_atoms allowed) seen (change.cond ∷ []) ∙ and_from (list_all (has_atoms allowed) seen) _ known (and-true (has_atoms allowed change.cond) ∙ own)
 
-all_passes : {A : Type 0} (test : A → Bool) (xs : List A) → All (λ x. test x ≡ true) xs → list_all test xs ≡ true
-all_passes test [] all = refl
-all_passes test (x ∷ xs) all = and_from (test x) _ (All-head (λ y. test y ≡ true) x xs all) (all_passes test xs (All-tail (λ y. test y ≡ true) x xs all))
-
 -- ---- an action with conditions
 
 module _ (action : TargetAction) (placing : Placing) (choices : List Choice) (copies : List TargetAction)

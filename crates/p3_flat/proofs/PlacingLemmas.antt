@@ -2,7 +2,7 @@
 use Rattle.std.proofs.Common.{◌≡◌, ◌∙◌, ◌↔◌, ℕ, ◌+◌, ◌<◌, ◌≤◌, Bool, true, false, not, ◌||◌, cond, List, [], ◌∷◌, ◌++◌, length, take, drop, get_or, refl, sym, ap, subst, arith}
 use Rattle.std.specs.Prelude.{Option, Some, None, fold, slice_get, count_by, if◌then◌else◌}
 use Rattle.std.specs.List.{AllZip}
-use Rattle.std.proofs.lemmas.Bool.{or_left, or_right, or_from}
+use Rattle.std.proofs.lemmas.Bool.{or_from}
 use Rattle.std.proofs.lemmas.Bool.Decides.{nat_tests}
 use Rattle.std.proofs.lemmas.List.{length-append, take-append-drop}
 use Rattle.std.proofs.lemmas.List.Folds.{list_any_at, list_any-append}
@@ -48,19 +48,7 @@ not_yet forms form item place within is before differs =
 pub too_many : (effects : List Change) → most_conditions < length (conditions effects) → are_too_many effects ≡ true
 too_many effects more = grind (arith, nat_tests, more)
 
-pub few_enough : (effects : List Change) (forms : List Form) → forms ≡ conditions effects → length forms ≤ most_conditions → are_too_many effects ≡ false
-few_enough effects forms are few = let long : length forms ≡ length (conditions effects) = ap length are in grind (arith, nat_tests, long, few)
-
 -- ---- one form more
-
-pub true_adds_none : (seen : List Form) (form : Form) → is_value true form ≡ true → with_form seen form ≡ seen
-true_adds_none seen form h = ap (λ b. if b then seen else (seen ++ form ∷ [])) (or_left (is_value true form) _ h)
-
-pub found_adds_none : (seen : List Form) (form : Form) → has_form seen form ≡ true → with_form seen form ≡ seen
-found_adds_none seen form h = ap (λ b. if b then seen else (seen ++ form ∷ [])) (or_right (is_value true form) _ h)
-
-pub new_adds_one : (seen : List Form) (form : Form) → is_value true form ≡ false → has_form seen form ≡ false → with_form seen form ≡ seen ++ form ∷ []
-new_adds_one seen form h k = ap (λ b. if b then seen else (seen ++ form ∷ [])) (or_from (is_value true form) _ h k)
 
 -- ---- the conditions of one change more
 

@@ -45,11 +45,6 @@ all_among P x [] all h = absurd h
 all_among P x (y ∷ xs) all (inl here) = subst P here (All-head P y xs all)
 all_among P x (y ∷ xs) all (inr later) = all_among P x xs (All-tail P y xs all) later
 
-pub list_all_among : {A : Type 0} (test : A → Bool) (x : A) (xs : List A) → list_all test xs ≡ true → IsAmong x xs → test x ≡ true
-list_all_among test x [] all h = absurd h
-list_all_among test x (y ∷ xs) all (inl here) = sym (ap test here) ∙ (and_parts (test y) _ all).0
-list_all_among test x (y ∷ xs) all (inr later) = list_all_among test x xs (and_parts (test y) _ all).1 later
-
 -- ---- actions by their names
 
 same_name_true : (name : Name) → bytes_eq name name ≡ true

@@ -3,9 +3,7 @@ use Rattle.std.proofs.Common.{◌≡◌, ◌∙◌, ℕ, suc, zero, ◌==◌, Bo
 use Rattle.std.specs.Prelude.{Option, Some, None, slice_get, slice_index_or, if◌then◌else◌}
 use Rattle.std.specs.List.{All, AllZip, filter, list_all, list_any, range_with_len}
 use Rattle.std.proofs.lemmas.Bool.{and_parts, and_from, eqb-true}
-use Rattle.std.proofs.Math.Bool.{or-false}
 use Rattle.std.proofs.lemmas.List.Elements.{All-nil, All-cons}
-use Rattle.std.proofs.lemmas.List.Folds.{list_any-append}
 use Rattle.p3_formula.specs.Forms.{State, is_set, truth}
 use Rattle.p3_formula.specs.Next.{after, is_added, is_deleted, is_set_after}
 use Rattle.p3_formula.specs.Targets.{has_change_atoms}
@@ -15,7 +13,7 @@ use Rattle.p3_formula.specs.declared.form.Form.TheVariants.{True}
 use Rattle.p3_formula.proofs.FormLemmas.{truth-True, has_atoms-True}
 use Rattle.p3_flat.proofs.ItemLemmas.{none_no_some, some_is}
 use Rattle.p3_flat.specs.declared.placing.Placed.{Placed}
-use Rattle.p3_flat.specs.Splitting.{HasPlace, IsPlaced, always, has_atom, holds_in, is_added_in, is_kept, settled, settled_by, with_atom}
+use Rattle.p3_flat.specs.Splitting.{HasPlace, IsPlaced, always, holds_in, is_added_in, is_kept, settled, settled_by}
 
 -- ---- conditions at their places
 
@@ -151,19 +149,6 @@ settled_atoms allowed pattern added forms (change ∷ effects) (one ∷ changes)
     by false rest = rest
 
 -- ---- the loops
-
-or_same : (x y : Bool) → (y ≡ true → x ≡ true) → x ≡ (x || y)
-or_same true y h = refl
-or_same false true h = h refl
-or_same false false h = refl
-
--- one atom more
-pub with_atom_has : (atoms : List ℕ) (atom other : ℕ) → has_atom (with_atom atoms atom) other ≡ (has_atom atoms other || (other == atom))
-with_atom_has atoms atom other = by (has_atom atoms atom) refl
-  where
-    by : (b : Bool) → has_atom atoms atom ≡ b → has_atom (if b then atoms else (atoms ++ atom ∷ [])) other ≡ (has_atom atoms other || (other == atom))
-    by true there = or_same (has_atom atoms other) (other == atom) (λ same. ap (has_atom atoms) (eqb-true other atom same) ∙ there)
-    by false new = list_any-append (λ one. other == one) atoms (atom ∷ []) ∙ ap (λ b. has_atom atoms other || b) (or-false (other == atom))
 
 -- the atoms that are set decide
 pub settled_is : (pattern : List Bool) (added : ℕ → Bool) (changes : List Placed) → ((atom : ℕ) → added atom ≡ is_added_in pattern changes atom) → settled_by pattern added changes ≡ settled pattern changes

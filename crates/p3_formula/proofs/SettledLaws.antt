@@ -79,10 +79,6 @@ pub ruleset see_laws = (append-nil, new_atom)
 
 -- ---- all of a list
 
-all_weaker : {A : Type 0} (p q : A → Bool) (weaker : (x : A) → p x ≡ true → q x ≡ true) (xs : List A) → list_all p xs ≡ true → list_all q xs ≡ true
-all_weaker p q weaker [] all = refl
-all_weaker p q weaker (x ∷ xs) all = and_from (q x) _ (weaker x (and_parts (p x) _ all).0) (all_weaker p q weaker xs (and_parts (p x) _ all).1)
-
 all_flat : {A B : Type 0} (p : A → Bool) (q : B → Bool) (f : A → List B) (each : (x : A) → p x ≡ true → list_all q (f x) ≡ true) (xs : List A) → list_all p xs ≡ true → list_all q (flat_map f xs) ≡ true
 all_flat p q f each [] all = refl
 all_flat p q f each (x ∷ xs) all =

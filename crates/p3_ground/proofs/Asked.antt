@@ -46,12 +46,6 @@ module _ (T : Task) (G : GroundTask) where
   those_are_asked (step ∷ plan) [] all e = absurd e
   those_are_asked (step ∷ plan) (number ∷ numbers) all (e, es) = ((e, All-head (LeftOutAt T G) number numbers all), those_are_asked plan numbers (All-tail (LeftOutAt T G) number numbers all) es)
 
-  pub asked_have_numbers : (plan : Plan) (numbers : GroundPlan) → AreAsked T G plan numbers → AreNumbers T plan numbers
-  asked_have_numbers [] [] e = tt
-  asked_have_numbers [] (number ∷ numbers) e = absurd e
-  asked_have_numbers (step ∷ plan) [] e = absurd e
-  asked_have_numbers (step ∷ plan) (number ∷ numbers) (e, es) = (e.0, asked_have_numbers plan numbers es)
-
   -- what is there is not left out
   there_at : (number : ℕ) (made : GroundStep) → step_of G number ≡ Some made → LeftOutAt T G number
   there_at number made found step has out s reached = absurd (let wrong : Some made ≡ None = sym found ∙ out in cc)

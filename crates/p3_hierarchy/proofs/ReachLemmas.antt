@@ -111,9 +111,6 @@ module _ (pairs : List (Name × Name)) (names : List Name) (place : ℕ) where
       let top = each.each (get_or reaches place d).least (omega (arith, earlier, long)) in
       record { before = omega (arith, top.before, earlier); chain = chained top.chain (reached.reached place d (omega arith) within).least_chain }
 
-  pub top-itself : IsTop pairs names place place
-  top-itself = record { before = omega arith; chain = none _ }
-
   pub span-found : (top end least most : ℕ) → IsReached pairs names top end least most → IsTop pairs names place top → place < end → top ≤ least → most < end → IsSpan pairs names place top end
   span-found top end least most reached is_top within first last = record {
     within = reached.within;
@@ -204,9 +201,6 @@ pub lows-next : (pairs : List (Name × Name)) (names : List Name) (high : Name) 
 lows-next pairs names high from lows is at = All-weaker (λ low. Contains pairs (low.now, high)) (λ low. IsNext pairs names low.now from)
     (λ low here. record { within = λ below. at.within; led = λ below. subst (λ one. Contains pairs (low.now, one)) (sym at.is) here }) lows (lows-listed pairs high lows is)
 
-pub reached-none : (pairs : List (Name × Name)) (names : List Name) (reaches : List Reach) → length reaches ≡ length names → AreReached pairs names (length names) reaches
-reached-none pairs names reaches long = record { long = long; reached = λ k d from upto. absurd (omega (arith, from, upto)) }
-
 pub tops-more : (pairs : List (Name × Name)) (names : List Name) (tops : List ℕ) (top : ℕ) → AreTops pairs names tops → IsTop pairs names (length tops) top → AreTops pairs names (tops ++ top ∷ [])
 tops-more pairs names tops top before is_top = record {
   each = λ place within. ⊎_elim
@@ -221,9 +215,6 @@ get-push [] y x zero at = inr (refl, Some-injective y x at)
 get-push [] y x (suc k) at = absurd (cc)
 get-push (z ∷ xs) y x zero at = inl at
 get-push (z ∷ xs) y x (suc k) at = ⊎_elim (λ here. inl here) (λ (is, same). inr (ap (λ n. suc n) is, same)) (get-push xs y x k at)
-
-pub spans-none : (pairs : List (Name × Name)) (names : List Name) → AreSpans pairs names []
-spans-none pairs names = record { each = λ place span at. absurd (cc) }
 
 pub spans-more : (pairs : List (Name × Name)) (names : List Name) (spans : List (Option Span)) (one : Option Span) → AreSpans pairs names spans
     → IfSome one (λ span. IsSpan pairs names (length spans) span.first span.end) → AreSpans pairs names (spans ++ one ∷ [])

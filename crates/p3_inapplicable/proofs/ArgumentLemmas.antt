@@ -1,8 +1,8 @@
 -- Faults of arguments: where there is one, and that it is found by number.
-use Rattle.std.proofs.Common.{arith, ◌≡◌, ◌∙◌, ℕ, ◌+◌, ◌<◌, ◌≤◌, ◌==◌, Bool, true, false, not, ◌&&◌, if◌then◌else◌, List, [], ◌∷◌, length, drop, get_or, Option, Some, None, is_some, refl, sym, ap, suc}
+use Rattle.std.proofs.Common.{arith, ◌≡◌, ◌∙◌, ℕ, ◌+◌, ◌<◌, ◌≤◌, ◌==◌, Bool, true, false, not, ◌&&◌, if◌then◌else◌, List, [], ◌∷◌, length, drop, get_or, Option, Some, is_some, refl, sym, ap, suc}
 use Rattle.std.proofs.lemmas.Bool.{and_parts, true≢false}
 use Rattle.std.proofs.lemmas.Bool.Decides.{Decides-eqb}
-use Rattle.std.proofs.lemmas.List.{drop_all, drop_more}
+use Rattle.std.proofs.lemmas.List.{drop_more}
 use Rattle.p3_task.specs.Bindings.{are_arguments}
 use Rattle.p3_task.specs.Names.{Name, has_name}
 use Rattle.p3_task.specs.Types.{objects}
@@ -93,6 +93,3 @@ module _ (N : Numbers) (parameters : List Typed) (ranges : List ℕ) (args : Lis
   one-more fits is =
       (λ i. first_other_by N (k + 1) (first-left parameters k parameter parameter stands.parameter_within stands.parameter_is i) (first-left ranges k range 0 stands.range_within stands.range_is i) (first-left args k arg arg stands.arg_within stands.arg_is i))
       ∙ ap (λ fits. if fits then left N parameters ranges args (k + 1) else Some (fault_at (has_name N.objects arg) (k + 1) parameter)) is
-
-pub none-left : (N : Numbers) (parameters : List Typed) (ranges : List ℕ) (args : List Name) (k : ℕ) → length parameters ≤ k → left N parameters ranges args k ≡ None
-none-left N parameters ranges args k past = ap (λ rest. first_other_by N (k + 1) rest (drop k ranges) (drop k args)) (drop_all k parameters past)

@@ -113,16 +113,6 @@ pub ruleset missing_laws = (missing-All, missing-Cost, missing-Add, missing-Del,
 
 -- ---- one of the parts more
 
-pub first-none-more : {A B : Type 0} (see : A → Option B) (x : A) (xs : List A) → see x ≡ None → first_of see (x ∷ xs) ≡ first_of see xs
-first-none-more see x xs none = first-cons (see x) (filter_map see xs) ∙ ap (λ here. option_or here (first_of see xs)) none
-
-pub first-some-here : {A B : Type 0} (see : A → Option B) (x : A) (xs : List A) → is_some (see x) ≡ true → first_of see (x ∷ xs) ≡ see x
-first-some-here see x xs some = first-cons (see x) (filter_map see xs) ∙ by (see x) some
-  where
-    by : (here : Option _) → is_some here ≡ true → option_or here (first_of see xs) ≡ here
-    by None some = absurd (cc)
-    by (Some y) some = refl
-
 -- ---- by number
 
 mapped-if : {A B : Type 0} (f : A → B) (given : Bool) (x : A) → option_map f (if given then None else Some x) ≡ (if given then None else Some (f x))

@@ -50,9 +50,6 @@ shape_kept G next state groups shape reader is = record { count = length-set gro
     by (inr other) = ap length (get_or-set_other groups reader.group group (later (modal_at G reader) next state groups reader) _ other) ∙ shape.places group
 
 module _ (G : GroundTask) (state : State) (groups : List (List Mark)) (can : CanMark G groups) (reader : OperatorReader) (is : IsReader G reader) where
-  pub group_within : reader.group < length groups
-  group_within = let g = is.group in let s = can.shape.count in omega (arith, g, s)
-
   pub place_within : reader.place < length (group_at groups reader.group)
   place_within = let p = is.place in let s = can.shape.places reader.group in omega (arith, p, s)
 

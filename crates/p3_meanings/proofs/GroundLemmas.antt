@@ -1,17 +1,12 @@
 -- Some ground task stands for a task where its atoms are those over which the task is expanded.
 use Rattle.std.proofs.Common.{◌≡◌, ◌<◌, ◌≤◌, ℕ, List, None, length, refl, subst}
-use Rattle.std.specs.List.{All}
-use Rattle.std.proofs.lemmas.List.Elements.{All-weaker}
-use Rattle.std.proofs.lemmas.Option.{slice_get_within}
 use Rattle.p3_task.specs.Constraints.{instances}
 use Rattle.p3_task.specs.Costs.{cost_places, initial_cost}
 use Rattle.p3_task.specs.Lifting.{steps}
 use Rattle.p3_task.specs.Limits.{step_count}
 use Rattle.p3_task.specs.Offences.{WellFormed}
 use Rattle.p3_task.specs.Sides.{step_count_limit}
-use Rattle.p3_task.specs.declared.state.Fact.{Fact}
 use Rattle.p3_task.specs.declared.task.Task.{Task}
-use Rattle.p3_formula.specs.declared.task.GroundStep.{GroundStep}
 use Rattle.p3_formula.specs.declared.task.GroundTask.{GroundTask}
 use Rattle.p3_numbers.specs.Tasks.{IsNumberedTask}
 use Rattle.p3_numbers.specs.declared.task.NumberedTask.{NumberedTask}
@@ -23,7 +18,7 @@ use Rattle.p3_steps.specs.Steps.{StepsAreMade}
 use Rattle.p3_ground.specs.Expanded.{IsPutTogether}
 use Rattle.p3_ground.specs.Planned.{AreAllThatMayBegin, wanted_steps}
 use Rattle.p3_ground.specs.Sparse.{IsGroundingOf}
-use Rattle.p3_ground.specs.StandsFor.{SoftStands, StepStands}
+use Rattle.p3_ground.specs.StandsFor.{SoftStands}
 use Rattle.p3_ground.specs.Whole.{HasFewSteps}
 use Rattle.p3_ground.proofs.GroundingLaws.{leaves-out-there}
 use Rattle.p3_ground.proofs.PlannedSteps.{planned-steps-are-all}
@@ -73,12 +68,6 @@ pub few_steps : (T : Task) (X : NumberedTask) → WellFormed T → IsNumberedTas
 few_steps T X well is few = few-by-name T X well is few
 
 -- ---- what a ground task of the task tells of the names
-
-within_steps : (T : Task) (atoms : List Fact) (made : GroundStep) → StepStands T atoms made → made.number < step_count T
-within_steps T atoms made is = slice_get_within (steps T) made.number is.step is.number
-
-pub kept_within : (T : Task) (G : GroundTask) → IsGroundingOf T G → All (λ (step : GroundStep). step.number < step_count T) G.steps
-kept_within T G is = All-weaker (StepStands T is.atoms) (λ (step : GroundStep). step.number < step_count T) (within_steps T is.atoms) G.steps is.stands.kept
 
 pub softs_are_named : (T : Task) (G : GroundTask) → IsGroundingOf T G → AreNamed T G.soft
 softs_are_named T G is = zip-weaker (SoftStands T is.atoms) (HasNumber T) (λ instance soft stands. stands.name) (instances T) G.soft is.stands.soft

@@ -13,7 +13,7 @@ use Rattle.p3_task.specs.Types.{type_names}
 use Rattle.p3_task.specs.Uses.{scope_of}
 use Rattle.std.specs.Prelude.{reverse, is_some, drop}
 use Rattle.std.specs.List.{list_any}
-use Rattle.std.proofs.lemmas.List.{reverse-append, reverse-reverse, get_or-reverse, take-take, take_more, length-reverse, take_all, take-append-drop, take_at, length-drop, drop-map}
+use Rattle.std.proofs.lemmas.List.{reverse-append, reverse-reverse, get_or-reverse, take_more, length-reverse, take_all, take-append-drop, take_at, length-drop, drop-map}
 use Rattle.p3_task.specs.Slots.{place_after, slot_of, words_of}
 use Rattle.p3_names.specs.Scopes.{scope_seen, hidden_after, hidden_by, Indexed}
 
@@ -177,9 +177,6 @@ module _ {E : Type 0} (variable_of : E → Typed) (hidden_of : E → Option ℕ)
 
 -- ---- lists of variables
 
-pub take-less : {A : Type 0} (items new : List A) (count : ℕ) → count < length items → new ≡ take (length items - 1) items → take count new ≡ take count items
-take-less items new count less is = ap (take count) is ∙ take-take count (length items - 1) items (omega (arith, less))
-
 -- a variable more, from the end of a list
 pub enter-more : {A : Type 0} (old now new xs : List A) (k : ℕ) (x : A) → k < length xs → now ≡ old ++ take k (reverse xs) → new ≡ now ++ x ∷ []
     → x ≡ get_or xs (length xs - 1 - k) x → new ≡ old ++ take (k + 1) (reverse xs)
@@ -189,10 +186,6 @@ enter-more old now new xs k x within so_far is read =
 
 pub entered : {A : Type 0} (old now xs : List A) (k : ℕ) → length xs ≤ k → now ≡ old ++ take k (reverse xs) → now ≡ old ++ reverse xs
 entered old now xs k past so_far = so_far ∙ ap (λ more. old ++ more) (take_all k (reverse xs) (omega (arith, past, length-reverse xs)))
-
--- the scope that the variables are, the outermost first
-pub scope_seen-push : (variables : List Typed) (last : Typed) → scope_seen (variables ++ last ∷ []) ≡ (last.name.name, type_names last.types) ∷ scope_seen variables
-scope_seen-push variables last = ap scope_of (reverse-append variables (last ∷ []))
 
 pub scope_seen-enter : (variables more : List Typed) → scope_seen (variables ++ reverse more) ≡ scope_of more ++ scope_seen variables
 scope_seen-enter variables more =

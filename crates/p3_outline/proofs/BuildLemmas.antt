@@ -273,7 +273,3 @@ few_by limit built next token false is = added_few limit built next token is
 
 pub one_node : (limit : ℕ) (built next : Built) (token : Token) → with_token limit built token ≡ Some next → length next.nodes ≤ length built.nodes + 1
 one_node limit built next token is = few_by limit built next token (is_done built) is
-
-pub no_some : {A : Type 0} (o : Option A) → ((a : A) → o ≢ Some a) → o ≡ None
-no_some None not_some = refl
-no_some (Some a) not_some = absurd (not_some a refl)

@@ -171,16 +171,6 @@ module _ (around : Around) (head : Ref) (plain : is_plain around head ≡ true) 
     is_right_in_init = sym (differs may_tell head.name tells_nothing (codes ":init") refl) i;
   }
 
-pub number_word : (is_behind : Bool) (e : Expression) (rest : List Expression) (word : Ref) → word_place e ≡ Some word
-    → not_a_number is_behind (e ∷ rest) ≡ word_when (is_behind && not (same_name word.name (codes "number"))) word ++ not_a_number (same_name word.name (codes "-")) rest
-number_word is_behind (expression.Word at text) rest word is =
-    ap (λ (w : Ref). word_when (is_behind && not (same_name w.name (codes "number"))) w ++ not_a_number (same_name w.name (codes "-")) rest) (Some-injective _ word is)
-number_word is_behind (Group' at shape parts) rest word is = absurd cc
-
-pub number_list : (is_behind : Bool) (e : Expression) (rest : List Expression) → word_place e ≡ None → not_a_number is_behind (e ∷ rest) ≡ not_a_number false rest
-number_list is_behind (expression.Word at text) rest is = absurd cc
-number_list is_behind (Group' at shape parts) rest is = refl
-
 -- ---- lists
 
 pub word_shows : (names : List Name) (innermost : Option Name) (e : Expression) (word : Ref) → word_place e ≡ Some word → constructs names innermost e ≡ total_time word

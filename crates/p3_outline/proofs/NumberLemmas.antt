@@ -113,6 +113,3 @@ pub numbers_more : (side : Side) (role : Role) (found next : Option Refusal) (to
     → numbers_from side role found (before token later) ≡ numbers_from side role next later
 numbers_more side role found next token later is =
     sym (or_more found (long_number side role token) (first_some (map (long_number side role) later.tokens))) ∙ ap (λ o. numbers_from side role o later) (sym is)
-
-pub numbers_end : (found : Option Refusal) → option_or found (first_some []) ≡ found
-numbers_end found = or_none found

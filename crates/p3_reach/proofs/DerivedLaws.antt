@@ -1,10 +1,10 @@
 -- What following the rules finds.
-use Rattle.std.proofs.Common.{◌≡◌, ◌∙◌, ℕ, zero, suc, ◌+◌, ◌-◌, ◌<◌, ◌≤◌, nat_lt, Bool, true, false, not, ◌&&◌, ◌||◌, List, [], ◌∷◌, ◌++◌, length, take, drop, replicate, get_or, set, inl, inr, ⊎_elim, refl, sym, ap, subst, append_assoc, arith}
+use Rattle.std.proofs.Common.{◌≡◌, ◌∙◌, ℕ, zero, suc, ◌+◌, ◌-◌, ◌<◌, ◌≤◌, nat_lt, Bool, true, false, not, ◌&&◌, ◌||◌, List, [], ◌∷◌, ◌++◌, length, take, drop, replicate, get_or, set, ⊎_elim, refl, sym, ap, subst, append_assoc, arith}
 use Rattle.std.specs.Prelude.{All, Contains}
 use Rattle.std.specs.List.{list_all}
-use Rattle.std.proofs.lemmas.Bool.{and_parts, and_from, ltb-true, cases_eq, cases_lt, false≢true}
-use Rattle.std.proofs.lemmas.List.{append-nil, length-append, length-set, length-replicate, length-take-le, get_or-replicate, get_or-set_same, get_or-set_other, get_or_past, get_or_default, set_at, take_more, take_all, take-append-le, take-append-drop}
-use Rattle.std.proofs.lemmas.List.Elements.{All-nil, All-push, All-weaker, All-contains, All-contains_itself, Contains-append_left, Contains-push, Contains-push_cases}
+use Rattle.std.proofs.lemmas.Bool.{and_parts, and_from, ltb-true, cases_eq, false≢true}
+use Rattle.std.proofs.lemmas.List.{append-nil, length-append, length-set, length-take-le, get_or-set_same, get_or-set_other, get_or_default, set_at, take_more, take_all, take-append-le, take-append-drop}
+use Rattle.std.proofs.lemmas.List.Elements.{All-push, All-weaker, All-contains, All-contains_itself, Contains-append_left, Contains-push, Contains-push_cases}
 use Rattle.std.proofs.lemmas.List.Folds.{list_all_more}
 use Rattle.std.proofs.lemmas.List.Sums.{AllPass-from_list_all, list_all-from_AllPass}
 use Rattle.p3_formula.specs.Forms.{State, is_set}
@@ -77,16 +77,6 @@ adds_new proposition old new within listed held order = record {
 pub ruleset adds_laws = (adds_known, adds_new)
 
 -- ---- rules that are followed
-
-pub follows_nothing : (found : Derived) → IsListed found → Follows [] found found
-follows_nothing found listed = record {
-  size = refl;
-  grows = λ n has. has;
-  order = continues_itself found.order;
-  listed = listed;
-  all_fire = refl;
-  least = λ bound kept within. within;
-}
 
 fires_grow : (old mid new : State) (rules : List Rule) → IsWithin mid new → list_all (fires old mid) rules ≡ true → list_all (fires old new) rules ≡ true
 fires_grow old mid new [] grows fired = refl
@@ -188,36 +178,6 @@ module _ (facts : List Bool) (at : ℕ) (found : Derived) (so_far : IsFactsUpTo 
     listed = adds.listed;
   }
 
-  pub facts_inside : at < length found.held
-  facts_inside =
-      let long = ap length held_now in
-      let parts = length-append (take at facts) (false ∷ replicate (length facts - (at + 1)) false) in
-      let front = length-take-le at facts (omega arith) in
-      omega (arith, long, parts, front)
-
-pub facts_all : (facts : List Bool) (found : Derived) (count : ℕ) → length facts ≤ count → IsFactsUpTo count facts found → found.held ≡ facts
-facts_all facts found count all so_far =
-    let none : length facts - count ≡ 0 = omega arith in
-    so_far.held ∙ ap (λ n. take count facts ++ replicate n false) none ∙ append-nil (take count facts) ∙ take_all count facts all
-
-pub facts_none : (facts : List Bool) (found : Derived) → found.held ≡ replicate (length facts) false → found.order ≡ [] → IsFactsUpTo 0 facts found
-facts_none facts found held order = record {
-  held = held ∙ ap (λ n. replicate n false) whole;
-  listed = record {
-    stands = λ n has. absurd (none (length facts) n (sym (ap (λ list. is_set list n) held) ∙ has));
-    holds = subst (All (λ n. is_set found.held n ≡ true)) (sym order) (All-nil (λ n. is_set found.held n ≡ true));
-  };
-}
-  where
-    whole : length facts ≡ length facts - 0
-    whole = omega arith
-
-    none : (count n : ℕ) → is_set (replicate count false) n ≡ true → ⊥
-    none count n has = elim (cases_lt n count) as (λ _. ⊥) [
-      | inl l ↦ false≢true (sym (get_or-replicate count n false false l) ∙ has)
-      | inr g ↦ false≢true (sym (get_or_past (replicate count false) n false (subst (λ k. k ≤ n) (sym (length-replicate count false)) g)) ∙ has)
-    ]
-
 -- ---- files
 
 module _ (files : List (List Rule)) (at : ℕ) (rule : Rule) (within : at < length files) where
@@ -243,19 +203,6 @@ module _ (files : List (List Rule)) (at : ℕ) (rule : Rule) (within : at < leng
       (subst (All P) (sym there) (All-push P (file_of files at) rule (subst (λ n. All P (file_of files n)) same all) here)))
       (λ differ. subst (All P) (sym (elsewhere other differ)) all)
       (cases_eq other at)
-
-pub filed_none : (count : ℕ) → AreFiled [] (replicate count [])
-filed_none count = record {
-  at_first = λ rule (k, within, is). absurd (omega arith);
-  at_second = λ rule (k, within, is). absurd (omega arith);
-  among = λ n. subst (All (Contains [])) (sym (nothing n)) (All-nil (Contains []));
-}
-  where
-    nothing : (n : ℕ) → file_of (replicate count []) n ≡ []
-    nothing n = elim (cases_lt n count) as (λ _. file_of (replicate count []) n ≡ []) [
-      | inl l ↦ get_or-replicate count n [] [] l
-      | inr g ↦ get_or_past (replicate count []) n [] (subst (λ k. k ≤ n) (sym (length-replicate count [])) g)
-    ]
 
 -- one rule more goes into the files of its premises
 module _ (rules : List Rule) (at : ℕ) (rule : Rule) (within : at < length rules) (is : rule ≡ get_or rules at rule) (files mid new : List (List Rule))
@@ -321,16 +268,6 @@ pub file_read : (theory : Theory) (files : List (List Rule)) (at : ℕ) (found :
 file_read theory files at found order file so_far size same within is =
     let inside = order_within theory at at 0 found so_far within in
     is ∙ ap (λ list. get_or files (get_or list at 0) file) same ∙ get_or_default files (get_or found.order at 0) file [] (omega (arith, inside, size))
-
-pub followed_none : (theory : Theory) (found : Derived) → found.held ≡ theory.facts → IsListed found → IsFollowed theory 0 found
-followed_none theory found held listed = record {
-  size = ap length held;
-  has_facts = λ n has. ap (λ list. is_set list n) held ∙ has;
-  least = λ bound model n has. model.has_facts n (sym (ap (λ list. is_set list n) held) ∙ has);
-  listed = listed;
-  reached = omega arith;
-  done = λ rule known (k, within, is) second. absurd (omega arith);
-}
 
 module _ (theory : Theory) (files : List (List Rule)) (filed : AreFiled theory.rules files) (at proposition : ℕ) (found new : Derived) (so_far : IsFollowed theory at found)
     (within : at < length found.order) (is : proposition ≡ get_or found.order at proposition) (follows : Follows (file_of files proposition) found new) where

@@ -13,15 +13,6 @@ use Rattle.p3_reach.specs.declared.rules.Theory.{Theory}
 
 -- ---- laws
 
--- a law that holds of every set is said by saying nothing
-pub says_nothing : (law : State → Bool) (theory : Theory) → ((set : State) → law set ≡ true) → Says law theory theory
-says_nothing law theory holds = record {
-  same_atoms = refl;
-  grows = omega arith;
-  says = λ set model. (model, holds set);
-  adds = λ set size model kept. record { more = []; size = ap length (append-nil set) ∙ size; model = subst (IsModel theory) (sym (append-nil set)) model };
-}
-
 pub says_alike : (law other : State → Bool) (old new : Theory) → ((set : State) → law set ≡ other set) → Says law old new → Says other old new
 says_alike law other old new same said = record {
   same_atoms = said.same_atoms;

@@ -1,9 +1,8 @@
 -- Rules stay below the count of propositions.
-use Rattle.std.proofs.Common.{◌≡◌, ◌∙◌, ℕ, ◌≤◌, nat_lt, Bool, true, ◌&&◌, List, [], ◌∷◌, ◌++◌, length, Result, Ok, Err, ◌⊎◌, inl, inr, refl, arith}
+use Rattle.std.proofs.Common.{◌≡◌, ◌∙◌, ℕ, ◌≤◌, nat_lt, true, ◌&&◌, List, [], ◌∷◌, ◌++◌, Result, Ok, Err, ◌⊎◌, inl, inr, refl, arith}
 use Rattle.std.specs.Prelude.{OnOk, OnErr}
 use Rattle.std.specs.List.{list_all}
 use Rattle.std.proofs.lemmas.Bool.{and_parts, and_from, ltb-true, lt-ltb}
-use Rattle.std.proofs.lemmas.List.{length_push}
 use Rattle.std.proofs.lemmas.List.Folds.{list_all-append}
 use Rattle.p3_reach.specs.Rules.{is_rule_below}
 use Rattle.p3_reach.specs.declared.rules.Rule.{Rule}
@@ -22,9 +21,6 @@ rules_below_more count more [] room below = refl
 rules_below_more count more (rule ∷ rules) room below =
     let parts = and_parts (is_rule_below count rule) _ below in
     and_from _ _ (rule_below_more count more rule room parts.0) (rules_below_more count more rules room parts.1)
-
-pub rules_within_more : (facts : List Bool) (fact : Bool) (rules : List Rule) → list_all (is_rule_below (length facts)) rules ≡ true → list_all (is_rule_below (length (facts ++ fact ∷ []))) rules ≡ true
-rules_within_more facts fact rules below = rules_below_more (length facts) _ rules (omega (arith, length_push facts fact)) below
 
 pub rules_within_push : (count : ℕ) (rules : List Rule) (rule : Rule) → list_all (is_rule_below count) rules ≡ true → is_rule_below count rule ≡ true → list_all (is_rule_below count) (rules ++ rule ∷ []) ≡ true
 rules_within_push count rules rule below one = list_all-append (is_rule_below count) rules (rule ∷ []) ∙ and_from _ _ below (and_from _ _ one refl)

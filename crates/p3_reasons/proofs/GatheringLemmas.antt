@@ -42,9 +42,6 @@ pub record Begun (every : Bool) (passed : List Outcome) (gathered : List Gathere
   pub none : find (settling every) passed ≡ None
   pub atoms : flat_map atoms_of gathered ≡ flat_map (λ (part : Outcome). part.atoms) passed
 
-pub begun-none : (every : Bool) → Begun every [] []
-begun-none every = record { none = refl; atoms = refl }
-
 found-none : (every holds : Bool) (part : Outcome) → part.holds ≡ holds → settles every holds ≡ false → find (settling every) (part ∷ []) ≡ None
 found-none true true part is unsettled = rw is refl
 found-none true false part is unsettled = absurd (cc)

@@ -7,7 +7,7 @@ use Rattle.p3_formula.specs.Nodes.{form_of, node_form, Grows}
 use Rattle.p3_formula.specs.declared.form.Change.{Change}
 use Rattle.p3_formula.specs.declared.form.Form.{Form}
 use Rattle.p3_formula.specs.declared.node.Node.{Node}
-use Rattle.p3_formula.proofs.NodeLemmas.{grows-refl, grows-trans, form-grows, take-next}
+use Rattle.p3_formula.proofs.NodeLemmas.{grows-trans, form-grows, take-next}
 use Rattle.p3_regress.specs.Memory.{answer_of, IsAnswer, AreRight, GoesOn, Regression, Extends}
 use Rattle.p3_regress.specs.Regressed.{IsTrueBefore, HasAtomsOfBoth, regressed}
 use Rattle.p3_regress.proofs.RegressedLaws.{sorted_truth, sorted_atoms}
@@ -30,9 +30,6 @@ module _ {changes : List Change} where
           stands = form-grows old new before grows answer.within ∙ answer.stands ∙ ap (regressed changes) (sym (form-grows old new number grows answer.given));
         };
   }
-
-  pub goes_on_same : (nodes : List Node) (answers : List (Option ℕ)) → AreRight changes nodes answers → GoesOn changes nodes nodes answers answers
-  goes_on_same nodes answers right = record { grows = grows-refl nodes; right = right; keeps = λ number before is. is }
 
   pub goes_on_grows : (old new : List Node) (answers : List (Option ℕ)) → Grows old new → AreRight changes old answers → GoesOn changes old new answers answers
   goes_on_grows old new answers grows right = record { grows = grows; right = right_grows old new answers grows right; keeps = λ number before is. is }
@@ -118,9 +115,6 @@ answered_atoms effects sorted same {old} goes number before within is =
     subst (HasAtomsOfBoth effects (form_of old number)) (sym (answered_stands goes number before within is)) (sorted_atoms effects sorted same (form_of old number))
 
 -- ---- what contracts see
-
-pub extends_refl : (all : Regression) → Extends all all
-extends_refl all = record { effects = refl; grows = grows-refl all.table; keeps = λ number before is. is }
 
 pub extends_trans : {first second third : Regression} → Extends first second → Extends second third → Extends first third
 extends_trans {first} {second} {third} a b = record {

@@ -133,6 +133,3 @@ pub adds-value : (old new : List (List Name)) (key : List Name) (function : Ref)
     → AddsKey old key new → AddsValue old (init.Value function args number) new
 adds-value old new key function args number is adds = λ name objects.
     adds (name ∷ objects) ∙ (λ i. list_any (same_names (name ∷ objects)) old || (ap (same_names (name ∷ objects)) is ∙ names-swap (name ∷ objects) (function.name ∷ meanings [] args)) i)
-
-pub adds-no-value : (old : List (List Name)) (entry : Init) → ((name : Name) (objects : List Name) → is_given_by name objects entry ≡ false) → AddsValue old entry old
-adds-no-value old entry none = λ name objects. sym (or-false (list_any (same_names (name ∷ objects)) old)) ∙ ap (λ told. list_any (same_names (name ∷ objects)) old || told) (sym (none name objects))

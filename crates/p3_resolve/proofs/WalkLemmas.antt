@@ -21,10 +21,6 @@ pub fold-append : {A B : Type 0} (f : B → A → B) (b : B) (xs ys : List A) �
 fold-append f b [] ys = refl
 fold-append f b (x ∷ xs) ys = fold-append f (f b x) xs ys
 
-pub fold-each : {A B C : Type 0} (f : C → B → C) (g : A → List B) (c : C) (xs : List A) → fold f c (flat_map g xs) ≡ fold (λ c x. fold f c (g x)) c xs
-fold-each f g c [] = refl
-fold-each f g c (x ∷ xs) = fold-append f c (g x) (flat_map g xs) ∙ fold-each f g (fold f c (g x)) xs
-
 abbrev keep : Ref → Ref → Ref
 keep least other = if nat_lt other.at least.at then other else least
 

@@ -1,13 +1,12 @@
 -- Where an operator is filed with each of its atoms, it stands with each atom that it reads.
 use Rattle.std.proofs.Common.{◌≡◌, ◌∙◌, ◌≢◌, ℕ, zero, suc, ◌+◌, ◌<◌, ◌≤◌, ◌==◌, Bool, true, false, ◌||◌, List, [], ◌∷◌, ◌++◌, length, refl, sym, ap, subst, arith, length-set, ◌-◌}
-use Rattle.std.specs.Prelude.{◌⊎◌, replicate, slice_get, if◌then◌else◌}
+use Rattle.std.specs.Prelude.{◌⊎◌, slice_get, if◌then◌else◌}
 use Rattle.std.specs.List.{All, list_any, list_all}
 use Rattle.std.proofs.lemmas.Bool.{cases_eq, cases_lt, or_left, or_right, or_cases, eqb-true, and_from}
-use Rattle.std.proofs.lemmas.List.{length-replicate, get_or-set_same, get_or-set_other, set_past, get_or-replicate}
-use Rattle.std.proofs.lemmas.List.Elements.{All-append, All-nil}
+use Rattle.std.proofs.lemmas.List.{get_or-set_same, get_or-set_other, set_past}
+use Rattle.std.proofs.lemmas.List.Elements.{All-append}
 use Rattle.std.proofs.lemmas.List.Folds.{list_any-append, list_all-map}
 use Rattle.std.proofs.lemmas.List.Sums.{AllPass-from_list_all}
-use Rattle.std.proofs.Math.ListN.{get_or-eq_default}
 use mathlib.Core.Logic.{inl, inr, ⊎_elim}
 use Rattle.p3_formula.specs.Conditions.{HasAtomsBelow}
 use Rattle.p3_formula.specs.Modals.{is_modal_below, IsModalBelow}
@@ -18,7 +17,7 @@ use Rattle.p3_formula.specs.declared.task.GroundTask.{GroundTask}
 use Rattle.p3_formula.proofs.ReadAtoms.{read_below, same_number}
 use Rattle.p3_run.specs.Groups.{AreModalsBelow, modals_of, modals_at, modal_at, IsReader}
 use Rattle.p3_formula.specs.AtomLists.{modal_atoms}
-use Rattle.p3_run.specs.Readers.{readers_at, filed, filed_all, is_same, IsFiled, IsBefore, AreFiledTo, AreReaders, is_same_by, ends, with_reader}
+use Rattle.p3_run.specs.Readers.{readers_at, filed, filed_all, is_same, IsFiled, IsBefore, AreFiledTo, is_same_by, ends, with_reader}
 use Rattle.p3_run.specs.declared.readers.OperatorReader.{OperatorReader}
 use Rattle.p3_formula.proofs.AtomLists.{read_named}
 
@@ -165,42 +164,3 @@ module _ (G : GroundTask) (below : HasAtomsBelow G) where
         by : (other.place ≡ reader.place) ⊎ (other.place ≡ reader.place → ⊥) → IsFiled G (filed_all reader readers (modal_atoms (modal_at G reader))) other
         by (inl place) = subst (IsFiled G (filed_all reader readers (modal_atoms (modal_at G reader)))) (sym (same_reader other reader group place)) this
         by (inr apart) = earlier other has (inr (group, omega (arith, below_it, apart)))
-
-  pub filed_group : (readers : List (List OperatorReader)) (group : ℕ) → AreFiledTo G group (length (modals_at G group)) readers → AreFiledTo G (group + 1) 0 readers
-  filed_group readers group to = record {
-    atoms = to.atoms;
-    within = to.within;
-    filed = filed_now;
-  }
-    where
-      filed_now : (other : OperatorReader) → IsReader G other → IsBefore (group + 1) 0 other → IsFiled G readers other
-      filed_now other has (inr (same, none)) = absurd (omega (arith, none))
-      filed_now other has (inl lower) = by (cases_eq other.group group) where
-        by : (other.group ≡ group) ⊎ (other.group ≡ group → ⊥) → IsFiled G readers other
-        by (inl same) = to.filed other has (inr (same, subst (λ g. other.place < length (modals_at G g)) same has.place))
-        by (inr apart) = to.filed other has (inl (omega (arith, lower, apart)))
-
--- ---- from no operator to all
-
-module _ (G : GroundTask) where
-  pub filed_none : AreFiledTo G 0 0 (replicate G.atoms [])
-  filed_none = record {
-    atoms = length-replicate G.atoms [];
-    within = λ atom. subst (All (IsReader G)) (sym (empty atom)) (All-nil (IsReader G));
-    filed = λ reader is before. absurd (none reader before);
-  }
-    where
-      empty : (atom : ℕ) → readers_at (replicate G.atoms []) atom ≡ []
-      empty atom = ⊎_elim (λ lt. get_or-replicate G.atoms atom [] [] lt)
-          (λ ge. get_or-eq_default (replicate G.atoms []) [] (let l = length-replicate {A = List OperatorReader} G.atoms [] in omega (arith, l, ge))) (cases_lt atom G.atoms)
-
-      none : (reader : OperatorReader) → IsBefore 0 0 reader → ⊥
-      none reader (inl lower) = omega (arith, lower)
-      none reader (inr (same, lower)) = omega (arith, lower)
-
-  pub filed_all_groups : (readers : List (List OperatorReader)) (count : ℕ) → count ≡ length (modals_of G) → AreFiledTo G count 0 readers → AreReaders G readers
-  filed_all_groups readers count all to = record {
-    atoms = to.atoms;
-    within = to.within;
-    filed = λ reader is. to.filed reader is (inl (omega (arith, all, is.group)));
-  }

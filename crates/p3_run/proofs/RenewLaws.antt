@@ -13,10 +13,10 @@ use Rattle.p3_formula.specs.Weighted.{HasNameBelow}
 use Rattle.p3_formula.specs.declared.modal.GroundSoft.{GroundSoft}
 use Rattle.p3_formula.specs.declared.task.GroundTask.{GroundTask}
 use Rattle.p3_run.specs.Groups.{Watch, is_met, modals_of, modals_at, modal_at, watch_at, later, renewed_at, IsReader, HasShape, CanRenew}
-use Rattle.p3_run.specs.Tallies.{Counted, recounted, CanAdd, CanRemove}
+use Rattle.p3_run.specs.Tallies.{Counted, recounted, CanAdd}
 use Rattle.p3_run.specs.declared.readers.OperatorReader.{OperatorReader}
 use Rattle.p3_run.proofs.ReaderLaws.{modal_below}
-use Rattle.p3_run.proofs.TallyLaws.{can_add, can_remove, recount_law}
+use Rattle.p3_run.proofs.TallyLaws.{can_add, recount_law}
 
 pub few_groups : (G : GroundTask) → length G.soft ≤ instance_limit → length (modals_of G) ≤ instance_limit + 1
 few_groups G few = let l : length (map (λ (soft : GroundSoft). soft.parts) G.soft) ≡ length G.soft = simp length-map in omega (arith, l, few)
@@ -62,9 +62,6 @@ module _ (G : GroundTask) (by_name : List ℕ) (state : State) (watches : List W
 
   pub add_fits : All (λ w. w < 2 ^ 64) by_name → is_met watch.stages ≡ true → is_met then_is.stages ≡ false → CanAdd by_name watch.name tally
   add_fits small was now = can_add by_name watches reader.group then_is group_within refl small tally few name_below can.counted was now
-
-  pub remove_fits : All (λ w. w < 2 ^ 64) by_name → is_met watch.stages ≡ false → is_met then_is.stages ≡ true → CanRemove by_name watch.name tally
-  remove_fits small was now = can_remove by_name watches reader.group then_is group_within refl small tally name_below can.counted was now
 
   pub renews : CanRenew G by_name state (renewed_at G state watches reader) (recounted by_name watch.name (is_met watch.stages) (is_met then_is.stages) tally)
   renews = record {

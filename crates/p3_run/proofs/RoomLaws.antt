@@ -9,23 +9,10 @@ use Rattle.p3_formula.specs.Forms.{State, truth}
 use Rattle.p3_formula.specs.Weighted.{HasNameBelow}
 use Rattle.p3_formula.specs.declared.modal.GroundPref.{GroundPref}
 use Rattle.p3_run.specs.Steps.{added_if, HasRoom}
-use Rattle.p3_run.specs.Tallies.{Counted, added, count_at, CanAdd}
+use Rattle.p3_run.specs.Tallies.{Counted, added}
 use Rattle.p3_run.proofs.TallyLaws.{named_small}
 
 module _ (by_name : List ℕ) (small : All (λ w. w < 2 ^ 64) by_name) where
-  -- one more can be counted
-  pub can_add_one : (name : Option ℕ) (tally : Counted) → HasNameBelow (length by_name) name → HasRoom by_name 1 tally → CanAdd by_name name tally
-  can_add_one name tally below has = record {
-    named = below;
-    names = has.names;
-    room = room_of name below;
-    worth = let w = named_small by_name small name in let h = has.worth in omega (arith, w, h);
-  }
-    where
-      room_of : (name : Option ℕ) → HasNameBelow (length by_name) name → count_at name tally.counts + 1 < 2 ^ 64
-      room_of None low = omega arith
-      room_of (Some m) low = has.room m 0 (let e = has.names in omega (arith, low, e))
-
   -- less room than there is
   pub less_room : (left more : ℕ) (tally : Counted) → left ≤ more → HasRoom by_name more tally → HasRoom by_name left tally
   less_room left more tally le has = record {

@@ -1,12 +1,12 @@
 -- Counters stay right of one violation more or less, and of a group that is replaced.
 use Rattle.std.proofs.Common.{◌≡◌, ◌∙◌, ℕ, ◌+◌, ◌-◌, ◌*◌, ◌^◌, ◌<◌, ◌≤◌, ◌==◌, Bool, true, false, not, ◌&&◌, cond, List, [], ◌∷◌, ◌++◌, length, get_or, Option, Some, None, Fits, w64, refl, sym, ap, arith, length-set}
-use Rattle.std.specs.Prelude.{slice_set, replicate, IsSome}
+use Rattle.std.specs.Prelude.{slice_set, IsSome}
 use Rattle.std.specs.List.{All}
 use Rattle.std.proofs.Math.Bool.{and-true}
 use Rattle.std.proofs.lemmas.Grind.{get_or_default_zero}
 use Rattle.std.proofs.lemmas.Bool.{cases_eq, cases_lt}
 use Rattle.std.proofs.lemmas.Bool.Decides.{nat_tests}
-use Rattle.std.proofs.lemmas.List.{get_or-set_same, get_or-set_other, get_or-replicate, length-replicate}
+use Rattle.std.proofs.lemmas.List.{get_or-set_same, get_or-set_other}
 use Rattle.std.proofs.lemmas.List.Sums.{sum_by-set, sum_by_push, sum_by-le, count_by-le-length}
 use Rattle.std.proofs.Math.ListN.{get_or-eq_default}
 use mathlib.Core.Logic.{◌⊎◌, inl, inr}
@@ -237,10 +237,3 @@ module _ (by_name : List ℕ) where
         (sym (weight_more watches watch true e ∙ omega arith)) counted
     by false e = tally_like (one_more watches watch e) (sym (weight_more watches watch false e))
         (add_law (λ n. violating n watches) (violating_weight by_name watches) watch.name tally counted below)
-
-  pub tally_none : IsCounted by_name [] (record { counts = replicate (length by_name) 0; worth = 0 })
-  tally_none = record {
-    names = length-replicate (length by_name) 0;
-    counts = λ n lt. get_or-replicate (length by_name) n 0 0 lt;
-    worth = refl;
-  }

@@ -1,9 +1,7 @@
 -- Answers that are noted and taken, and facts that are those behind steps.
 use Rattle.std.proofs.Common.{◌≡◌, ◌∙◌, ◌⊎◌, inl, inr, ℕ, ◌+◌, ◌<◌, ◌≤◌, List, [], ◌∷◌, length, take, get_or, Option, None, Some, refl, sym, ap, arith, zero, suc}
 use Rattle.std.specs.Prelude.{fold, slice_get, slice_set, IfSome}
-use Rattle.std.specs.List.{All}
 use Rattle.std.proofs.lemmas.Grind.{fold-append}
-use Rattle.std.proofs.lemmas.List.{take_all}
 use Rattle.p3_task.proofs.OnceLemmas.{Some-injective}
 use Rattle.p3_formula.proofs.NodeLemmas.{take-next}
 use Rattle.p3_numbers.specs.declared.task.NumberedTask.{NumberedTask}
@@ -17,11 +15,6 @@ use Rattle.p3_scenes.specs.Questions.{answer_to, asked_decided}
 use Rattle.p3_scenes.specs.declared.question.Question.{Question}
 
 -- ---- places
-
-read-at : {A : Type 0} (xs : List A) (k : ℕ) (x : A) → slice_get xs k ≡ Some x → (k < length xs) × (x ≡ get_or xs k x)
-read-at [] k x here = absurd (cc)
-read-at (y ∷ xs) zero x here = (omega arith, sym (Some-injective y x here))
-read-at (y ∷ xs) (suc k) x here = let rest = read-at xs k x here in (omega (arith, rest.0), rest.1)
 
 pub get-at : {A : Type 0} (xs : List A) (k : ℕ) (x : A) → k < length xs → x ≡ get_or xs k x → slice_get xs k ≡ Some x
 get-at [] k x within is = absurd (omega arith)
@@ -42,12 +35,6 @@ set-get (y ∷ xs) (suc i) (suc k) v x here = by (set-get xs i k v x here)
 -- ---- answers
 
 module _ (X : NumberedTask) (steps : List PlacedStep) (questions : List Question) where
-  pub answers-none : (found : List (Option Decision)) → All (λ answer. answer ≡ None) found → AreAnswers X steps questions found
-  answers-none found none place decision question here at =
-      let read = read-at found place (Some decision) here in
-      let absent : Some decision ≡ None = read.1 ∙ none place (Some decision) read.0 in
-      absurd (cc)
-
   pub answers-noted : (found : List (Option Decision)) (place : ℕ) (decision : Decision) (question : Question) → AreAnswers X steps questions found → slice_get questions place ≡ Some question → decision ≡ answer_to X steps question → AreAnswers X steps questions (slice_set found place (Some decision))
   answers-noted found place decision question are asked is k other own here at = by (set-get found place k (Some decision) (Some other) here)
     where
@@ -77,10 +64,6 @@ module _ (X : NumberedTask) (steps : List PlacedStep) where
       let before : truth_of facts ≡ test_after X (take k steps) = λ j atom. behind atom j in
       λ atom. is atom ∙ ap (λ (test : Test). step_test X test step atom) before
       ∙ ap (λ (test : Test). test atom) (sym (fold-append (step_test X) (start_test X) (take k steps) (step ∷ [])) ∙ ap (fold (step_test X) (start_test X)) (take-next steps k step step within here))
-
-  -- no step more
-  pub behind-all : (k to : ℕ) (facts : Truths) → length steps ≤ k → k ≤ to → IsBehind X steps k facts → IsBehind X steps to facts
-  behind-all k to facts past order behind atom = behind atom ∙ ap (λ first. test_after X first atom) (take_all k steps past ∙ sym (take_all to steps (omega (arith, past, order))))
 
   -- what is told of the facts answers a question about their state
   pub answered-behind : (facts : Truths) (question : Question) (decision : Decision) → IsBehind X steps question.state facts → decision ≡ asked_decided X (truth_of facts) question.slots.now question.asked → decision ≡ answer_to X steps question

@@ -1,6 +1,6 @@
 -- What a run answers, by its ground task, where it has done the steps of a plan.
 use Rattle.std.proofs.Common.{◌≡◌, ◌∙◌, ℕ, ◌+◌, ◌<◌, ◌^◌, [], length, refl, sym, ap, subst, arith, Some, pos, ◌+ℤ◌, ◌-ℤ◌}
-use Rattle.std.specs.Prelude.{ℤ, neg_ℤ, slice_get, slice_index_or, IsTrue}
+use Rattle.std.specs.Prelude.{ℤ, neg_ℤ, slice_get, slice_index_or}
 use Rattle.std.specs.Int.RustNames.{unsigned_abs}
 use Rattle.std.proofs.Math.Bool.{Bool-set}
 use Rattle.std.proofs.Math.Logic.{∥∥₁_elim}
@@ -10,7 +10,6 @@ use Rattle.std.proofs.lemmas.Option.{slice_get-get_or}
 use Rattle.p3_base.specs.declared.refusal.Direction.{Direction}
 use Rattle.p3_task.specs.Metrics.{cost, value, violated}
 use Rattle.p3_task.specs.Names.{Name}
-use Rattle.p3_task.specs.Plans.{steps_fit}
 use Rattle.p3_task.specs.PreferenceNames.{ordered_names}
 use Rattle.p3_task.specs.declared.task.Task.{Task}
 use Rattle.p3_task.proofs.StepNumberLaws.{steps_have_numbers}
@@ -18,20 +17,13 @@ use Rattle.p3_formula.specs.GroundPlans.{ground_cost, ground_loss, ground_violat
 use Rattle.p3_formula.specs.declared.target.Weights.{Weights}
 use Rattle.p3_formula.specs.declared.task.GroundTask.{GroundTask}
 use Rattle.p3_run.specs.Runs.{CanBeRun, Ran, ground_metric, ground_total, signed_by}
-use Rattle.p3_eval.specs.Judged.{HasDone}
 use Rattle.p3_eval.specs.Runs.{BelongTogether, IsRun, OfItsPlan}
-use Rattle.p3_eval.specs.Steps.{AreOfPlan, OfSteps}
 use Rattle.p3_eval.specs.declared.grounded.Grounded.{Grounded}
-use Rattle.p3_eval.specs.declared.steps.Steps.{Steps}
 use Rattle.p3_eval.proofs.RunKept.{begun_is_run, can_be_run, told_count, told_total, told_value}
 use Rattle.p3_eval.proofs.RunLaws.{fit_alike}
 use Rattle.p3_eval.proofs.WholeRuns.{grounded_together}
-use Rattle.p3_shares.specs.Sharing.{CanShare, IsRunOfPlan, loss_by}
+use Rattle.p3_shares.specs.Sharing.{CanShare, loss_by}
 use Rattle.p3_shares.proofs.BoundLemmas.{light}
-
--- where there is a plan of these steps, what is so of each such plan is so of one
-pub run_of_steps : (T : Task) (steps : Steps) (before now : Ran) → AreOfPlan T steps → OfSteps T steps (λ plan. HasDone T plan before now) → OfSteps T steps (λ plan. IsTrue (steps_fit T plan)) → IsRunOfPlan T before now
-run_of_steps T steps before now some done fit = record { plan = some.plan; done = done some.plan some.are; fit = fit some.plan some.are }
 
 module _ (grounded : Grounded) (ran : Ran) (can : CanShare grounded ran) where
   abbrev pub T : Task

@@ -1,5 +1,5 @@
 -- Laws of the actions of all steps together.
-use Rattle.std.proofs.Common.{◌≡◌, ◌∙◌, ◌≢◌, ◌⊎◌, inl, inr, ⊎_elim, ℕ, ◌+◌, ◌<◌, ◌≤◌, Bool, true, false, cond, List, [], ◌∷◌, ◌++◌, refl, sym, ap, subst, arith, Option, Some, None, true≢false, append_assoc, append-nil}
+use Rattle.std.proofs.Common.{◌≡◌, ◌∙◌, ◌≢◌, ◌⊎◌, inl, inr, ⊎_elim, ℕ, ◌+◌, ◌<◌, ◌≤◌, Bool, true, false, cond, List, [], ◌∷◌, ◌++◌, refl, sym, ap, subst, arith, Option, Some, None, true≢false}
 use Rattle.std.specs.Prelude.{◌==◌, Contains, is_some, find}
 use Rattle.std.proofs.lemmas.Bool.{cases_eq, eq-eqb, ne_eqb, eqb-true}
 use Rattle.std.proofs.lemmas.List.Elements.{Contains-append_cases, Contains-append_left, Contains-append_right}
@@ -203,26 +203,4 @@ module _ (go first size : ℕ) (behind_go : go < first) (counted : TargetAction 
           let o = owner from to steps all are action member in
           let same = current_is from far steps all action o fits in
           ⊎_elim (λ is. inl is) (λ is. inr (subst (λ c. IsAsking go first size c (after bits action.effects)) same is)) (o.made.gadget.amid_next bits (own_asking o.current same) action o.own fits)
-
-  -- ---- one step more, behind the others
-
-  gadgets_up : (from to : ℕ) (steps : List GroundStep) (all : List TargetAction) → Gadgets from to steps all → from ≤ to
-  gadgets_up from to steps all (NoSteps _) = omega arith
-  gadgets_up from to steps all (Costless _ _ step others rest none are) = gadgets_up from to others rest are
-  gadgets_up from to steps all (OneStep _ current next _ step others actions rest costs owns made are) = let up = goes_up from current next owns in let more = gadgets_up next to others rest are in omega (arith, up, more)
-
-  pub gadgets_more : (from to current next : ℕ) (steps : List GroundStep) (all : List TargetAction) → Gadgets from to steps all → (step : GroundStep) (actions : List TargetAction) → is_some step.cost ≡ true → Owns go first size to current next
-      → IsStepGadget go first size counted weights sources hard monitors step current actions → Gadgets from next (steps ++ step ∷ []) (all ++ actions)
-  gadgets_more from to current next steps all (NoSteps _) step actions costs owns made =
-      subst (Gadgets from next (step ∷ [])) (append-nil actions) (OneStep from current next next step [] actions [] costs owns made (NoSteps next))
-  gadgets_more from to current next steps all (Costless _ _ other others rest none are) step actions costs owns made =
-      Costless from next other (others ++ step ∷ []) (rest ++ actions) none (gadgets_more from to current next others rest are step actions costs owns made)
-  gadgets_more from to current next steps all (OneStep _ mine past _ other others own rest has owned makes are) step actions costs owns made =
-      subst (Gadgets from next (other ∷ (others ++ step ∷ []))) (sym (append_assoc own rest actions))
-      (OneStep from mine past next other (others ++ step ∷ []) own (rest ++ actions) has owned makes (gadgets_more past to current next others rest are step actions costs owns made))
-
-  pub gadgets_skip : (from to : ℕ) (steps : List GroundStep) (all : List TargetAction) → Gadgets from to steps all → (step : GroundStep) → is_some step.cost ≡ false → Gadgets from to (steps ++ step ∷ []) all
-  gadgets_skip from to steps all (NoSteps _) step no_cost = Costless from to step [] [] no_cost (NoSteps from)
-  gadgets_skip from to steps all (Costless _ _ other others rest none are) step no_cost = Costless from to other (others ++ step ∷ []) rest none (gadgets_skip from to others rest are step no_cost)
-  gadgets_skip from to steps all (OneStep _ mine past _ other others own rest has owned makes are) step no_cost =
-      OneStep from mine past to other (others ++ step ∷ []) own rest has owned makes (gadgets_skip past to others rest are step no_cost)
+      -- ---- one step more, behind the others

@@ -260,11 +260,6 @@ taken-more N S goal slots objects first count taken =
     by true = refl
     by false = refl
 
-pub taken-by : (N : Numbers) (S : Statics) (goal : NumberedGoal) (slots objects : List ℕ) (first count : ℕ) (taken before : List ℕ) (may : Bool) → may_take N S goal slots objects count ≡ may
-    → before ≡ taken ++ first_taken N S goal slots objects first count → before ++ (if may then (first + count) ∷ [] else []) ≡ taken ++ first_taken N S goal slots objects first (count + 1)
-taken-by N S goal slots objects first count taken before may is so_far =
-    (λ i. so_far i ++ (if sym is i then (first + count) ∷ [] else [])) ∙ taken-more N S goal slots objects first count taken
-
 -- the choice of no object
 pub none-chosen : (N : Numbers) (S : Statics) (goal : NumberedGoal) (may : Bool) → may_yet_begin N S [] goal ≡ may → (if may then 0 ∷ [] else []) ≡ open_choices N S [] goal
 unfolding choice_count choice

@@ -146,11 +146,4 @@ module _ (places : ℕ) (values : List NumberedValue) (slots : Slots) where
 abbrev pub sum_with : ℕ → Option ℕ → Option ℕ
 sum_with whole left = option_map (λ rest. whole + rest) left
 
-pub sum-more : (whole cost : ℕ) (others : List (Option ℕ)) → sum_with whole (total (Some cost ∷ others)) ≡ sum_with (whole + cost) (total others)
-sum-more whole cost others = by (total others)
-  where
-    by : (left : Option ℕ) → sum_with whole (option_map (λ rest. cost + rest) left) ≡ sum_with (whole + cost) left
-    by None = refl
-    by (Some x) = ap Some (omega arith)
-
 pub ruleset cost_laws = (cost-All, cost-Cost, cost-Add, cost-Del, cost-Each, cost-If)

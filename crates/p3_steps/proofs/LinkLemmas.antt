@@ -1,11 +1,11 @@
 -- What files of facts tell of the newest variable.
-use Rattle.std.proofs.Common.{◌≡◌, ◌∙◌, ℕ, ◌+◌, ◌<◌, ◌≤◌, ◌==◌, nat_lt, Bool, true, false, not, ◌&&◌, ◌||◌, List, [], ◌∷◌, ◌++◌, length, take, get_or, refl, sym, ap, subst, arith, add-one, length-append, ⊎_elim}
-use Rattle.std.specs.Prelude.{slice_set, bytes_eq}
+use Rattle.std.proofs.Common.{◌≡◌, ◌∙◌, ℕ, ◌+◌, ◌<◌, ◌≤◌, ◌==◌, nat_lt, Bool, true, false, not, ◌&&◌, ◌||◌, List, [], ◌∷◌, ◌++◌, length, take, get_or, refl, sym, ap, arith, add-one, length-append, ⊎_elim}
+use Rattle.std.specs.Prelude.{bytes_eq}
 use Rattle.std.specs.List.{list_any, list_all}
 use Rattle.std.proofs.Math.Seq.{get_or-append_seam}
-use Rattle.std.proofs.lemmas.Bool.{and_parts, and_from, or_left, or_right, eqb-true, eq-eqb, ltb-true, false≢true, cases_eq}
-use Rattle.std.proofs.lemmas.List.{get_or_default, get_or-map, get_or-set_same, get_or-set_other, get_or_append_left, length-set}
-use Rattle.std.proofs.lemmas.List.Folds.{list_any-append, list_all_more, list_all_at}
+use Rattle.std.proofs.lemmas.Bool.{and_parts, and_from, eqb-true, eq-eqb, ltb-true, false≢true, cases_eq}
+use Rattle.std.proofs.lemmas.List.{get_or_default, get_or-map, get_or_append_left}
+use Rattle.std.proofs.lemmas.List.Folds.{list_all_more, list_all_at}
 use Rattle.std.proofs.lemmas.Slice.Eq.{bytes_eq-Decides}
 use denote.Ref.{Bor}
 use Rattle.p3_numbers.specs.Slots.{Slots, value_of, values_of}
@@ -86,63 +86,6 @@ module _ (N : Numbers) (object : ℕ) (named : nat_lt object (length N.objects) 
       and_from (is_static S predicate) (list_all (λ one. nat_lt one (length N.objects)) (values_of (slots ++ object ∷ []) args)) parts.0 (values-named args ready parts.1)
 
 -- ---- files
-
-module _ (predicate key place : ℕ) (fact : GroundAtom) (files : List (List ℕ)) where
-  pub files-other : (word_at fact 0 == predicate) ≡ false → Files predicate key place fact files files
-  files-other differs = record { filed = ap (λ is. not is || (not (nat_lt (word_at fact key) (length files)) || list_any (λ one. one == word_at fact place) (file_at files (word_at fact key)))) differs; kept = λ other is. is }
-
-  pub files-past : length files ≤ word_at fact key → Files predicate key place fact files files
-  files-past past = record {
-    filed = or_right (not (word_at fact 0 == predicate)) _ (or_left (not (nat_lt (word_at fact key) (length files))) _ (ap not (not-below (word_at fact key) (length files) past)));
-    kept = λ other is. is;
-  }
-    where
-      not-below : (a b : ℕ) → b ≤ a → nat_lt a b ≡ false
-      not-below a b past = by (nat_lt a b) refl
-        where
-          by : (below : Bool) → nat_lt a b ≡ below → below ≡ false
-          by true is = absurd (let low = ltb-true a b is in omega (arith, low, past))
-          by false is = refl
-
-  pub files-more : (new : List (List ℕ)) → word_at fact key < length files → new ≡ slice_set files (word_at fact key) (file_at files (word_at fact key) ++ word_at fact place ∷ []) → Files predicate key place fact files new
-  files-more new within is = subst (Files predicate key place fact files) (sym is) (record {
-    filed = or_right (not (word_at fact 0 == predicate)) _ (or_right (not (nat_lt number (length longer))) _ (ap (list_any (λ one. one == word_at fact place)) here ∙ found));
-    kept = kept;
-  })
-    where
-      number : ℕ
-      number = word_at fact key
-
-      longer : List (List ℕ)
-      longer = slice_set files (word_at fact key) (file_at files (word_at fact key) ++ word_at fact place ∷ [])
-
-      here : file_at longer number ≡ file_at files number ++ word_at fact place ∷ []
-      here = get_or-set_same files (word_at fact key) (file_at files (word_at fact key) ++ word_at fact place ∷ []) [] within
-
-      found : list_any (λ one. one == word_at fact place) (file_at files number ++ word_at fact place ∷ []) ≡ true
-      found =
-          list_any-append (λ one. one == word_at fact place) (file_at files number) (word_at fact place ∷ [])
-          ∙ or_right (list_any (λ one. one == word_at fact place) (file_at files number)) _ (or_left (word_at fact place == word_at fact place) false (eq-eqb (word_at fact place) (word_at fact place) refl))
-
-      in-file : (other : ℕ) (one : ℕ) → list_any (λ x. x == one) (file_at files other) ≡ true → list_any (λ x. x == one) (file_at longer other) ≡ true
-      in-file other one is = ⊎_elim
-          (λ same. ap (λ n. list_any (λ x. x == one) (file_at longer n)) same ∙ ap (list_any (λ x. x == one)) here
-          ∙ list_any-append (λ x. x == one) (file_at files number) (word_at fact place ∷ [])
-          ∙ or_left (list_any (λ x. x == one) (file_at files number)) _ (ap (λ n. list_any (λ x. x == one) (file_at files n)) (sym same) ∙ is))
-          (λ differ. ap (list_any (λ x. x == one)) (get_or-set_other files (word_at fact key) other (file_at files (word_at fact key) ++ word_at fact place ∷ []) [] differ) ∙ is)
-          (cases_eq other number)
-
-      kept : (other : GroundAtom) → is_filed predicate key place files other ≡ true → is_filed predicate key place longer other ≡ true
-      kept other is = by (word_at other 0 == predicate) (nat_lt (word_at other key) (length files)) is refl
-        where
-          size : length longer ≡ length files
-          size = length-set files (word_at fact key) (file_at files (word_at fact key) ++ word_at fact place ∷ [])
-
-          by : (own below : Bool) → (not own || (not below || list_any (λ one. one == word_at other place) (file_at files (word_at other key)))) ≡ true → nat_lt (word_at other key) (length files) ≡ below
-              → (not own || (not (nat_lt (word_at other key) (length longer)) || list_any (λ one. one == word_at other place) (file_at longer (word_at other key)))) ≡ true
-          by false below _ _ = refl
-          by true false _ past = or_left (not (nat_lt (word_at other key) (length longer))) _ (ap (λ n. not (nat_lt (word_at other key) n)) size ∙ ap not past)
-          by true true found _ = or_right (not (nat_lt (word_at other key) (length longer))) _ (in-file (word_at other key) (word_at other place) found)
 
 all-weaker : {A : Type 0} (p q : A → Bool) → ((x : A) → p x ≡ true → q x ≡ true) → (xs : List A) → list_all p xs ≡ true → list_all q xs ≡ true
 all-weaker p q weaker [] is = refl

@@ -6,7 +6,6 @@ use Rattle.p3_task.specs.Names.{Name, has_name}
 use Rattle.p3_task.specs.Grammar.Words.{◌>>=◌, expressions, only}
 use Rattle.p3_task.specs.Grammar.Halves.{Section, at_most_one, half_at, sections_among}
 use Rattle.p3_task.specs.Grammar.Halves as halves
-use Rattle.p3_task.specs.declared.term.Ref.{Ref}
 use Rattle.p3_task.specs.declared.expression.Expression.{Expression, Group'}
 use Rattle.p3_task.specs.declared.expression.Expression.TheVariants as expression
 use Rattle.p3_syntax.specs.Sections.{half_in, half_place}
@@ -31,9 +30,6 @@ among_known keywords (Some sections) next has = by (list_all (λ section. has_na
 
 -- nor need the words of a half
 module _ (kind : Name) (keywords : List Name) where
-  half_with : Ref → List Section → halves.NamedSections
-  half_with name sections = record { name = name; sections = sections }
-
   in_known : (es : List Expression) → IsSome (halves.half_in kind keywords es) → halves.half_in kind keywords es ≡ half_in es
   in_known [] has = refl
   in_known (word ∷ []) has = refl

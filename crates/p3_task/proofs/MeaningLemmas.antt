@@ -1,19 +1,16 @@
 -- What trees mean that are built from a list of parts. At all other forms of trees the definitions compute.
-use Rattle.std.proofs.Common.{◌≡◌, ◌∙◌, ℕ, refl, ap, Bool, ◌||◌, List, [], ◌∷◌, map}
+use Rattle.std.proofs.Common.{◌≡◌, ◌∙◌, refl, ap, Bool, ◌||◌, List, [], ◌∷◌, map}
 use Rattle.std.specs.Prelude.{flat_map}
 use Rattle.std.specs.List.{list_any, list_all}
 use Rattle.std.proofs.lemmas.List.Folds.{list_all-map, flat_map-map}
-use Rattle.p3_task.specs.Names.{Name}
 use Rattle.p3_task.specs.States.{State, Environment}
 use Rattle.p3_task.specs.Formulas.{holds, holds_layer}
 use Rattle.p3_task.specs.Effects.{adds, adds_layer, dels, dels_layer}
 use Rattle.p3_task.specs.Goals.{hard_holds, hard_layer}
 use Rattle.p3_task.specs.Costs.{increases, increases_layer}
 use Rattle.p3_task.specs.Constraints.{hard_modals, hard_modals_layer}
-use Rattle.p3_task.specs.Metrics.{product_of, quantity_layer, quantity}
 use Rattle.p3_task.specs.Uses as uses
-use Rattle.p3_task.specs.Uses.{num_uses}
-use Rattle.p3_task.proofs.FoldLemmas.{fold_formula-And, fold_formula-Or, fold_effect-All, fold_goal-Both, fold_constraint-Both, fold_num-Product}
+use Rattle.p3_task.proofs.FoldLemmas.{fold_formula-And, fold_formula-Or, fold_effect-All, fold_goal-Both, fold_constraint-Both}
 use Rattle.p3_task.specs.declared.formula.Formula.{Formula}
 use Rattle.p3_task.specs.declared.formula.Formula.TheVariants as formula
 use Rattle.p3_task.specs.declared.effect.Effect.{Effect}
@@ -22,7 +19,6 @@ use Rattle.p3_task.specs.declared.goal.PreGoal.{PreGoal}
 use Rattle.p3_task.specs.declared.goal.PreGoal.TheVariants as goal
 use Rattle.p3_task.specs.declared.constraint.Constraint.{Constraint}
 use Rattle.p3_task.specs.declared.constraint.Constraint.TheVariants as constraint
-use Rattle.p3_task.specs.declared.metric.Num.{Num}
 use Rattle.p3_task.specs.declared.metric.Num.TheVariants as num
 use Rattle.p3_task.specs.declared.task.Task.{Task}
 
@@ -59,11 +55,3 @@ module _ (T : Task) (env : Environment) where
 pub increases-All : (parts : List Effect) → increases (effect.All parts) ≡ flat_map increases parts
 unfolding increases
 increases-All parts = fold_effect-All increases_layer parts ∙ flat_map-map (λ found. found) _ parts
-
-pub quantity-Product : (T : Task) (counts : Name → ℕ) (total : ℕ) (at : ℕ) (parts : List Num) → quantity T counts total (num.Product at parts) ≡ product_of (map (quantity T counts total) parts)
-unfolding quantity
-quantity-Product T counts total at parts = fold_num-Product (quantity_layer counts _) at parts
-
-pub num_uses-Product : (at : ℕ) (parts : List Num) → num_uses (num.Product at parts) ≡ flat_map num_uses parts
-unfolding num_uses
-num_uses-Product at parts = fold_num-Product uses.num_layer at parts ∙ flat_map-map (λ found. found) _ parts

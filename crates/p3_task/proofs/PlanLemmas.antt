@@ -1,14 +1,9 @@
 -- A plan walked step by step, for inductions: the definitions range over the whole list of visited states.
 use Rattle.std.proofs.Common.{◌≡◌, ◌∙◌, ℕ, ◌+◌, ◌-◌, suc, refl, ap, Bool, true, ◌&&◌, [], ◌∷◌, length, get_or, arith}
-use Rattle.std.specs.Prelude.{sum_by, unwrap_or}
+use Rattle.std.specs.Prelude.{unwrap_or}
 use Rattle.std.specs.List.{list_all}
-use Rattle.std.proofs.lemmas.List.Sums.{sum_by-cons}
-use Rattle.p3_task.specs.Names.{Name}
 use Rattle.p3_task.specs.States.{State, start}
 use Rattle.p3_task.specs.Plans.{Plan, fits, state_after, step_cost, visited, visited_from, last_state, Move, moves_from, steps_fit}
-use Rattle.p3_task.specs.Costs.{initial_cost}
-use Rattle.p3_task.specs.Constraints.{instances}
-use Rattle.p3_task.specs.Metrics.{false_in, step_prefs, unsatisfied, violated, cost}
 use Rattle.p3_task.specs.declared.task.Task.{Task}
 
 module _ (T : Task) where
@@ -21,11 +16,6 @@ module _ (T : Task) where
   abbrev pub state_from : State → Plan → State
   state_from s [] = s
   state_from s (step ∷ plan) = state_from (state_after T s step) plan
-
-  -- how often the preconditions' preferences of a name are false
-  abbrev pub false_from : Name → State → Plan → ℕ
-  false_from name s [] = 0
-  false_from name s (step ∷ plan) = false_in T s name (step_prefs T step) + false_from name (state_after T s step) plan
 
   -- what the steps cost
   abbrev pub cost_of : Plan → ℕ
@@ -53,21 +43,3 @@ module _ (T : Task) where
   last_state-walk plan =
       let place : length (visited_from T (start T) plan) - 1 ≡ length plan = omega (arith, length-visited_from (start T) plan) in
       ap (λ i. get_or (visited_from T (start T) plan) i []) place ∙ at_length (start T) plan
-
-  all_counts : (name : Name) (s : State) (plan : Plan) → sum_by (λ (move : Move). false_in T move.state name (step_prefs T move.step)) (moves_from T s plan) ≡ false_from name s plan
-  all_counts name s [] = refl
-  all_counts name s (step ∷ plan) =
-      sum_by-cons (λ (move : Move). false_in T move.state name (step_prefs T move.step)) (record { state = s; step = step }) (moves_from T (state_after T s step) plan)
-      ∙ ap (λ rest. false_in T s name (step_prefs T step) + rest) (all_counts name (state_after T s step) plan)
-
-  pub violated-walk : (plan : Plan) (name : Name) → violated T plan name ≡ unsatisfied T (visited T plan) name (instances T) + false_from name (start T) plan
-  unfolding violated
-  violated-walk plan name = ap (λ counts. unsatisfied T (visited T plan) name (instances T) + counts) (all_counts name (start T) plan)
-
-  all_costs : (plan : Plan) → sum_by (λ step. unwrap_or (step_cost T step) 0) plan ≡ cost_of plan
-  all_costs [] = refl
-  all_costs (step ∷ plan) = sum_by-cons (λ other. unwrap_or (step_cost T other) 0) step plan ∙ ap (λ rest. unwrap_or (step_cost T step) 0 + rest) (all_costs plan)
-
-  pub cost-walk : (plan : Plan) → cost T plan ≡ initial_cost T + cost_of plan
-  unfolding cost
-  cost-walk plan = ap (λ costs. initial_cost T + costs) (all_costs plan)

@@ -3,24 +3,14 @@ use Rattle.std.proofs.Common.{◌≡◌, ◌∙◌, List, [], ◌∷◌, ◌++�
 use Rattle.std.specs.Prelude.{flat_map, if◌then◌else◌, option_map, option_to_list, slice_get}
 use Rattle.std.proofs.lemmas.List.{length-map}
 use Rattle.std.proofs.Math.Seq.{drop-append_seam}
-use Rattle.p3_numbers.specs.Slots.{Slots}
 use Rattle.p3_numbers.specs.declared.task.NumberedTask.{NumberedTask}
 use Rattle.p3_reasons.specs.declared.decision.Decision.{Decision}
 use Rattle.p3_reasons.specs.declared.visited.PlacedStep.{PlacedStep}
-use Rattle.p3_scenes.specs.Questions.{asked_decided}
-use Rattle.p3_scenes.specs.declared.question.Asked.{Asked}
-use Rattle.p3_scenes.specs.declared.question.Asked.TheVariants.{Condition, HardPart}
-use Rattle.p3_reasons.specs.Outcomes.{Test}
 use Rattle.p3_accounts.specs.declared.state.Shown.TheVariants.{Nowhere, States}
 use Rattle.p3_accounts.specs.declared.state.ShownState.{ShownState}
-use Rattle.p3_unmet.specs.Sketches.{Inquiry, Sketch, decision_in, decisions_of, heading_of, heading_with, headings_with, seen_asked, state_with, states_with, wanted_decision}
+use Rattle.p3_unmet.specs.Sketches.{Inquiry, Sketch, decision_in, decisions_of, heading_of, heading_with, headings_with, state_with, states_with}
 
 -- ---- answers
-
--- what is asked is answered alike without references
-pub asked-seen : (X : NumberedTask) (test : Test) (slots : Slots) (asked : Asked) → asked_decided X test slots asked ≡ wanted_decision X test slots (seen_asked asked)
-asked-seen X test slots (Condition condition) = refl
-asked-seen X test slots (HardPart goal) = refl
 
 -- ---- states
 

@@ -1,9 +1,7 @@
 -- What is answered to a line, by what the line has and what following its step tells.
 use Rattle.std.proofs.Common.{◌≡◌, ◌∙◌, ℕ, ◌+◌, ◌<◌, ◌≤◌, Bool, true, false, List, [], ◌∷◌, ◌++◌, length, get_or, drop, refl, sym, ap, subst, arith, le-ltb, lt-ltb, length-drop, Option, Some, None}
 use Rattle.std.specs.Prelude.{if◌then◌else◌, nat_lt, option_map}
-use Rattle.std.specs.List.{All}
 use Rattle.std.proofs.lemmas.List.{length-take}
-use Rattle.std.proofs.lemmas.List.Elements.{All-contains, All-weaker}
 use Rattle.std.proofs.lemmas.Slice.Zip.{AllZip-long}
 use Rattle.p3_base.specs.declared.refusal.Code.TheVariants.{TooManySteps}
 use Rattle.p3_base.specs.declared.refusal.Refusal.{Refusal}
@@ -11,7 +9,7 @@ use Rattle.p3_task.specs.Plans.{Plan, last_state, visited}
 use Rattle.p3_task.specs.PlanTexts.{IsPlanText, refusal, step_limit}
 use Rattle.p3_task.specs.StepNumbers.{HasNumber}
 use Rattle.p3_task.specs.Validity.{AtStep, Misfit, misfit}
-use Rattle.p3_task.specs.Watching.{LineText, Empty, OneStep, Offends, Piece, Refused, answer_by, answer_to, line_text, tried}
+use Rattle.p3_task.specs.Watching.{LineText, Empty, OneStep, Offends, Refused, answer_by, answer_to, line_text, tried}
 use Rattle.p3_task.specs.declared.task.Step.{Step}
 use Rattle.p3_task.specs.declared.task.Task.{Task}
 use Rattle.p3_plans.specs.Lines.{IsLineStep}
@@ -21,9 +19,7 @@ use Rattle.p3_plans.proofs.PlanLaws.{one_plan_at_most}
 use Rattle.p3_types.specs.Finds.{IsFound}
 use Rattle.p3_types.specs.declared.finding.Found.{Found}
 use Rattle.p3_types.specs.declared.finding.Found.TheVariants as found
-use Rattle.p3_formula.specs.declared.task.GroundTask.{GroundTask}
 use Rattle.p3_ground.specs.PlansByNumber.{AreNumbers}
-use Rattle.p3_ground.specs.StandsFor.{LeavesOutOnlyUnfit, LeftOutAt}
 use Rattle.p3_run.specs.Runs.{Ran, most_steps}
 use Rattle.p3_eval.specs.Judged.{NamesMisfitOfFound, TellsOfFound, fault_in, ran_with}
 use Rattle.p3_eval.specs.Judging.{IsAskedText}
@@ -31,7 +27,7 @@ use Rattle.p3_eval.specs.Runs.{BelongTogether, OfRun}
 use Rattle.p3_eval.specs.declared.fault.PlanFault.{PlanFault}
 use Rattle.p3_eval.proofs.JudgeLaws.{asked_found}
 use Rattle.p3_eval.proofs.JudgeLemmas.{goes_on}
-use Rattle.p3_watch.specs.Watching.{Answers, AreLinesAsked, AreLinesNumbered, IsAnswered, IsAskedBy, IsNumberedBy, IsTried, IsWithin}
+use Rattle.p3_watch.specs.Watching.{Answers, IsAnswered, IsAskedBy, IsTried, IsWithin}
 use Rattle.p3_watch.specs.declared.watch.Line.{Line}
 use Rattle.p3_watch.specs.declared.watch.Line.TheVariants as line
 use Rattle.p3_watch.proofs.OffsetLemmas.{IsTextWithin, text_within}
@@ -152,25 +148,6 @@ fault_keeps old (found.Number number) fault = refl
 fault_keeps old found.UnknownAction fault = refl
 fault_keeps old found.Arguments fault = refl
 
--- the run keeps its parts
-pub still_task : (old new : Ran) (finds : Found) (fault : Option PlanFault) → new ≡ ran_with old finds fault → new.task ≡ old.task
-still_task old new finds fault same = ap (λ (ran : Ran). ran.task) same ∙ by finds fault
-  where
-    by : (finds : Found) (fault : Option PlanFault) → (ran_with old finds fault).task ≡ old.task
-    by (found.Number number) None = refl
-    by (found.Number number) (Some why) = refl
-    by found.UnknownAction fault = refl
-    by found.Arguments fault = refl
-
-pub still_weights : (old new : Ran) (finds : Found) (fault : Option PlanFault) → new ≡ ran_with old finds fault → new.weights ≡ old.weights
-still_weights old new finds fault same = ap (λ (ran : Ran). ran.weights) same ∙ by finds fault
-  where
-    by : (finds : Found) (fault : Option PlanFault) → (ran_with old finds fault).weights ≡ old.weights
-    by (found.Number number) None = refl
-    by (found.Number number) (Some why) = refl
-    by found.UnknownAction fault = refl
-    by found.Arguments fault = refl
-
 module _ (T : Task) (at : ℕ) (text : List ℕ) (old new : Ran) (finds : Found) (together : BelongTogether T old.task old.weights) (room : length old.plan < most_steps)
     (known : (own : Step) → IsPlanText text (own ∷ []) → IsFound T own finds) where
   -- what may be asked of the step may be asked of each that has the text
@@ -203,21 +180,3 @@ module _ (T : Task) (at : ℕ) (text : List ℕ) (old new : Ran) (finds : Found)
       }))
 
 -- ---- lines whose steps have certain numbers
-
-asked_by_numbers : (T : Task) (G : GroundTask) (numbers : List ℕ) → All (LeftOutAt T G) numbers → (text : LineText) → IsNumberedBy T numbers text → IsAskedBy T G text
-asked_by_numbers T G numbers left Empty own = tt
-asked_by_numbers T G numbers left (Offends offence) own = tt
-asked_by_numbers T G numbers left (OneStep at step) own = λ number has. All-contains (LeftOutAt T G) numbers number left (own number has)
-
-pub numbered_are_asked : (T : Task) (G : GroundTask) (numbers : List ℕ) → All (LeftOutAt T G) numbers → (pieces : List Piece) → AreLinesNumbered T numbers pieces → AreLinesAsked T G pieces
-numbered_are_asked T G numbers left pieces own =
-    All-weaker (λ (piece : Piece). IsNumberedBy T numbers (line_text piece.bytes)) (λ (piece : Piece). IsAskedBy T G (line_text piece.bytes)) (λ piece here. asked_by_numbers T G numbers left (line_text piece.bytes) here) pieces own
-
--- so may all be where a ground task leaves out only what never begins
-asked_of_all : (T : Task) (G : GroundTask) → LeavesOutOnlyUnfit T G → (text : LineText) → IsAskedBy T G text
-asked_of_all T G left Empty = tt
-asked_of_all T G left (Offends offence) = tt
-asked_of_all T G left (OneStep at step) = λ number has. left number
-
-pub all_lines_asked : (T : Task) (G : GroundTask) → LeavesOutOnlyUnfit T G → (pieces : List Piece) → AreLinesAsked T G pieces
-all_lines_asked T G left pieces k d within = asked_of_all T G left (line_text (get_or pieces k d).bytes)

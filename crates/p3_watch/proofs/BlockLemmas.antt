@@ -22,12 +22,6 @@ none_put None = refl
 none_put (Some written) = ap Some (sym (append-nil written))
 
 module _ (T : Task) (text : List ℕ) (at : ℕ) (ran : Ran) (Holds : List ℕ → Type 0) where
-  pub blank_block : Holds [] → OfAnswer T ran line.Blank (λ plan answer. Holds (block T text at plan answer))
-  blank_block holds plan Blank is = holds
-  blank_block holds plan (Taken step) is = absurd is.says
-  blank_block holds plan (Unfit kind) is = absurd is.says
-  blank_block holds plan (Refused offence) is = absurd is.says
-
   pub done_block : OfRun T ran (λ plan. Holds (judged_lines T plan)) → OfAnswer T ran line.Done (λ plan answer. Holds (block T text at plan answer))
   done_block holds plan Blank is = absurd is.says
   done_block holds plan (Taken step) is = holds (plan ++ step ∷ []) is.done

@@ -1,5 +1,5 @@
 -- The loop that collects the numbers of the steps of lines.
-use Rattle.std.proofs.Common.{◌≡◌, ◌∙◌, ℕ, ◌+◌, ◌<◌, ◌≤◌, List, [], ◌∷◌, ◌++◌, append_assoc, length, drop, sym, ap, subst, arith, length-drop, Option, None}
+use Rattle.std.proofs.Common.{◌≡◌, ◌∙◌, ℕ, ◌+◌, ◌<◌, ◌≤◌, List, [], ◌∷◌, ◌++◌, append_assoc, length, drop, sym, ap, subst, arith, length-drop, Option}
 use Rattle.std.specs.Prelude.{min}
 use Rattle.std.specs.List.{Contains, cons_option}
 use Rattle.std.proofs.lemmas.List.{append-nil, drop_all}
@@ -9,7 +9,6 @@ use Rattle.p3_task.specs.StepNumbers.{HasStepNumbers}
 use Rattle.p3_task.specs.Watching.{LineText, Empty, OneStep, Offends, Piece, line_text, lines_from, lines_of}
 use Rattle.p3_task.specs.declared.task.Step.{Step}
 use Rattle.p3_task.specs.declared.task.Task.{Task}
-use Rattle.p3_base.specs.declared.refusal.Refusal.{Refusal}
 use Rattle.p3_plans.specs.Lines.{IsLineStep}
 use Rattle.p3_plans.specs.declared.line.LineStep.TheVariants as step
 use Rattle.p3_plans.specs.declared.reader.PlanStep.{PlanStep}
@@ -24,16 +23,6 @@ use Rattle.p3_watch.proofs.LineLemmas.{line_ahead}
 -- ---- the number of a line
 
 module _ (T : Task) (bytes : List ℕ) where
-  pub of_blank : (text : LineText) → IsLineStep bytes text step.Blank → IsNumberOfLine T text None
-  of_blank Empty is = tt
-  of_blank (Offends offence) is = tt
-  of_blank (OneStep at own) is = absurd is
-
-  pub of_bad : (refusal : Refusal) (text : LineText) → IsLineStep bytes text (step.Bad refusal) → IsNumberOfLine T text None
-  of_bad refusal Empty is = tt
-  of_bad refusal (Offends offence) is = tt
-  of_bad refusal (OneStep at own) is = absurd is
-
   pub of_step : HasStepNumbers T → (slice : PlanStep) (text : LineText) → IsLineStep bytes text (step.Step slice) → (answer : Found) → ((own : Step) → IsPlanText slice.text.now (own ∷ []) → IsFound T own answer)
       → IsNumberOfLine T text (number_in answer)
   of_step K slice Empty is answer finds = tt

@@ -2,8 +2,8 @@
 use Rattle.std.proofs.Common.{◌≡◌, ◌∙◌, ℕ, zero, suc, ◌+◌, ◌-◌, ◌<◌, ◌≤◌, Bool, true, false, List, length, get_or, take, drop, refl, sym, ap, subst, arith, add-zero, length-drop, ltb-false, ltb-true, true≢false}
 use Rattle.std.specs.Prelude.{IsTrue, count_by, min, nat_lt, not}
 use Rattle.std.specs.List.{after_last, suffix_len}
-use Rattle.std.proofs.lemmas.List.{get_or-drop, length-take}
-use Rattle.std.proofs.lemmas.List.Sums.{count_by_more_no, count_by_more_yes, count_by-le-length, fails_before_first, passes_at_first, prefix_len-le-length, suffix_len-le-length, suffix_len-take_no, suffix_len-take_yes}
+use Rattle.std.proofs.lemmas.List.{get_or-drop}
+use Rattle.std.proofs.lemmas.List.Sums.{count_by_more_no, count_by_more_yes, fails_before_first, passes_at_first, prefix_len-le-length, suffix_len-le-length, suffix_len-take_no, suffix_len-take_yes}
 use Rattle.p3_base.specs.Place.{is_line_feed, line_of, column_of}
 use Rattle.p3_base.specs.declared.refusal.Refusal.{Refusal}
 use Rattle.p3_watch.specs.Lines.{Begins, IsInLine, IsStart, IsToldThere, line_len}
@@ -99,10 +99,6 @@ in_line text start refusal within begins low =
       row = begins.row ∙ ap (λ n. n + 1) (sym so.row);
       column = ap (λ n. n + 1) (sym so.column) ∙ sym (column_is text (start.offset + refusal.pos.offset));
     }
-
--- a row is at most 1 and the offset
-pub row_fits : (text : List ℕ) (offset : ℕ) → line_of text offset ≤ offset + 1
-row_fits text offset = omega (arith, count_by-le-length is_line_feed (take offset text), length-take offset text)
 
 -- the place behind a line and its line feed, or the end of the text
 pub starts_behind : (text : List ℕ) (start new : LineStart) (len : ℕ) → IsStart text start → start.offset < length text → len ≡ line_len (drop start.offset text)
