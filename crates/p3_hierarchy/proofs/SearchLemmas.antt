@@ -14,10 +14,10 @@ use Rattle.p3_task.specs.Types.{below, type_names, is_below_some}
 use Rattle.p3_task.specs.declared.task.Task.{Task}
 use Rattle.p3_task.proofs.MeaningLemmas.{list_any-map}
 use Rattle.p3_task.proofs.BelowLemmas.{below_is_the_closure}
-use Rattle.p3_names.specs.Names.{with_name, with_names}
+use Rattle.p3_numbers.specs.Names.{with_name, with_names}
 use Rattle.p3_hierarchy.specs.Kinds.{lows_under}
-use Rattle.p3_names.proofs.NameLemmas.{same-swap, or-false}
-use Rattle.p3_names.proofs.ScopeLemmas.{same-name}
+use Rattle.p3_numbers.proofs.NameLemmas.{same-swap, or-false}
+use Rattle.p3_numbers.proofs.ScopeLemmas.{same-name}
 
 -- ---- names in lists
 

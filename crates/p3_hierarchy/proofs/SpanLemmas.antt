@@ -13,7 +13,7 @@ use Rattle.p3_task.specs.Types.{declared_pairs, below, type_names, names_of, is_
 use Rattle.p3_task.specs.declared.task.Task.{Task}
 use Rattle.p3_task.proofs.BelowLemmas.{below_is_the_closure}
 use Rattle.p3_task.specs.Laws.{Chain, none, step}
-use Rattle.p3_names.specs.Names.{with_names}
+use Rattle.p3_numbers.specs.Names.{with_names}
 use Rattle.p3_hierarchy.specs.Kinds.{lows_under, IsLed}
 use Rattle.p3_hierarchy.specs.Walks.{place_of, IsSpan}
 use Rattle.p3_hierarchy.specs.Spans.{is_in, is_found, AreSpans, AreLed, HasAll, IsSpanned, IsFollowed, IsSearched, IsDownFrom}

@@ -15,8 +15,8 @@ use Rattle.p3_task.specs.declared.task.Task.{Task}
 use Rattle.p3_hierarchy.specs.Objects.{fits}
 use Rattle.p3_hierarchy.specs.Typings.{AreFitting, AreNumbered, FilesNumber, FilesNumbers, IsFitting, Lookup, numbers_in, number_where_fit, numbers_under, typed, typings_of}
 use Rattle.p3_hierarchy.specs.declared.declarations.Declaration.{Declaration}
-use Rattle.p3_names.proofs.NameLemmas.{or-false}
-use Rattle.p3_names.proofs.ScopeLemmas.{same-name}
+use Rattle.p3_numbers.proofs.NameLemmas.{or-false}
+use Rattle.p3_numbers.proofs.ScopeLemmas.{same-name}
 use Rattle.p3_hierarchy.proofs.SearchLemmas.{has-contains, contains-has, some-passes}
 
 -- ---- lists made of lists

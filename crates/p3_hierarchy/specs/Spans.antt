@@ -3,7 +3,7 @@ use Rattle.std.specs.Prelude.{◌≡◌, ℕ, Bool, true, ◌&&◌, ◌||◌, �
 use Rattle.std.specs.List.{list_any}
 use Rattle.p3_task.specs.Names.{Name, has_name}
 use Rattle.p3_task.specs.Laws.{Chain}
-use Rattle.p3_names.specs.Names.{with_names}
+use Rattle.p3_numbers.specs.Names.{with_names}
 use Rattle.p3_hierarchy.specs.Kinds.{IsLed, lows_under}
 use Rattle.p3_hierarchy.specs.Walks.{IsSpan, place_of}
 use Rattle.p3_hierarchy.specs.declared.span.Span.{Span}

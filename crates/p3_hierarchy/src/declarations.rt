@@ -4,12 +4,12 @@ ghost use Rattle.std.specs.Prelude.{◌≡◌, ◌++◌, [], false, bytes_eq, fl
 ghost use Rattle.std.specs.HashMap.{get};
 ghost use Rattle.p3_task.specs.Names.{object_type};
 ghost use Rattle.p3_task.specs.Types.{names_of, type_names};
-ghost use Rattle.p3_names.specs.Keys.{start_of};
+ghost use Rattle.p3_numbers.specs.Keys.{start_of};
 ghost use Rattle.p3_hierarchy.specs.Typings.{AreFitting, AreNumbered, FilesNumber, FilesNumbers, number_where_fit, numbers_under, typed, typings_of};
 
 use crate::Below;
 use p3_base::{List, NoMemory};
-use p3_names::{Digest, Key};
+use p3_numbers::{Digest, Key};
 use p3_task::{Ref, Typed};
 use std::alloc::Global;
 use std::collections::HashMap;

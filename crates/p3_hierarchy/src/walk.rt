@@ -10,7 +10,7 @@ ghost use Rattle.p3_hierarchy.specs.Nexts.{AreNext};
 
 use crate::words::Words;
 use p3_base::{List, NoMemory};
-use p3_names::Key;
+use p3_numbers::Key;
 use p3_task::Kind;
 use std::alloc::Global;
 use std::collections::HashMap;

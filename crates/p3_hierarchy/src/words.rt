@@ -2,12 +2,12 @@
 
 ghost use Rattle.std.specs.Prelude.{◌≡◌, ◌<◌, [], Some, length, map, slice_get, OnOk};
 ghost use Rattle.p3_task.specs.Names.{has_name};
-ghost use Rattle.p3_names.specs.Names.{with_name, with_names};
+ghost use Rattle.p3_numbers.specs.Names.{with_name, with_names};
 ghost use Rattle.p3_hierarchy.specs.Walks.{place_of};
 
 use indexmap::IndexSet;
 use p3_base::NoMemory;
-use p3_names::Key;
+use p3_numbers::Key;
 use std::alloc::Global;
 use std::marker::Model;
 

@@ -35,7 +35,7 @@ ghost use Rattle.p3_metric.specs.Forms.{one_each};
 
 use indexmap::IndexMap;
 use p3_base::NoMemory;
-use p3_names::Key;
+use p3_numbers::Key;
 use std::alloc::Global;
 
 /// The numbers that are not 0, and perhaps some that are.

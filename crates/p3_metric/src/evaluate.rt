@@ -16,7 +16,7 @@ use crate::MetricFail;
 use crate::leaves::{constant, count, total_cost};
 use crate::linear::{Linear, Measured, minus, negated, plus, product};
 use p3_base::{Code, Pos, Refusal, Role, Side};
-use p3_names::Key;
+use p3_numbers::Key;
 use p3_task::{Num, Numeral, Ref, Task};
 use std::alloc::Global;
 

@@ -6,7 +6,7 @@ ghost use Rattle.p3_metric.specs.Forms.{IsLeaf, nothing_each, one_each};
 use crate::entries::{no_entries, one_entry};
 use crate::linear::Linear;
 use p3_base::NoMemory;
-use p3_names::Key;
+use p3_numbers::Key;
 use std::alloc::Global;
 
 /// The form of a number.

@@ -3,7 +3,7 @@
 ghost use Rattle.std.specs.Prelude.{◌≡◌, None, IfOk, IfErr, OnOk};
 ghost use Rattle.p3_task.specs.Refusals.Metric.{metric_refusals};
 ghost use Rattle.p3_task.specs.Refusals.Places.{first_some};
-ghost use Rattle.p3_names.specs.Keys.{start_of};
+ghost use Rattle.p3_numbers.specs.Keys.{start_of};
 ghost use Rattle.p3_metric.specs.Refused.{IsRefusal};
 ghost use Rattle.p3_metric.specs.Weighed.{HasWeights, IsWeights};
 
@@ -11,7 +11,7 @@ use crate::MetricFail;
 use crate::evaluate::Evaluator;
 use p3_formula::Weights;
 use p3_limits::{cut_units, problem_role};
-use p3_names::{Key, listed_key};
+use p3_numbers::{Key, listed_key};
 use p3_types::Checked;
 use std::alloc::Global;
 

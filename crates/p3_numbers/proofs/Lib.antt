@@ -9,7 +9,9 @@ pub mod GoalLaws
 pub mod GoalLemmas
 pub mod JoinLemmas
 pub mod KnownLaws
+pub mod NameLemmas
 pub mod PlaceLemmas
+pub mod ScopeLemmas
 pub mod StartLaws
 pub mod UseLemmas
 pub mod Worked

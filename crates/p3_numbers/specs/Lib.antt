@@ -4,11 +4,14 @@ pub mod Constraints
 pub mod Effects
 pub mod Folds
 pub mod Goals
+pub mod Keys
 pub mod Known
+pub mod Names
+pub mod NumberedModal
 pub mod Places
+pub mod Scopes
 pub mod Slots
 pub mod Starts
 pub mod Tasks
-pub mod Worked
-pub mod NumberedModal
 pub mod Units
+pub mod Worked

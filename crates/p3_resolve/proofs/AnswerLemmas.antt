@@ -11,7 +11,7 @@ use Rattle.p3_numbers.specs.Starts.{start_of, initial_values_of}
 use Rattle.p3_numbers.specs.Tasks.{header_names, numbered_action}
 use Rattle.p3_numbers.specs.declared.numbers.Numbers.{Numbers}
 use Rattle.p3_numbers.specs.declared.task.NumberedTask.{NumberedTask}
-use Rattle.p3_names.proofs.ScopeLemmas.{same-name}
+use Rattle.p3_numbers.proofs.ScopeLemmas.{same-name}
 use Rattle.p3_task.proofs.OnceLemmas.{nil_left, nil_right}
 use Rattle.p3_task.proofs.OffenceLemmas.{well_formed_where_no_offence}
 use Rattle.p3_task.specs.FirstOffence.{first_offence}

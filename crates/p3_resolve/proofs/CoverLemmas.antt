@@ -4,7 +4,7 @@ use Rattle.std.specs.Prelude.{fold}
 use Rattle.std.specs.List.{list_any, list_all}
 use Rattle.std.specs.Cmp.Lexicographic.{nat_list_eq_equiv, lists_equiv}
 use Rattle.std.proofs.lemmas.List.Folds.{list_any-append, list_all-append, list_all-map}
-use Rattle.p3_names.specs.Names.{with_list}
+use Rattle.p3_numbers.specs.Names.{with_list}
 use Rattle.p3_resolve.proofs.HavingLemmas.{numbering-from}
 use Rattle.p3_resolve.proofs.ListedLemmas.{all-lists}
 use Rattle.p3_resolve.proofs.NameLemmas.{has-once, ordered-preferences}

@@ -36,7 +36,7 @@ use Rattle.p3_task.specs.declared.constraint.Constraint.{Constraint}
 use Rattle.p3_task.specs.declared.constraint.Constraint.TheVariants as constraint
 use Rattle.p3_task.specs.declared.task.Action.{Action}
 use Rattle.p3_task.specs.declared.task.Task.{Task}
-use Rattle.p3_names.proofs.ScopeLemmas.{take_whole}
+use Rattle.p3_numbers.proofs.ScopeLemmas.{take_whole}
 use Rattle.p3_resolve.proofs.WalkLemmas.{fold-append}
 use Rattle.p3_resolve.specs.Spots.{use_step}
 use Rattle.p3_resolve.specs.Walk.{Walked, with_tree, with_variables, behind, uses_of_each, uses_of_action, uses_of_num, uses_of_metric}

@@ -19,7 +19,7 @@ use Rattle.p3_resolve.specs.Given.{AddsKey, AddsValue, Tells, value_in}
 use Rattle.p3_resolve.specs.Spots.{step}
 use Rattle.p3_resolve.specs.declared.spot.Spot.{Spot}
 use Rattle.p3_resolve.proofs.WalkLemmas.{fold-append}
-use Rattle.p3_names.proofs.ScopeLemmas.{append-assoc}
+use Rattle.p3_numbers.proofs.ScopeLemmas.{append-assoc}
 
 or-turn : (a b c : Bool) → ((a || b) || c) ≡ (b || (a || c))
 or-turn true true c = refl

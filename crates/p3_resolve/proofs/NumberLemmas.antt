@@ -11,7 +11,7 @@ use Rattle.p3_task.specs.declared.term.Ref.{Ref}
 use Rattle.p3_task.specs.declared.term.Typed.{Typed}
 use Rattle.p3_task.specs.declared.task.Header.{Header}
 use Rattle.p3_task.proofs.StateLemmas.{same_names-Decides}
-use Rattle.p3_names.specs.Names.{with_list}
+use Rattle.p3_numbers.specs.Names.{with_list}
 use Rattle.p3_hierarchy.proofs.ObjectLemmas.{get-append, get-last}
 use Rattle.p3_resolve.specs.Numbers.{Keeps, AreNumbers, AreAllNumbers, NumbersMore, names_at, names_in}
 

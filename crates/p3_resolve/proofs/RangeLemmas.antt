@@ -4,7 +4,7 @@ use Rattle.std.specs.Prelude.{fold}
 use denote.Ref.{Bor}
 use Rattle.std.proofs.lemmas.List.{map-append, take_more}
 use Rattle.p3_task.specs.Names.{Name}
-use Rattle.p3_names.specs.Names.{with_list}
+use Rattle.p3_numbers.specs.Names.{with_list}
 use Rattle.p3_resolve.specs.Listed.{lists_in}
 use Rattle.p3_resolve.specs.Numbers.{names_in}
 use Rattle.p3_resolve.specs.Ranges.{lists_once}

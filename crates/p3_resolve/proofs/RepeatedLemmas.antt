@@ -11,7 +11,7 @@ use Rattle.p3_task.specs.declared.term.Ref.{Ref}
 use Rattle.p3_task.specs.declared.term.Typed.{Typed}
 use Rattle.p3_task.specs.declared.task.Task.{Task}
 use Rattle.p3_task.proofs.OnceLemmas.{Some-injective}
-use Rattle.p3_names.specs.Names.{Adds}
+use Rattle.p3_numbers.specs.Names.{Adds}
 use Rattle.p3_hierarchy.specs.Objects.{fits, name_of}
 use Rattle.p3_hierarchy.specs.Typings.{AreFitting, IsFitting}
 use Rattle.p3_hierarchy.specs.declared.declarations.Declaration.{Declaration}

@@ -19,9 +19,9 @@ use Rattle.p3_task.specs.declared.task.Task.{Task}
 use Rattle.p3_numbers.proofs.PlaceLemmas.{first_within}
 use Rattle.p3_numbers.specs.Places.{number_in}
 use Rattle.p3_numbers.specs.Tasks.{header_names, object_words}
-use Rattle.p3_names.specs.Names.{Adds}
+use Rattle.p3_numbers.specs.Names.{Adds}
 use Rattle.p3_hierarchy.specs.Objects.{object_names}
-use Rattle.p3_names.proofs.NameLemmas.{adds-append, place_behind}
+use Rattle.p3_numbers.proofs.NameLemmas.{adds-append, place_behind}
 use Rattle.p3_resolve.proofs.NameLemmas.{has-once, ordered-preferences}
 use Rattle.p3_resolve.specs.Tables.{Has, name_of_word, first_place}
 

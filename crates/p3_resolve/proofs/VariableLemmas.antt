@@ -9,8 +9,8 @@ use Rattle.p3_task.specs.Uses.{scope_of}
 use Rattle.p3_task.specs.declared.term.Typed.{Typed}
 use Rattle.p3_task.proofs.OnceLemmas.{Some-injective}
 use Rattle.p3_task.specs.Slots.{place_after, slot_of, words_of}
-use Rattle.p3_names.specs.Scopes.{scope_seen}
-use Rattle.p3_names.proofs.ScopeLemmas.{slot_of-push}
+use Rattle.p3_numbers.specs.Scopes.{scope_seen}
+use Rattle.p3_numbers.proofs.ScopeLemmas.{slot_of-push}
 
 abbrev pub entry_of : Typed → Name × List Name
 entry_of variable = (variable.name.name, type_names variable.types)

@@ -11,9 +11,9 @@ use Rattle.p3_task.specs.declared.task.Task.{Task}
 use Rattle.p3_task.specs.Names.{Name, same_name, has_name}
 use Rattle.std.specs.Prelude.{not, map, ◌||◌}
 use Rattle.std.proofs.lemmas.List.{map-append}
-use Rattle.p3_names.proofs.ScopeLemmas.{append-assoc}
+use Rattle.p3_numbers.proofs.ScopeLemmas.{append-assoc}
 use Rattle.p3_resolve.specs.declared.spot.Spot.{Spot}
-use Rattle.p3_names.specs.Names.{Adds}
+use Rattle.p3_numbers.specs.Names.{Adds}
 use Rattle.p3_resolve.specs.declared.spot.FirstOffences.{FirstOffences}
 use Rattle.p3_resolve.specs.Spots.{spot_of, step, use_step}
 

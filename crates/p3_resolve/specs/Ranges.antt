@@ -1,7 +1,7 @@
 -- The lists of types of a task, each once, and the objects of each.
 use Rattle.std.specs.Prelude.{◌≡◌, ℕ, ◌<◌, List, [], ◌∷◌, map, fold, length, All}
 use Rattle.std.specs.List.Sorted.{IsStrictlyIncreasing}
-use Rattle.p3_names.specs.Names.{with_list}
+use Rattle.p3_numbers.specs.Names.{with_list}
 use Rattle.p3_hierarchy.specs.Objects.{object_names, name_at}
 use Rattle.p3_numbers.specs.Tasks.{HasNames}
 use Rattle.p3_numbers.specs.declared.numbers.Numbers.{Numbers}

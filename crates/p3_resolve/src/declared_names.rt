@@ -2,16 +2,16 @@
 
 ghost use Rattle.std.specs.Prelude.{[], flat_map, OnOk, IfOk};
 ghost use Rattle.p3_task.specs.Offences.{declared_types, kind_names};
-ghost use Rattle.p3_names.specs.Names.{Adds};
+ghost use Rattle.p3_numbers.specs.Names.{Adds};
 ghost use Rattle.p3_resolve.specs.Tables.{name_of_word};
 
 use p3_base::{Name, NoMemory};
-use p3_names::{Names, kind_digest};
+use p3_numbers::{Names, kind_digest};
 use p3_task::{Kind, Ref, Task};
 use std::alloc::Global;
 
 /// A name more, where there is one.
-#[tactic(auto, using(p3_names::proofs::NameLemmas::adds_laws))]
+#[tactic(auto, using(p3_numbers::proofs::NameLemmas::adds_laws))]
 fn add_name(alloc: Global, names: &mut Names, word: &Option<Ref>) -> Result<(), NoMemory>
     ensures { OnOk result (Adds names.old (name_of_word word.now) names.new) }
 {
@@ -35,7 +35,7 @@ fn add_kind(alloc: Global, names: &mut Names, kind: &Kind) -> Result<(), NoMemor
 }
 
 /// The names of declared types more.
-#[tactic(auto, using(p3_names::proofs::NameLemmas::adds_laws))]
+#[tactic(auto, using(p3_numbers::proofs::NameLemmas::adds_laws))]
 fn add_kinds(alloc: Global, names: &mut Names, kinds: &[Kind]) -> Result<(), NoMemory>
     ensures { OnOk result (Adds names.old (flat_map kind_names kinds.now) names.new) }
 {

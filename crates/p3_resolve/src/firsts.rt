@@ -6,7 +6,7 @@ ghost use Rattle.p3_resolve.specs.Tables.{AddsFirst, FindsFirst, first_place, is
 
 use crate::worded::{Worded, word_key};
 use p3_base::{Name, NoMemory};
-use p3_names::Key;
+use p3_numbers::Key;
 use std::alloc::Global;
 use std::collections::HashMap;
 
@@ -63,7 +63,7 @@ impl<'t, T: Worded> Firsts<'t, T> {
     }
 
     /// The place of the first item of that name, or the number of items where none has it.
-    #[tactic(auto, using(p3_names::proofs::NameLemmas::number_laws))]
+    #[tactic(auto, using(p3_numbers::proofs::NameLemmas::number_laws))]
     pub(crate) fn place(&self, name: &Name) -> usize
         ensures { result ≡ first_place T.word_of self.now.items.now name.now }
     {

@@ -11,7 +11,7 @@ use crate::by_number::are_many;
 use crate::repeated::Repeated;
 use p3_base::{Name, NoMemory};
 use p3_hierarchy::{Below, Kinds};
-use p3_names::Names;
+use p3_numbers::Names;
 use p3_task::{Ref, Typed};
 use std::alloc::Global;
 

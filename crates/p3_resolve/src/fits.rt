@@ -15,7 +15,7 @@ use crate::numbers::number_headers;
 use crate::repeated::Repeated;
 use p3_base::{Name, NoMemory};
 use p3_hierarchy::{Kinds, Objects};
-use p3_names::{TypeLists, parameter_key};
+use p3_numbers::{TypeLists, parameter_key};
 use p3_task::{Ref, Task, Typed};
 use std::alloc::Global;
 

@@ -11,7 +11,7 @@ ghost use Rattle.p3_resolve.specs.Spots.{step};
 use crate::spot::{Spot, unless};
 use indexmap::IndexSet;
 use p3_base::NoMemory;
-use p3_names::{Key, value_key};
+use p3_numbers::{Key, value_key};
 use p3_task::{Init, Ref, Term};
 use std::alloc::Global;
 use std::marker::Model;

@@ -10,7 +10,7 @@ ghost use Rattle.p3_resolve.specs.Words.{named_in, names_in, name_of};
 
 use crate::gather::{Gathered, Named};
 use p3_base::{List, Name, NoMemory};
-use p3_names::{Names, name_key};
+use p3_numbers::{Names, name_key};
 use p3_task::{Header, Ref, Task};
 use std::alloc::Global;
 

@@ -5,14 +5,14 @@ ghost use Rattle.p3_task.specs.Names.{has_name};
 ghost use Rattle.p3_task.specs.Offences.{repeated, unknown_types};
 ghost use Rattle.p3_task.specs.Offences.{unless as unless_passing, declared_types};
 ghost use Rattle.p3_task.specs.Uses.{Objects, Variables};
-ghost use Rattle.p3_names.specs.Names.{Adds};
+ghost use Rattle.p3_numbers.specs.Names.{Adds};
 ghost use Rattle.p3_resolve.specs.Spots.{step, use_step};
 
 use crate::spot::{FirstOffences, Spot, unless};
 use crate::tables::Tables;
 use crate::worded::{Worded, word_key};
 use p3_base::NoMemory;
-use p3_names::Names;
+use p3_numbers::Names;
 use p3_task::{Ref, Typed};
 use std::alloc::Global;
 

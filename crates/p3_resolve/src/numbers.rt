@@ -1,12 +1,12 @@
 //! The lists of types that parameters have, by number.
 
 ghost use Rattle.std.specs.Prelude.{◌≡◌, ◌==◌, [], ◌∷◌, ◌++◌, Some, map, length, if◌then◌else◌, slice_get, IfOk, OnOk};
-ghost use Rattle.p3_names.specs.Names.{with_list};
+ghost use Rattle.p3_numbers.specs.Names.{with_list};
 ghost use Rattle.p3_task.specs.Types.{names_of};
 ghost use Rattle.p3_resolve.specs.Numbers.{names_in, Keeps, AreNumbers, NumbersMore};
 
 use p3_base::NoMemory;
-use p3_names::TypeLists;
+use p3_numbers::TypeLists;
 use p3_task::{Header, Ref, Typed};
 use std::alloc::Global;
 

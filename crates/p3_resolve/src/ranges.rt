@@ -12,7 +12,7 @@ use crate::names_of_task::copied;
 use crate::numbers::number_of;
 use p3_base::{List, Name, NoMemory, as_number};
 use p3_hierarchy::{Kinds, Objects};
-use p3_names::{TypeLists, list_key};
+use p3_numbers::{TypeLists, list_key};
 use p3_task::Ref;
 use std::alloc::Global;
 

@@ -1,12 +1,12 @@
 //! The declarations of names that are repeated more than a few times.
 
 ghost use Rattle.std.specs.Prelude.{◌≡◌, ◌<◌, ◌∷◌, [], map, flat_map, length, All, IfOk};
-ghost use Rattle.p3_names.specs.Names.{Adds};
+ghost use Rattle.p3_numbers.specs.Names.{Adds};
 ghost use Rattle.p3_resolve.specs.Fitting.{AreInPlace, AreNamesFitting, name_in};
 
 use p3_base::{Name, NoMemory};
 use p3_hierarchy::{Below, Declaration, Declarations};
-use p3_names::{Key, Names, item_key};
+use p3_numbers::{Key, Names, item_key};
 use p3_task::Typed;
 use std::alloc::Global;
 
@@ -62,7 +62,7 @@ impl<'t> Repeated<'t> {
     }
 
     /// The names of the declarations at these places.
-    #[tactic(auto, using(p3_names::proofs::NameLemmas::adds_laws))]
+    #[tactic(auto, using(p3_numbers::proofs::NameLemmas::adds_laws))]
     fn named(&self, alloc: Global, places: &[usize]) -> Result<Names, NoMemory>
         requires { All (λ place. place < length self.now.declarations.entries.items) places.now }
         ensures { IfOk result (λ names. Adds [] (flat_map

@@ -19,8 +19,7 @@ use crate::names_of_task::{DeclaredInTrees, NameTable, copied_headers, declared_
 use crate::ranges::Ranges;
 use p3_base::{List, Name, NoMemory, TooLarge, as_number};
 use p3_hierarchy::{Kinds, Objects};
-use p3_names::Names;
-use p3_numbers::Numbers;
+use p3_numbers::{Names, Numbers};
 use p3_task::{Header, Ref, Task};
 use std::alloc::Global;
 
@@ -84,7 +83,7 @@ fn are_counted(task: &Task) -> Result<(), TooLarge>
 }
 
 /// A name, looked up.
-#[tactic(auto, using(p3_names::proofs::NameLemmas::number_laws, crate::proofs::TableLemmas::known_laws))]
+#[tactic(auto, using(p3_numbers::proofs::NameLemmas::number_laws, crate::proofs::TableLemmas::known_laws))]
 fn name_found(names: &Names, name: &Name) -> Result<NameFound, NoMemory>
     ensures number { IfOk result (λ found. found.number ≡ number_in names.now name.now) }
     ensures declared { IfOk result (λ found. found.is_declared ≡ has_name names.now name.now) }

@@ -1,7 +1,7 @@
 //! Terms as arguments, each looked up once, and the ranges of variables.
 
 ghost use Rattle.std.specs.Prelude.{◌≡◌, find, option_map, OnOk, IfOk};
-ghost use Rattle.p3_names.specs.Scopes.{scope_seen};
+ghost use Rattle.p3_numbers.specs.Scopes.{scope_seen};
 ghost use Rattle.p3_numbers.specs.Places.{number_in, slot_or_first, numbered_term, numbered_terms, ranges_of};
 ghost use Rattle.p3_task.specs.Names.{same_name};
 ghost use Rattle.p3_task.specs.Types.{type_names};
@@ -16,8 +16,7 @@ use crate::spot::{FirstOffences, unless};
 use crate::tables::{Declared, Tables};
 use crate::walk::Walk;
 use p3_base::{List, Name, NoMemory, as_number};
-use p3_names::Scope;
-use p3_numbers::NumberedArgument;
+use p3_numbers::{NumberedArgument, Scope};
 use p3_task::{Ref, Term, Typed};
 use std::alloc::Global;
 

@@ -10,7 +10,7 @@ use crate::spot::FirstOffences;
 use crate::tables::Tables;
 use crate::terms::ranges;
 use p3_base::{List, NoMemory};
-use p3_names::Scope;
+use p3_numbers::Scope;
 use p3_task::Typed;
 use std::alloc::Global;
 use std::marker::Model;
@@ -29,7 +29,7 @@ pub(crate) struct Walk<'t> {
 }
 
 impl<'t> Model for Walk<'t> {
-    ghost use Rattle.p3_names.specs.Scopes.{scope_seen};
+    ghost use Rattle.p3_numbers.specs.Scopes.{scope_seen};
     ghost use Rattle.p3_resolve.specs.Walk.{Walked};
     ghost use Rattle.p3_task.specs.Slots.{words_of};
 

@@ -2,9 +2,9 @@
 
 ghost use Rattle.std.specs.Prelude.{◌≡◌, map};
 ghost use Rattle.p3_task.specs.declared.term.Ref.{Ref as Word};
-ghost use Rattle.p3_names.specs.Keys.{start_of};
+ghost use Rattle.p3_numbers.specs.Keys.{start_of};
 
-use p3_names::{Digest, Key};
+use p3_numbers::{Digest, Key};
 use p3_task::{Action, Header, Ref, Typed};
 
 /// What is declared by a word.

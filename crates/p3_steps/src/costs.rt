@@ -5,7 +5,7 @@ ghost use Rattle.std.specs.Hash.DefaultHasher as sip;
 ghost use Rattle.std.specs.Result.{MatchResult};
 ghost use Rattle.p3_task.specs.Costs.{total};
 ghost use Rattle.p3_numbers.specs.Slots.{value_of as meaning_of, values_of};
-ghost use Rattle.p3_names.specs.Keys.{start_after, told_numbers};
+ghost use Rattle.p3_numbers.specs.Keys.{start_after, told_numbers};
 ghost use Rattle.p3_steps.specs.Costs.{
   AddsValue,
   HasValues,
@@ -16,8 +16,9 @@ ghost use Rattle.p3_steps.specs.Costs.{
 };
 
 use p3_base::{NoMemory, TooLarge};
-use p3_names::{Digest, Key};
-use p3_numbers::{NumberedAmount, NumberedArgument, NumberedEffect, NumberedValue, units_at};
+use p3_numbers::{
+    Digest, Key, NumberedAmount, NumberedArgument, NumberedEffect, NumberedValue, units_at,
+};
 use std::alloc::Global;
 use std::collections::HashMap;
 

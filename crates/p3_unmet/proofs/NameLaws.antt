@@ -8,7 +8,7 @@ use Rattle.p3_task.specs.Names.{Name, has_name, same_name}
 use Rattle.p3_task.specs.PreferenceNames.{ordered_names}
 use Rattle.p3_task.specs.declared.task.Task.{Task}
 use Rattle.p3_task.proofs.OnceLemmas.{AreOnce, each_once}
-use Rattle.p3_names.specs.Names.{with_names}
+use Rattle.p3_numbers.specs.Names.{with_names}
 use Rattle.p3_numbers.specs.Tasks.{HasNames}
 use Rattle.p3_numbers.specs.declared.numbers.Numbers.{Numbers}
 

@@ -1,13 +1,12 @@
 //! The numbers of the names of preferences.
 
 ghost use Rattle.std.specs.Prelude.{◌≡◌, [], IfOk};
-ghost use Rattle.p3_names.specs.Names.{with_names};
+ghost use Rattle.p3_numbers.specs.Names.{with_names};
 ghost use Rattle.p3_scenes.specs.Lent.{lent_name};
 ghost use Rattle.p3_unmet.specs.Stages.{number_in};
 
 use p3_base::{Name, NoMemory, as_number};
-use p3_names::{Names, listed_key};
-use p3_numbers::Numbers;
+use p3_numbers::{Names, Numbers, listed_key};
 use std::alloc::Global;
 
 /// Makes a table of the names of preferences.

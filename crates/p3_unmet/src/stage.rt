@@ -11,7 +11,7 @@ use crate::names::{number_of, preference_names};
 use crate::step_scenes::StepScenes;
 use p3_accounts::OperatorKind;
 use p3_base::{List, NoMemory, Role, Showing, Subject, as_number};
-use p3_names::Names;
+use p3_numbers::Names;
 use p3_reasons::PlacedStep;
 use p3_scenes::{
     Asked, Bindings, InstanceScene, OperatorScene, PreferenceScene, hard_scenes, instance_scenes,

@@ -1,6 +1,6 @@
 use Rattle.std.proofs.Common.{◌≡◌, [], take}
 use Rattle.p3_task.specs.Types.{names_of}
-use Rattle.p3_names.specs.Names.{with_names}
+use Rattle.p3_numbers.specs.Names.{with_names}
 use Rattle.p3_hierarchy.proofs.kinds.listed.Given as goal
 
 abbrev pub invariant-loop-kind : goal.invariant-loop-kind

@@ -1,7 +1,7 @@
 use Rattle.std.proofs.Common.{take}
 use Rattle.std.specs.Prelude.{flat_map}
 use Rattle.p3_task.specs.Offences.{kind_names}
-use Rattle.p3_names.specs.Names.{Adds}
+use Rattle.p3_numbers.specs.Names.{Adds}
 use Rattle.p3_resolve.proofs.declared_names.add_kinds.Given as goal
 
 abbrev pub invariant-loop-kind : goal.invariant-loop-kind

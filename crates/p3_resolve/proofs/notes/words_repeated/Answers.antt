@@ -2,8 +2,8 @@ use Rattle.std.proofs.Common.{◌≡◌, [], ◌∷◌, not, refl, subst}
 use Rattle.std.specs.Prelude.{fold}
 use Rattle.p3_task.specs.Names.{has_name}
 use Rattle.p3_task.specs.Offences.{unless}
-use Rattle.p3_names.specs.Names.{Adds}
-use Rattle.p3_names.proofs.NameLemmas.{adds-more}
+use Rattle.p3_numbers.specs.Names.{Adds}
+use Rattle.p3_numbers.proofs.NameLemmas.{adds-more}
 use Rattle.p3_resolve.specs.Spots.{step}
 use Rattle.p3_resolve.proofs.WalkLemmas.{repeated-more}
 use Rattle.p3_resolve.proofs.notes.words_repeated.Goals as goal

@@ -1,7 +1,7 @@
 use Rattle.std.proofs.Common.{◌≡◌, [], ◌∷◌, map, take}
 use Rattle.std.specs.Prelude.{fold, flat_map}
 use Rattle.p3_task.specs.Offences.{repeated}
-use Rattle.p3_names.specs.Names.{Adds}
+use Rattle.p3_numbers.specs.Names.{Adds}
 use Rattle.p3_resolve.specs.Spots.{step}
 use Rattle.p3_resolve.proofs.notes.words_repeated.Given as goal
 

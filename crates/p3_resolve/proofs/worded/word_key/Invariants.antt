@@ -1,6 +1,6 @@
 use Rattle.std.proofs.Common.{◌≡◌, map, take}
 use Rattle.std.specs.Hash.DefaultHasher as sip
-use Rattle.p3_names.specs.Keys.{told_all}
+use Rattle.p3_numbers.specs.Keys.{told_all}
 use Rattle.p3_resolve.proofs.worded.word_key.Given as goal
 
 abbrev pub invariant-loop-item : goal.invariant-loop-item

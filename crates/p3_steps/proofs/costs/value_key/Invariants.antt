@@ -1,7 +1,7 @@
 use Rattle.std.proofs.Common.{◌≡◌, take}
 use Rattle.std.specs.Prelude.{flat_map}
 use Rattle.std.specs.Hash.DefaultHasher as sip
-use Rattle.p3_names.specs.Keys.{told_numbers}
+use Rattle.p3_numbers.specs.Keys.{told_numbers}
 use Rattle.p3_steps.specs.Costs.{numbers_in}
 use Rattle.p3_steps.proofs.costs.value_key.Given as goal
 

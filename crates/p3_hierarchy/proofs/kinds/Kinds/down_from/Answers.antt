@@ -1,7 +1,7 @@
 use Rattle.std.proofs.Common.{◌<◌, [], length, get_or, sym, subst, arith}
 use Rattle.std.proofs.lemmas.List.{get_or_default}
 use Rattle.p3_task.specs.Types.{declared_pairs, names_of}
-use Rattle.p3_names.specs.Names.{with_names}
+use Rattle.p3_numbers.specs.Names.{with_names}
 use Rattle.p3_hierarchy.specs.Spans.{IsSearched}
 use Rattle.p3_hierarchy.proofs.SpanLemmas.{searched-none, searched-more, searched-all}
 use Rattle.p3_hierarchy.proofs.kinds.Kinds.down_from.Goals as goal

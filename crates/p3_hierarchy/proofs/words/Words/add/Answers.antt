@@ -1,8 +1,8 @@
 use Rattle.std.proofs.Common.{◌∙◌, ap, map}
 use Rattle.std.specs.Prelude.{bytes_eq}
 use Rattle.std.specs.Cmp.Lexicographic.{nat_list_eq_equiv}
-use Rattle.p3_names.specs.Names.{with_name}
-use Rattle.p3_names.proofs.NameLemmas.{insert-keys}
+use Rattle.p3_numbers.specs.Names.{with_name}
+use Rattle.p3_numbers.proofs.NameLemmas.{insert-keys}
 use Rattle.p3_hierarchy.proofs.words.Words.add.Goals as goal
 
 pub returns : goal.returns

@@ -1,5 +1,5 @@
 use Rattle.std.proofs.Common.{◌≡◌, map, take}
-use Rattle.p3_names.specs.Names.{with_names}
+use Rattle.p3_numbers.specs.Names.{with_names}
 use Rattle.p3_hierarchy.proofs.words.Words.extend.Given as goal
 
 abbrev pub invariant-loop-word : goal.invariant-loop-word

@@ -2,7 +2,7 @@ use Rattle.std.proofs.Common.{◌∙◌, ap}
 use Rattle.std.specs.Prelude.{bytes_eq}
 use Rattle.std.specs.Cmp.Lexicographic.{nat_list_eq_equiv}
 use Rattle.p3_task.specs.Names.{has_name}
-use Rattle.p3_names.proofs.NameLemmas.{has-keys}
+use Rattle.p3_numbers.proofs.NameLemmas.{has-keys}
 use Rattle.p3_hierarchy.proofs.words.Words.has.Goals as goal
 
 pub returns : goal.returns

@@ -3,7 +3,7 @@ use Rattle.std.specs.Prelude.{position}
 use Rattle.std.specs.Cmp.Lexicographic.{nat_list_eq_equiv}
 use Rattle.std.specs.Prelude.{bytes_eq}
 use Rattle.p3_task.specs.Names.{same_name}
-use Rattle.p3_names.proofs.NameLemmas.{number-keys}
+use Rattle.p3_numbers.proofs.NameLemmas.{number-keys}
 use Rattle.p3_hierarchy.proofs.PlaceLemmas.{place-none, place-some}
 use Rattle.p3_hierarchy.proofs.words.Words.place.Goals as goal
 

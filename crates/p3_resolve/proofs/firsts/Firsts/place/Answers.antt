@@ -1,6 +1,6 @@
 use Rattle.std.proofs.Common.{◌∙◌, sym}
 use Rattle.std.specs.Prelude.{position}
-use Rattle.p3_names.proofs.NameLemmas.{place_behind, place_found}
+use Rattle.p3_numbers.proofs.NameLemmas.{place_behind, place_found}
 use Rattle.p3_resolve.specs.Tables.{is_called}
 use Rattle.p3_resolve.proofs.firsts.Firsts.place.Goals as goal
 

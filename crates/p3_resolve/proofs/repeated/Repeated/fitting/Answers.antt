@@ -1,6 +1,6 @@
 use Rattle.std.proofs.Common.{◌<◌, [], ◌∷◌, length, subst, sym}
 use Rattle.std.specs.Prelude.{All, flat_map}
-use Rattle.p3_names.specs.Names.{Adds}
+use Rattle.p3_numbers.specs.Names.{Adds}
 use Rattle.p3_resolve.specs.Fitting.{name_in}
 use Rattle.p3_resolve.proofs.RepeatedLemmas.{names-fitting, within-entries}
 use Rattle.p3_resolve.proofs.repeated.Repeated.fitting.Goals as goal

@@ -1,8 +1,8 @@
 use Rattle.std.proofs.Common.{◌<◌, [], ◌∷◌, length, get_or, subst}
 use Rattle.std.proofs.lemmas.List.{get_or_default}
 use Rattle.std.proofs.lemmas.List.Elements.{All-get_or}
-use Rattle.p3_names.specs.Names.{Adds}
-use Rattle.p3_names.proofs.NameLemmas.{adds-more}
+use Rattle.p3_numbers.specs.Names.{Adds}
+use Rattle.p3_numbers.proofs.NameLemmas.{adds-more}
 use Rattle.p3_resolve.specs.Fitting.{name_in}
 use Rattle.p3_resolve.proofs.repeated.Repeated.named.Goals as goal
 

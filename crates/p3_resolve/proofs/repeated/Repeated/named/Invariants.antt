@@ -1,6 +1,6 @@
 use Rattle.std.proofs.Common.{[], ◌∷◌, take}
 use Rattle.std.specs.Prelude.{flat_map}
-use Rattle.p3_names.specs.Names.{Adds}
+use Rattle.p3_numbers.specs.Names.{Adds}
 use Rattle.p3_resolve.specs.Fitting.{name_in}
 use Rattle.p3_resolve.proofs.repeated.Repeated.named.Given as goal
 

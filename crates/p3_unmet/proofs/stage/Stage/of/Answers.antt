@@ -1,5 +1,5 @@
 use Rattle.std.proofs.Common.{◌∙◌, [], ap}
-use Rattle.p3_names.specs.Names.{with_names}
+use Rattle.p3_numbers.specs.Names.{with_names}
 use Rattle.p3_numbers.specs.declared.task.NumberedTask.{NumberedTask}
 use Rattle.p3_unmet.proofs.NameLaws.{all-names}
 use Rattle.p3_unmet.proofs.stage.Stage.of.Goals as goal
