@@ -161,7 +161,8 @@ fn push_all(
     requires { IsTrue (is_tidy guard.now.form) }
     ensures { OnOk result (ChangesUnder numbers.now statics.now guard.now
         (flat_map (effect_atoms numbers.now slots.now) parts.now) work.old work.new
-        (λ above. flat_map (guarded_literals numbers.now above guard.now.is_free slots.now) parts.now)
+        (λ above. flat_map
+        (guarded_literals numbers.now above guard.now.is_free slots.now) parts.now)
         made.old made.new) }
 {
     for part in parts {

@@ -44,7 +44,8 @@ fn push_preference(
     made: &mut List<GroundPref>,
 ) -> Result<(), NoMemory>
     ensures { OnOk result (Pushes (PreferencesStand numbers.now statics.now)
-        (preference_atoms numbers.now slots.now (NumberedGoal.Soft preference.now)) work.old work.new
+        (preference_atoms numbers.now slots.now (NumberedGoal.Soft preference.now))
+        work.old work.new
         (preferences numbers.now slots.now (NumberedGoal.Soft preference.now)) made.old made.new) }
 {
     let body = condition_form(numbers, statics, work, slots, &preference.body)?;

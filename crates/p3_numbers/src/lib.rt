@@ -1,4 +1,4 @@
-//! The tables by which names are looked up, and the trees of a task with numbers in the place of names
+//! The tables by which names are looked up; the trees of a task with numbers in the place of names
 //! and slots in the place of variables, and what they mean; and costs in units.
 #![tactic(auto)]
 

@@ -22,8 +22,9 @@ fn atom_finding<F: Facts>(
     predicate: u32,
     args: &[NumberedArgument],
 ) -> Result<Finding, NoMemory>
-    ensures { IfOk result (λ finding. outcome_of finding ≡ outcome numbers.now (F.has_atom facts.now)
-        slots.now (NumberedCondition.Atom predicate args.now)) }
+    ensures { IfOk result (λ finding. outcome_of finding
+        ≡ outcome numbers.now (F.has_atom facts.now) slots.now
+        (NumberedCondition.Atom predicate args.now)) }
 {
     let mut words = Vec::new(alloc);
     spell(&mut words, slots, predicate, args)?;

@@ -49,7 +49,8 @@ pub(crate) fn numbered_actions<'t>(
     requires { walk.old.words ≡ [] }
     ensures walk { OnOk result (walk.new
         ≡ with_tree tables.now.task.now (uses_of_each uses_of_action actions.now) walk.old) }
-    ensures made { IfOk result (λ made. made ≡ map (action_of (numbers_of tables.now)) actions.now) }
+    ensures made { IfOk result (λ made. made
+        ≡ map (action_of (numbers_of tables.now)) actions.now) }
 {
     let mut made = List::with_capacity(alloc, actions.len())?;
     for action in actions {

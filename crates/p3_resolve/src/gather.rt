@@ -222,8 +222,8 @@ impl<'t> Gathered<'t> {
     #[cycle(constraints)]
     #[tactic(auto, using(crate::proofs::GatherLemmas::constraint_laws))]
     fn constraint(&mut self, constraint: &'t Constraint) -> Result<(), NoMemory>
-        ensures { OnOk result (self.new
-            ≡ more (constraint_lists constraint.now) (named_in_constraint constraint.now) self.old) }
+        ensures { OnOk result (self.new ≡ more
+            (constraint_lists constraint.now) (named_in_constraint constraint.now) self.old) }
     {
         match constraint {
             Constraint::Both(parts) => self.constraints(parts.items()),
