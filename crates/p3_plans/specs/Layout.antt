@@ -10,9 +10,12 @@ use Rattle.p3_task.specs.declared.task.Step.{Step}
 abbrev pub argument_layout : Name → List ℕ
 argument_layout name = codes " " ++ name
 
--- a step is a line
+-- a step is a line, of an action's name and the arguments
+abbrev pub line_layout : Name → List Name → List ℕ
+line_layout action arguments = codes "(" ++ (action ++ (flat_map argument_layout arguments ++ codes ")\n"))
+
 abbrev pub step_layout : Step → List ℕ
-step_layout step = codes "(" ++ (step.action ++ (flat_map argument_layout step.args ++ codes ")\n"))
+step_layout step = line_layout step.action step.args
 
 abbrev pub plan_layout : Plan → List ℕ
 plan_layout plan = flat_map step_layout plan

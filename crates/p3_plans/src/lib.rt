@@ -20,4 +20,4 @@ pub use line::{LineStep, line_step};
 pub use offence::first_plan_offence;
 pub use read::read_plan;
 pub use reader::{NextStep, PlanReader, PlanStep};
-pub use write::write_plan;
+pub use write::{push_step, write_plan};

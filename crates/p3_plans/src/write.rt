@@ -6,7 +6,7 @@ ghost use Rattle.p3_task.specs.PlanTexts.{IsPlanText};
 ghost use Rattle.p3_plans.specs.Layout as layout;
 
 use p3_base::{Name, NoMemory};
-use p3_task::{Plan, Step};
+use p3_task::Plan;
 use std::alloc::Global;
 
 /// The text of a plan: a line for each step.
@@ -18,17 +18,23 @@ pub fn write_plan(alloc: Global, plan: &Plan) -> Result<Vec<u8>, NoMemory>
 {
     let mut out = Vec::new(alloc);
     for step in plan.items() {
-        push_step(&mut out, step)?;
+        push_step(&mut out, step.action.bytes(), step.args.items())?;
     }
     Ok(out)
 }
 
-fn push_step(out: &mut Vec<u8>, step: &Step) -> Result<(), NoMemory>
-    ensures { OnOk result (out.new.items ≡ out.old.items ++ layout.step_layout step.now) }
+/// Puts the line of the step of an action of that name with these arguments.
+///
+/// # Errors
+///
+/// Want of memory.
+pub fn push_step(out: &mut Vec<u8>, action: &[u8], arguments: &[Name]) -> Result<(), NoMemory>
+    ensures { OnOk result
+        (out.new.items ≡ out.old.items ++ layout.line_layout action.now arguments.now) }
 {
     push(out, "(")?;
-    push_name(out, &step.action)?;
-    push_arguments(out, step.args.items())?;
+    out.extend_from_slice(action)?;
+    push_arguments(out, arguments)?;
     push(out, ")\n")
 }
 
