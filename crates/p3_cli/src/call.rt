@@ -136,7 +136,7 @@ fn carried_out<F: Files, S: Sink>(
     if let CommandKind::Watch = request.kind {
         return follow(alloc, &texts, out);
     }
-    let product = match product_of(alloc, request.kind, request.number, &texts) {
+    let product = match product_of(alloc, request.kind, request.number, texts) {
         Ok(product) => product,
         Err(ending) => return Err(ending),
     };

@@ -31,27 +31,27 @@ pub(crate) struct Product {
 }
 
 /// Carries a command out on the texts that were read. One that puts lines while it works, as
-/// `watch` does, is not carried out here.
+/// `watch` does, is not carried out here. The texts are taken, so that they can go once they are read.
 pub(crate) fn product_of(
     alloc: Global,
     kind: CommandKind,
     number: u32,
-    texts: &Texts,
+    texts: Texts,
 ) -> Result<Product, Ending>
     requires sampled { IsTrue (row kind).is_numbered → (1 ≤ number) × (number ≤ sample_limit) }
     requires at_the_end { kind ≢ Watch }
-    ensures ok { IfOk result (λ product. ProducesBy kind number (all_texts texts.now)
+    ensures ok { IfOk result (λ product. ProducesBy kind number (all_texts texts)
         (all_made product.made) (report_text product.report)) }
-    ensures err { IfErr result (IsRejectedBy (StopsBy kind number (all_texts texts.now))) }
+    ensures err { IfErr result (IsRejectedBy (StopsBy kind number (all_texts texts))) }
 {
     match kind {
         CommandKind::Compile => translate(alloc, texts),
-        CommandKind::Lift => lift(alloc, texts),
-        CommandKind::Embed => embed(alloc, texts),
-        CommandKind::Evaluate => Ok(without_texts(alloc, evaluate(alloc, texts)?)),
+        CommandKind::Lift => lift(alloc, &texts),
+        CommandKind::Embed => embed(alloc, &texts),
+        CommandKind::Evaluate => Ok(without_texts(alloc, evaluate(alloc, &texts)?)),
         CommandKind::Generate => sample(alloc, number),
-        CommandKind::CompileFlat => flat_translate(alloc, texts),
-        CommandKind::Explain => Ok(without_texts(alloc, explain(alloc, texts)?)),
+        CommandKind::CompileFlat => flat_translate(alloc, &texts),
+        CommandKind::Explain => Ok(without_texts(alloc, explain(alloc, &texts)?)),
         CommandKind::Watch => unreachable!(),
     }
 }

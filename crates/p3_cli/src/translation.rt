@@ -31,19 +31,30 @@ use std::alloc::Global;
 use std::mem::forget;
 
 /// Translates the task that the two texts spell.
-pub(crate) fn translate(alloc: Global, texts: &Texts) -> Result<Product, Ending>
+pub(crate) fn translate(alloc: Global, texts: Texts) -> Result<Product, Ending>
     ensures means { IfOk result (λ product.
-        IsTranslation texts.now.domain.items texts.now.problem.items
+        IsTranslation texts.domain.items texts.problem.items
         product.made.domain.items product.made.problem.items (report_text product.report)) }
     ensures layout { IfOk result (λ product.
-        HasLayout texts.now.domain.items texts.now.problem.items
+        HasLayout texts.domain.items texts.problem.items
         product.made.domain.items product.made.problem.items) }
-    ensures err { IfErr result (IsRefusedTask (all_texts texts.now)) }
+    ensures err { IfErr result (IsRefusedTask (all_texts texts)) }
 {
-    let whole = whole_task(alloc, texts)?;
+    let whole = taken_task(alloc, texts)?;
     let made = translation_of(alloc, &whole)?;
     forget(whole);
     Ok(made)
+}
+
+/// Accepts the task as `whole_task` does, and lets the texts go, which only a refusal asks for.
+fn taken_task(alloc: Global, texts: Texts) -> Result<Whole, Ending>
+    ensures accepted { IfOk result (λ whole.
+        AreAcceptedFor Source (all_texts texts) whole.checked.task) }
+    ensures ready { IfOk result (λ whole.
+        CanBeCompiled whole.checked.task whole.ground_task whole.weights) }
+    ensures err { IfErr result (IsRefusedTask (all_texts texts)) }
+{
+    whole_task(alloc, &texts)
 }
 
 /// Accepts the task that the two texts spell with its ground task, where nothing is refused of it.
