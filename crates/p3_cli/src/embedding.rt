@@ -8,10 +8,10 @@ ghost use Rattle.p3_task.specs.Validity.{Valid};
 ghost use Rattle.p3_formula.specs.Targets.{Compiled, target_cost};
 ghost use Rattle.p3_ground.specs.PlansByNumber.{names_of};
 ghost use Rattle.p3_eval.specs.Steps.{AreOfPlan, OfSteps};
-ghost use Rattle.p3_plans.specs.Layout.{has_written_words, plan_layout, step_layout};
+ghost use Rattle.p3_plans.specs.Layout.{has_written_words, step_layout};
 ghost use Rattle.p3_embed.specs.Plans.{IsEmbeddedPlan, bare_step, steps_at};
 ghost use Rattle.p3_reports.specs.Reports.{report_text};
-ghost use Rattle.p3_cli.specs.Embedding.{IsEmbedding};
+ghost use Rattle.p3_cli.specs.Embedding.{IsEmbedding, source_layout};
 ghost use Rattle.p3_cli.specs.Evaluation.{IsFaultOf, IsRejectedPlan};
 ghost use Rattle.p3_cli.specs.Refusing.{IsRejectedBy};
 ghost use Rattle.p3_cli.specs.Texts.{all_texts};
@@ -121,7 +121,7 @@ fn embedding_of(
 fn source_text(alloc: Global, target: &Target, places: &[usize]) -> Result<Vec<u8>, NoMemory>
     requires within { All (λ place. place < length target.now.actions) places.now }
     requires named { IsTrue (list_all has_written_words (steps_at target.now places.now)) }
-    ensures text { IfOk result (λ text. text.items ≡ plan_layout (steps_at target.now places.now)) }
+    ensures text { IfOk result (λ text. text.items ≡ source_layout target.now places.now) }
     ensures plan { IfOk result (λ text. IsPlanText text.items (steps_at target.now places.now)) }
 {
     let mut text = Vec::new(alloc);
