@@ -1,10 +1,12 @@
 -- The actions of a begun target, written one step after another.
 use Rattle.std.proofs.Common.{◌≡◌, ◌∙◌, ℕ, ◌+◌, ◌<◌, Bool, true, false, true≢false, List, [], ◌∷◌, ◌++◌, length, map, take, get_or, refl, sym, ap, subst}
 use Rattle.std.specs.List.{list_all}
-use Rattle.std.proofs.lemmas.Bool.{and_parts, and_from}
+use Rattle.std.proofs.lemmas.Bool.{and_from}
 use Rattle.std.proofs.lemmas.List.{append-nil, map-append, take_more}
 use Rattle.std.proofs.lemmas.List.Folds.{list_all-append, list_all-map, list_all_at}
 use Rattle.p3_base.specs.Copies.{copy_name}
+use Rattle.p3_endphase.specs.Ends.{Settles}
+use Rattle.p3_endphase.specs.declared.phase.SoftEnd.{SoftEnd}
 use Rattle.p3_formula.specs.Conditions.{IsReady}
 use Rattle.p3_formula.specs.Targets.{is_sized_action}
 use Rattle.p3_formula.specs.declared.form.Change.{Change}
@@ -19,6 +21,7 @@ use Rattle.p3_compile.specs.Parts.{copied_action}
 use Rattle.p3_compile.specs.declared.begun.BegunTarget.{BegunTarget}
 use Rattle.p3_compile.specs.declared.parts.TargetCopy.{TargetCopy}
 use Rattle.p3_compile.proofs.BegunLaws.{one_step_more}
+use Rattle.p3_compile.proofs.EndActions.{ends_begin, ends_next}
 use Rattle.p3_compile.proofs.StepLists.{no_steps}
 use Rattle.p3_writer.specs.CopyText.{behind_atom, digits_of}
 use Rattle.p3_writer.specs.DomainText.{BegunDomain, HasAllActions, first_text, with_actions}
@@ -26,7 +29,7 @@ use Rattle.p3_writer.specs.Layout.{domain_layout, is_small, problem_layout}
 use Rattle.p3_writer.specs.TaskOf.{task_of}
 use Rattle.p3_writer.specs.Texts.{CanBeWritten, IsDomainTextOf, IsProblemTextOf}
 use Rattle.p3_writer.proofs.LayoutLemmas.{with_more}
-use Rattle.p3_cli.specs.Streaming.{AreCompiledTexts, HasDomainText, HasWritten, HasWrittenAll, HasWrittenStep, HasWrittenSteps}
+use Rattle.p3_cli.specs.Streaming.{AreCompiledTexts, HasDomainText, HasWritten, HasWrittenAll, HasWrittenEnds, HasWrittenStep, HasWrittenSteps}
 
 -- ---- what is written
 
@@ -85,24 +88,31 @@ module _ (G : GroundTask) (weights : Weights) (begun : BegunTarget) (ready : IsR
     are = more_written passed.actions own.actions old mid new passed.are own.are;
   }
 
+-- ---- the end phase
+
+pub ends_begun : (begun : BegunTarget) (old new : BegunDomain) → HasWritten begun.begin old new → HasWrittenEnds begun 0 old new
+ends_begun begun old new written = record { actions = begun.begin; made = ends_begin begun; are = written }
+
+pub one_settled : (begun : BegunTarget) (number : ℕ) (instance : SoftEnd) (own : List TargetAction) (old mid new : BegunDomain) → number < length begun.instances → Settles begun.frame.go number (get_or begun.instances number instance ∷ []) own
+    → HasWrittenEnds begun number old mid → HasWritten own mid new → HasWrittenEnds begun (number + 1) old new
+one_settled begun number instance own old mid new within settles passed written = record {
+  actions = passed.actions ++ own;
+  made = ends_next begun number instance passed.actions own within passed.made settles;
+  are = more_written passed.actions own old mid new passed.are written;
+}
+
 -- ---- the whole target
 
-module _ (G : GroundTask) (weights : Weights) (begun : BegunTarget) (mid : BegunDomain) (steps : HasWrittenAll G weights begun (first_text begun.names) mid) where
+module _ (G : GroundTask) (weights : Weights) (begun : BegunTarget) (mid new : BegunDomain) (steps : HasWrittenAll G weights begun (first_text begun.names) mid) (ends : HasWrittenEnds begun (length begun.instances) mid new) where
   abbrev pub whole : Target
-  whole = target_of begun.names begun.initial steps.actions begun.phase
+  whole = target_of begun steps.actions ends.actions
 
-  pub all_actions : (new : BegunDomain) → HasWritten begun.phase.actions mid new → HasAllActions whole new
-  all_actions new ends =
-      let all = more_written steps.actions begun.phase.actions (first_text begun.names) mid new steps.are ends in
+  pub all_actions : HasAllActions whole new
+  all_actions =
+      let all = more_written steps.actions ends.actions (first_text begun.names) mid new steps.are ends.are in
       record { is = all.written; small = all.small }
 
   module _ (is : IsCompiledTo G weights whole) where
-    -- the atoms of the end phase have names
-    pub ends_sized : list_all (is_sized_action (length mid.names)) begun.phase.actions ≡ true
-    ends_sized =
-        ap (λ (text : BegunDomain). list_all (is_sized_action (length text.names)) begun.phase.actions) steps.are.written
-        ∙ (and_parts (list_all (is_sized_action (length begun.names)) steps.actions) _ (sym (list_all-append (is_sized_action (length begun.names)) steps.actions begun.phase.actions) ∙ is.compiled.sized.actions)).1
-
     pub can_be_written : CanBeWritten whole
     can_be_written =
         let named = well_named whole is.compiled.named in

@@ -6,7 +6,7 @@ use Rattle.p3_formula.specs.declared.target.TargetAction.{TargetAction}
 use Rattle.p3_formula.specs.declared.target.Weights.{Weights}
 use Rattle.p3_formula.specs.declared.task.GroundStep.{GroundStep}
 use Rattle.p3_formula.specs.declared.task.GroundTask.{GroundTask}
-use Rattle.p3_compile.specs.Compiling.{IsCompiledTo}
+use Rattle.p3_compile.specs.Compiling.{AreEnds, IsCompiledTo}
 use Rattle.p3_compile.specs.Stepping.{AreMade, HasNextActions, HasStepActions}
 use Rattle.p3_compile.specs.declared.begun.BegunTarget.{BegunTarget}
 use Rattle.p3_writer.specs.DomainText.{BegunDomain, with_actions}
@@ -26,7 +26,7 @@ pub record HasDomainText (G : GroundTask) (weights : Weights) (begun : BegunTarg
   pub target : Target
   pub is : IsCompiledTo G weights target
   pub can : CanBeWritten target
-  pub problem : HasProblem target begun.names begun.initial begun.phase.goal
+  pub problem : HasProblem target begun.names begun.initial begun.goal
   pub layout : od ≡ domain_layout target
   pub text : IsDomainTextOf od (task_of target).domain
 
@@ -34,6 +34,12 @@ pub record HasDomainText (G : GroundTask) (weights : Weights) (begun : BegunTarg
 pub record HasWritten (actions : List TargetAction) (old new : BegunDomain) : Type 0 where
   pub written : new ≡ with_actions old actions
   pub small : IsTrue (list_all is_small actions)
+
+-- those with which the end phase begins, and of the first so many of its instances
+pub record HasWrittenEnds (begun : BegunTarget) (count : ℕ) (old new : BegunDomain) : Type 0 where
+  pub actions : List TargetAction
+  pub made : AreEnds begun count actions
+  pub are : HasWritten actions old new
 
 -- those of the next step
 pub record HasWrittenStep (begun : BegunTarget) (weights : Weights) (step : GroundStep) (current next : ℕ) (old new : BegunDomain) : Type 0 where

@@ -5,7 +5,7 @@ ghost use Rattle.std.specs.Prelude.{◌≡◌, ◌∷◌, [], length, IfOk, IsTr
 ghost use Rattle.std.specs.List.{list_all};
 ghost use Rattle.p3_formula.specs.Conditions.{IsReady};
 ghost use Rattle.p3_formula.specs.Targets.{is_sized_action};
-ghost use Rattle.p3_compile.specs.Compiling.{IsBegun};
+ghost use Rattle.p3_compile.specs.Compiling.{HasNamedEnds, IsBegun};
 ghost use Rattle.p3_compile.specs.Parts.{actions_of, copied_action, copied_actions};
 ghost use Rattle.p3_compile.specs.Stepping.{IsNextStep};
 ghost use Rattle.p3_cli.specs.Streaming.{
@@ -13,6 +13,7 @@ ghost use Rattle.p3_cli.specs.Streaming.{
   HasDomainText,
   HasWritten,
   HasWrittenAll,
+  HasWrittenEnds,
   HasWrittenStep,
 };
 
@@ -75,8 +76,24 @@ fn domain_of(
     begun_targets_are_compiled();
     let mut text = DomainText::begin(alloc, begun.names())?;
     push_steps(alloc, &mut text, begun, task, weights)?;
-    text.push(begun.end_actions())?;
+    push_ends(alloc, &mut text, begun)?;
     text.finish()
+}
+
+/// Writes the actions of the end phase, those of one instance after another.
+fn push_ends(alloc: Global, text: &mut DomainText<'_>, begun: &BegunTarget) -> Result<(), NoMemory>
+    requires named { HasNamedEnds begun.now }
+    requires names { text.old.names ≡ begun.now.names }
+    ensures { OnOk result
+        (HasWrittenEnds begun.now (length begun.now.instances) text.old text.new) }
+{
+    text.push(begun.begin())?;
+    for number in 0..begun.instance_count() {
+        let actions = begun.settling(alloc, number)?;
+        text.push(actions.items())?;
+        drop(actions);
+    }
+    Ok(())
 }
 
 /// Writes the actions of all steps.

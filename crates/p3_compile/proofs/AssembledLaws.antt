@@ -1,9 +1,9 @@
 -- What is put together is an assembled target.
-use Rattle.std.proofs.Common.{◌≡◌, ◌∙◌, ℕ, zero, suc, ◌+◌, ◌-◌, ◌<◌, ◌≤◌, Bool, true, false, List, [], ◌∷◌, ◌++◌, length, get_or, replicate, take, refl, sym, ap, subst, arith, append_assoc, length-append}
+use Rattle.std.proofs.Common.{◌≡◌, ◌∙◌, ℕ, zero, suc, ◌+◌, ◌-◌, ◌<◌, ◌≤◌, Bool, true, false, List, [], ◌∷◌, ◌++◌, length, get_or, replicate, take, refl, sym, ap, subst, le_refl, arith, append_assoc, length-append}
 use Rattle.std.specs.Prelude.{codes}
 use Rattle.std.specs.List.{All, flat_map, list_all}
 use Rattle.std.proofs.lemmas.Bool.{and_parts, and_from}
-use Rattle.std.proofs.lemmas.List.{length-map, length-replicate}
+use Rattle.std.proofs.lemmas.List.{length-map, length-replicate, take_all}
 use Rattle.std.proofs.lemmas.List.Folds.{list_all-append}
 use Rattle.std.proofs.lemmas.List.FromFn.{length-map-range_with_len}
 use Rattle.p3_formula.specs.Conditions.{HasTidyForms, IsReady, is_step_below, is_tidy_action}
@@ -16,17 +16,20 @@ use Rattle.p3_formula.specs.declared.target.TargetAction.{TargetAction}
 use Rattle.p3_formula.specs.declared.target.Weights.{Weights}
 use Rattle.p3_formula.specs.declared.task.GroundStep.{GroundStep}
 use Rattle.p3_formula.specs.declared.task.GroundTask.{GroundTask}
+use Rattle.p3_endphase.specs.Ends.{AreActions, Settles}
+use Rattle.p3_endphase.specs.declared.phase.EndPhase.{EndPhase}
+use Rattle.p3_endphase.proofs.ActionLemmas.{actions_behind}
 use Rattle.p3_monitors.specs.declared.monitoring.Monitor.{Monitor}
 use Rattle.p3_simulation.specs.Assembled.{AreOfSteps, Assembly, IsAssembled}
 use Rattle.p3_simulation.specs.Naming.{all_numbered, atom_names, current_name, numbered, question_names, wide_steps}
 use Rattle.p3_simulation.specs.Monitoring.{AreMonitors, all_modals}
 use Rattle.p3_simulation.proofs.Bounds.{step_more}
 use Rattle.p3_simulation.proofs.Monitored.{none_own}
-use Rattle.p3_compile.specs.Compiling.{IsBegun, IsFrameOf, first_names, target_of}
+use Rattle.p3_compile.specs.Compiling.{AreEnds, IsBegun, IsFrameOf, first_names, target_of}
 use Rattle.p3_compile.specs.Stepping.{HasStepActions, IsFrame, IsStepReady, current_names}
 use Rattle.p3_compile.specs.declared.begun.BegunTarget.{BegunTarget}
 use Rattle.p3_compile.specs.declared.stepping.Frame.{Frame}
-use Rattle.p3_compile.proofs.EndLaws.{hard_inside}
+use Rattle.p3_compile.proofs.EndLaws.{hard_inside, phase_tidy}
 use Rattle.p3_compile.proofs.FrameLaws.{frame_before, frame_behind, sources_inside}
 use Rattle.p3_compile.proofs.StepLists.{changed_below}
 
@@ -112,9 +115,20 @@ module _ (G : GroundTask) (weights : Weights) (begun : BegunTarget) (is : IsBegu
       let watched = bits_count G.initial G.atoms begun.frame.go (all_modals G) begun.frame.monitors is.frame_is.monitors in
       let enough = long_enough in let own_bits = ready.bits in omega (arith, joined, idles, watched, enough, own_bits)
 
+  -- ---- the end
+
+  pub end_actions : (ends : List TargetAction) → AreEnds begun (length begun.instances) ends → AreActions begun.frame.go is.ends.finish begun.instances ends
+  end_actions ends are =
+      let all = take_all (length begun.instances) begun.instances (le_refl (length begun.instances)) in
+      subst (AreActions begun.frame.go is.ends.finish begun.instances) (sym are.are)
+      (actions_behind begun.frame.go is.ends.finish begun.instances begun.begin are.settling is.ends.begins (subst (λ list. Settles begun.frame.go 0 list are.settling) all are.settles))
+
   -- ---- the whole
 
-  module _ (actions : List TargetAction) (steps : HasStepActions begun.frame weights G.steps actions) where
+  module _ (actions ends : List TargetAction) (steps : HasStepActions begun.frame weights G.steps actions) (are : AreEnds begun (length begun.instances) ends) where
+    abbrev phase : EndPhase
+    phase = record { atoms = length begun.instances + 2; actions = ends; goal = begun.goal }
+
     abbrev pub made : Assembly
     made = record {
       monitors = begun.frame.monitors;
@@ -122,12 +136,12 @@ module _ (G : GroundTask) (weights : Weights) (begun : BegunTarget) (is : IsBegu
       first = begun.frame.first;
       last = begun.frame.first + 201 + length wide;
       actions = actions;
-      phase = begun.phase;
+      phase = phase;
       finish = is.ends.finish;
-      instances = is.ends.instances;
+      instances = begun.instances;
     }
 
-    pub assembled_is : IsReady G weights → IsAssembled G weights (target_of begun.names begun.initial actions begun.phase) made
+    pub assembled_is : IsReady G weights → IsAssembled G weights (target_of begun actions ends) made
     assembled_is ready = record {
       questions = is.frame_is.questions;
       names = all_names;
@@ -144,15 +158,15 @@ module _ (G : GroundTask) (weights : Weights) (begun : BegunTarget) (is : IsBegu
       finish = is.ends.below;
       ends = is.ends.ends;
       instances = is.ends.accept_below;
-      phase = is.ends.phase_is;
+      phase = record { count = refl; settles = end_actions ends are; reached = is.ends.reached };
     }
 
     atom_tidy : (atom : ℕ) → is_tidy (Atom atom) ≡ true
     unfolding look
     atom_tidy atom = refl
 
-    pub tidy_target : HasTidyForms (target_of begun.names begun.initial actions begun.phase)
+    pub tidy_target : HasTidyForms (target_of begun actions ends)
     tidy_target = record {
-      goal = ap is_tidy is.ends.phase_is.reached ∙ atom_tidy _;
-      actions = list_all-append is_tidy_action actions begun.phase.actions ∙ and_from (list_all is_tidy_action actions) _ steps.tidy is.ends.tidy;
+      goal = ap is_tidy is.ends.reached ∙ atom_tidy _;
+      actions = list_all-append is_tidy_action actions ends ∙ and_from (list_all is_tidy_action actions) _ steps.tidy (phase_tidy begun.frame.go is.ends.finish begun.instances ends (end_actions ends are));
     }

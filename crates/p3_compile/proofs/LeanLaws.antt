@@ -21,16 +21,16 @@ use Rattle.p3_formula.specs.declared.task.GroundStep.{GroundStep}
 use Rattle.p3_formula.specs.declared.task.GroundTask.{GroundTask}
 use Rattle.p3_formula.proofs.NameLaws.{copy_lifted, other_not_lifted}
 use Rattle.p3_endphase.specs.Ends.{AreActions, IsMove, Settles}
-use Rattle.p3_endphase.specs.declared.phase.EndPhase.{EndPhase}
 use Rattle.p3_endphase.specs.declared.phase.SoftEnd.{SoftEnd}
 use Rattle.p3_monitors.specs.declared.monitoring.Monitor.{Monitor}
 use Rattle.p3_simulation.specs.Gadgets.{AreRising}
 use Rattle.p3_simulation.specs.Monitoring.{all_modals, modals}
 use Rattle.p3_simulation.proofs.GadgetLaws.{found_step}
-use Rattle.p3_compile.specs.Compiling.{IsEnding, IsFrameOf, target_of}
+use Rattle.p3_compile.specs.Compiling.{IsFrameOf, target_of}
 use Rattle.p3_compile.specs.Lean.{BelongsTo, HasFew, IsLean, IsOfSteps, busy_modals, is_busy}
 use Rattle.p3_compile.specs.Stepping.{busy_in}
 use Rattle.p3_compile.specs.Updated.{busy_count}
+use Rattle.p3_compile.specs.declared.begun.BegunTarget.{BegunTarget}
 use Rattle.p3_compile.specs.declared.stepping.Frame.{Frame}
 use Rattle.p3_compile.proofs.EndLaws.{all_are}
 
@@ -160,28 +160,28 @@ module _ (G : GroundTask) (weights : Weights) (frame : Frame) (up : rises 0 G.st
   busy_is : (step : GroundStep) → busy_in frame step ≡ busy_modals step.effects (all_modals G)
   busy_is step = busy_by_modals step.effects frame.monitors ∙ ap (busy_modals step.effects) (all_are G frame is)
 
-  pub lean_target : (all : List Name) (initial : State) (actions : List TargetAction) (phase : EndPhase) → All (IsOfSteps weights.by_name (busy_in frame) G.steps) actions → IsEnding G weights frame phase → IsLean G weights (target_of all initial actions phase)
-  lean_target all initial actions phase lean ending =
-      let ends = actions_of_end G frame.go ending.finish ending.instances phase.actions ending.phase_is.settles in
+  pub lean_target : (begun : BegunTarget) (actions ends : List TargetAction) (finish : Form) (instances : List SoftEnd) → All (IsOfSteps weights.by_name (busy_in frame) G.steps) actions → AreActions frame.go finish instances ends → IsLean G weights (target_of begun actions ends)
+  lean_target begun actions ends finish instances lean are =
+      let of_ends = actions_of_end G frame.go finish instances ends are in
       let of_steps : (action : TargetAction) → Contains actions action → IsOfSteps weights.by_name (busy_in frame) G.steps action = λ action member. All-contains (IsOfSteps weights.by_name (busy_in frame) G.steps) actions action lean member in
-      let of_end : (action : TargetAction) → Contains phase.actions action → IsOfEnd G action = λ action member. All-contains (IsOfEnd G) phase.actions action ends member in
+      let of_end : (action : TargetAction) → Contains ends action → IsOfEnd G action = λ action member. All-contains (IsOfEnd G) ends action of_ends member in
       record {
-        kept = λ action number member counts. elim (Contains-append_cases actions phase.actions action member) [
+        kept = λ action number member counts. elim (Contains-append_cases actions ends action member) [
           | inl here ↦ let of = of_steps action here in record { step = of.step; own = of.own; is = counts_as of.step of.own action.name of.is.named number counts }
           | inr there ↦ absurd (none_some number (lifted_number G action.name) (of_end action there).uncounted counts)
         ];
-        few = λ action step member own belongs. elim (Contains-append_cases actions phase.actions action member) [
+        few = λ action step member own belongs. elim (Contains-append_cases actions ends action member) [
           | inl here ↦
               let of = of_steps action here in
               let same = same_step of.step step of.own own (same_number of.step step of.own own action.name of.is.named belongs) in
               subst (λ (s : GroundStep). HasFew weights.by_name (busy_modals s.effects (all_modals G)) s action) same (subst (λ n. HasFew weights.by_name n of.step action) (busy_is of.step) of.is.few)
           | inr there ↦ absurd (⊎_elim (λ counts. none_some step.number (lifted_number G action.name) (of_end action there).uncounted counts) (λ question. (of_end action there).unasked step.number question) belongs)
         ];
-        others = λ action member apart. elim (Contains-append_cases actions phase.actions action member) [
+        others = λ action member apart. elim (Contains-append_cases actions ends action member) [
           | inl here ↦ let of = of_steps action here in absurd (apart of.step of.own (belongs_to of.step of.own action.name of.is.named))
           | inr there ↦ (of_end action there).always
         ];
-        each = λ action member. elim (Contains-append_cases actions phase.actions action member) [
+        each = λ action member. elim (Contains-append_cases actions ends action member) [
           | inl here ↦
               let of = of_steps action here in
               inl (record {

@@ -13,6 +13,7 @@ pub mod StepLists
 pub mod FrameLaws
 pub mod EndLaws
 pub mod AssembledLaws
+pub mod EndActions
 pub mod BegunLaws
 pub mod LeanLists
 pub mod LeanLaws

@@ -1,19 +1,19 @@
 -- How a target is put together.
-use Rattle.std.specs.Prelude.{◌≡◌, ℕ, ◌+◌, ◌-◌, ◌^◌, ◌≤◌, ◌<◌, true, ◌&&◌, List, ◌∷◌, ◌++◌, length, take, drop, codes}
+use Rattle.std.specs.Prelude.{◌≡◌, ℕ, ◌+◌, ◌-◌, ◌^◌, ◌≤◌, ◌<◌, ◌&&◌, List, [], ◌∷◌, ◌++◌, length, get_or, take, drop, codes, IsTrue}
 use Rattle.std.specs.List.{list_all}
 use Rattle.std.specs.List.Sorted.{IsPermutation}
 use Rattle.p3_base.specs.Limits.{instance_limit}
 use Rattle.p3_base.specs.Words.{Name}
-use Rattle.p3_formula.specs.Conditions.{HasAtomsBelow, HasTidyForms, is_tidy_action}
+use Rattle.p3_formula.specs.Conditions.{HasAtomsBelow, HasTidyForms}
 use Rattle.p3_formula.specs.Forms.{State, truth, IsBelow}
-use Rattle.p3_formula.specs.Targets.{Compiled}
+use Rattle.p3_formula.specs.Targets.{Compiled, is_sized_action}
 use Rattle.p3_formula.specs.declared.form.Form.{Form}
+use Rattle.p3_formula.specs.declared.form.Form.TheVariants.{Atom}
 use Rattle.p3_formula.specs.declared.target.Target.{Target}
 use Rattle.p3_formula.specs.declared.target.TargetAction.{TargetAction}
 use Rattle.p3_formula.specs.declared.target.Weights.{Weights}
 use Rattle.p3_formula.specs.declared.task.GroundTask.{GroundTask}
-use Rattle.p3_endphase.specs.Ends.{AreBelow, IsEndPhase}
-use Rattle.p3_endphase.specs.declared.phase.EndPhase.{EndPhase}
+use Rattle.p3_endphase.specs.Ends.{AreActions, AreBelow, Settles}
 use Rattle.p3_endphase.specs.declared.phase.SoftEnd.{SoftEnd}
 use Rattle.p3_simulation.specs.Assembled.{HasAssembly}
 use Rattle.p3_simulation.specs.Naming.{all_numbered, question_names, wide_steps}
@@ -54,16 +54,16 @@ pub record IsFramed (G : GroundTask) (names : List Name) (frame : Frame) : Type 
 
 -- ---- the end
 
--- the end phase, by what must hold before it and what is settled in it
-pub record IsEnding (G : GroundTask) (weights : Weights) (frame : Frame) (phase : EndPhase) : Type 0 where
+-- how the end phase begins, by what must hold before it, what is settled in it, and the goal
+pub record IsEnding (G : GroundTask) (weights : Weights) (frame : Frame) (begin : List TargetAction) (instances : List SoftEnd) (goal : Form) : Type 0 where
   pub finish : Form
-  pub instances : List SoftEnd
   pub accepts : (state : State) → truth state finish ≡ (truth state G.goal && all_accept state (take (length G.hard) frame.monitors))
   pub below : IsBelow frame.go finish
   pub ends : AreSoftEnds weights.by_name G.soft (drop (length G.hard) frame.monitors) instances
   pub accept_below : AreBelow frame.go instances
-  pub phase_is : IsEndPhase finish instances frame.go phase
-  pub tidy : list_all is_tidy_action phase.actions ≡ true
+  pub counted : length instances ≡ length G.soft
+  pub begins : AreActions frame.go finish [] begin
+  pub reached : goal ≡ Atom (frame.go + (1 + length instances))
 
 -- ---- the whole
 
@@ -74,13 +74,32 @@ pub record IsBegun (G : GroundTask) (weights : Weights) (begun : BegunTarget) : 
   pub counted : length (first_names G begun.frame.go) ≡ begun.frame.first
   pub current_is : begun.current ≡ begun.frame.first + length (question_names (wide_steps weights.by_name G.steps))
   pub initial_is : begun.initial ≡ initial_bits G.initial begun.frame.monitors (length begun.names - begun.frame.go - 1)
-  pub ends : IsEnding G weights begun.frame begun.phase
+  pub ends : IsEnding G weights begun.frame begun.begin begun.instances begun.goal
   pub room : length begun.names < 2 ^ 64
   pub steps : G.step_count < 2 ^ 32
 
+-- the actions with which its end phase begins, and behind them those that settle the first so many instances
+pub record AreEnds (begun : BegunTarget) (count : ℕ) (ends : List TargetAction) : Type 0 where
+  pub settling : List TargetAction
+  pub settles : Settles begun.frame.go 0 (take count begun.instances) settling
+  pub are : ends ≡ begun.begin ++ settling
+
+-- the atoms of its end phase are numbers, and have names
+pub record HasNamedEnds (begun : BegunTarget) : Type 0 where
+  pub room : begun.frame.go + length begun.instances + 2 ≤ 2 ^ 64 - 1
+  pub begin : IsTrue (list_all (is_sized_action (length begun.names)) begun.begin)
+  pub settling : (number : ℕ) (instance : SoftEnd) (actions : List TargetAction) → number < length begun.instances → Settles begun.frame.go number (get_or begun.instances number instance ∷ []) actions
+      → IsTrue (list_all (is_sized_action (length begun.names)) actions)
+
 -- the actions of the steps, and behind them those of the end phase
-abbrev pub target_of : List Name → State → List TargetAction → EndPhase → Target
-target_of names initial actions phase = record { predicates = names; initial = initial; actions = actions ++ phase.actions; goal = phase.goal }
+abbrev pub target_of : BegunTarget → List TargetAction → List TargetAction → Target
+target_of begun actions ends = record { predicates = begun.names; initial = begun.initial; actions = actions ++ ends; goal = begun.goal }
+
+-- the whole target, where those are the actions of the steps
+pub record HasEnds (begun : BegunTarget) (actions : List TargetAction) (X : Target) : Type 0 where
+  pub ends : List TargetAction
+  pub are : AreEnds begun (length begun.instances) ends
+  pub is : X ≡ target_of begun actions ends
 
 -- what is promised of the target to which a task is compiled
 pub record IsCompiledTo (G : GroundTask) (weights : Weights) (X : Target) : Type 0 where

@@ -1,12 +1,14 @@
 //! A target whose steps have no actions yet.
 
-ghost use Rattle.std.specs.Prelude.{◌≡◌, ◌<◌, ◌+◌, ◌^◌, ◌∷◌, ◌++◌, [], length, codes, IfOk, OnOk};
+ghost use Rattle.std.specs.Prelude.{◌≡◌, ◌<◌, ◌+◌, ◌^◌, ◌∷◌, ◌++◌, [], length, slice_index_or, codes, IfOk, OnOk};
 ghost use Rattle.p3_formula.specs.Conditions.{IsReady};
 ghost use Rattle.std.specs.List.{All};
 ghost use Rattle.p3_formula.specs.Weighted.{AreNamedBelow};
 ghost use Rattle.p3_formula.specs.declared.task.GroundStep.{GroundStep};
+ghost use Rattle.p3_endphase.specs.Ends.{Settles};
+ghost use Rattle.p3_endphase.specs.declared.phase.SoftEnd.{SoftEnd};
 ghost use Rattle.p3_simulation.specs.Naming.{question_names, wide_steps};
-ghost use Rattle.p3_compile.specs.Compiling.{IsReadyTask, IsFrameOf, IsFramed, IsEnding, IsBegun, target_of};
+ghost use Rattle.p3_compile.specs.Compiling.{IsReadyTask, IsFrameOf, IsFramed, IsEnding, IsBegun, HasNamedEnds, HasEnds};
 ghost use Rattle.p3_compile.specs.Parts.{actions_of};
 ghost use Rattle.p3_compile.specs.Stepping.{current_names, IsNextStep, HasNextActions};
 
@@ -19,11 +21,12 @@ use crate::parts::StepParts;
 use crate::stepping::{Frame, has_wide, push_all, step_parts};
 use crate::weighing::is_wide;
 use p3_base::{List, Name, NoMemory};
-use p3_endphase::{EndPhase, end_phase_taking};
+use p3_endphase::{SoftEnd, finishing, push_settling, settling};
 use p3_formula::{Bits, Form, GroundStep, GroundTask, Target, TargetAction, Weights};
 use std::alloc::Global;
 
-/// A target whose steps have no actions yet: its atoms, its initial state, and its end phase.
+/// A target whose steps have no actions yet: its atoms, its initial state, how its end phase
+/// begins, what is settled in it, and its goal.
 #[derive(Drop)]
 pub struct BegunTarget {
     names: List<Name>,
@@ -31,7 +34,17 @@ pub struct BegunTarget {
     frame: Frame,
     /// The first current atom.
     current: usize,
-    phase: EndPhase,
+    begin: List<TargetAction>,
+    instances: List<SoftEnd>,
+    goal: Form,
+}
+
+/// What a begun target has of its end phase.
+#[derive(Drop)]
+struct EndParts {
+    begin: List<TargetAction>,
+    instances: List<SoftEnd>,
+    goal: Form,
 }
 
 /// The name of the running atom.
@@ -68,21 +81,28 @@ fn framed(alloc: Global, names: &mut List<Name>, task: &GroundTask) -> Result<Fr
     })
 }
 
-/// The end phase.
+/// Makes how the end phase begins, what is settled in it, and the goal.
 fn ending(
     alloc: Global,
     frame: &Frame,
     task: &GroundTask,
     weights: &Weights,
-) -> Result<EndPhase, NoMemory>
+) -> Result<EndParts, NoMemory>
     requires ready { IsReady task.now weights.now }
     requires framed { IsFrameOf task.now frame.now }
-    ensures { IfOk result (IsEnding task.now weights.now frame.now) }
+    ensures { IfOk result
+        (λ end. IsEnding task.now weights.now frame.now end.begin end.instances end.goal) }
 {
     let (hard, soft) = frame.monitors.items().split_at(task.hard.len());
     let finish = finish_form(alloc, &task.goal, hard)?;
     let instances = soft_ends(alloc, &weights.by_name, &task.soft, soft)?;
-    end_phase_taking(alloc, finish, &instances, frame.go)
+    let begin = finishing(alloc, finish, frame.go)?;
+    let goal = Form::Atom(frame.go + 1 + instances.len());
+    Ok(EndParts {
+        begin,
+        instances,
+        goal,
+    })
 }
 
 /// Names the question atoms, where some step is wide.
@@ -166,28 +186,9 @@ fn counts_in_32_bits(task: &GroundTask)
     let _count: u32 = task.step_count;
 }
 
-/// The target of these parts: the actions of the steps, and behind them those of the end phase.
-fn assembled(
-    names: List<Name>,
-    initial: Bits,
-    actions: List<TargetAction>,
-    phase: EndPhase,
-) -> Result<Target, NoMemory>
-    ensures { IfOk result (λ target. target ≡ target_of names initial actions phase) }
-{
-    let mut all = actions;
-    let EndPhase { actions, goal, .. } = phase;
-    push_all(&mut all, actions)?;
-    Ok(Target {
-        predicates: names,
-        initial,
-        actions: all,
-        goal,
-    })
-}
-
 impl BegunTarget {
-    /// Names all atoms of the target of a task, and makes its initial state and its end phase.
+    /// Names all atoms of the target of a task, and makes its initial state and what its end phase
+    /// is made from.
     ///
     /// The monitors of all constraints are made once.
     pub fn of(alloc: Global, task: &GroundTask, weights: &Weights) -> Result<BegunTarget, NoMemory>
@@ -197,16 +198,23 @@ impl BegunTarget {
         counts_in_32_bits(task);
         let mut names = List::new(alloc);
         let frame = framed(alloc, &mut names, task)?;
-        let phase = ending(alloc, &frame, task, weights)?;
+        let end = ending(alloc, &frame, task, weights)?;
         let current = push_asked(alloc, &mut names, task, weights)?;
         let idle = names.len() - frame.go - 1;
         let initial = initial_bits(alloc, &task.initial, frame.monitors.items(), idle)?;
+        let EndParts {
+            begin,
+            instances,
+            goal,
+        } = end;
         Ok(BegunTarget {
             names,
             initial,
             frame,
             current,
-            phase,
+            begin,
+            instances,
+            goal,
         })
     }
 
@@ -248,31 +256,68 @@ impl BegunTarget {
         step_parts(alloc, current, &self.frame, weights, step)
     }
 
-    /// The actions of the end phase, which stand behind those of the steps.
-    pub fn end_actions(&self) -> &[TargetAction]
-        ensures { result.now ≡ self.now.phase.actions }
+    /// Gives the actions with which the end phase begins. They stand behind those of the steps.
+    pub fn begin(&self) -> &[TargetAction]
+        ensures { result.now ≡ self.now.begin }
     {
-        self.phase.actions.items()
+        self.begin.items()
+    }
+
+    /// Counts the instances that are settled behind them.
+    pub fn instance_count(&self) -> usize
+        ensures { result ≡ length self.now.instances }
+    {
+        self.instances.len()
+    }
+
+    /// Makes the actions that settle the instance of that number.
+    pub fn settling(&self, alloc: Global, number: usize) -> Result<List<TargetAction>, NoMemory>
+        requires within { number < length self.now.instances }
+        requires room { HasNamedEnds self.now }
+        ensures { (instance : SoftEnd) → IfOk result (Settles self.now.frame.go number
+            (slice_index_or self.now.instances number instance ∷ [])) }
+    {
+        settling(
+            alloc,
+            &self.instances.items()[number],
+            number,
+            self.frame.go,
+        )
     }
 
     /// The goal.
     pub fn goal(&self) -> &Form
-        ensures { result.now ≡ self.now.phase.goal }
+        ensures { result.now ≡ self.now.goal }
     {
-        &self.phase.goal
+        &self.goal
     }
 
-    /// The target of which these are the actions of the steps.
-    pub(crate) fn target(self, actions: List<TargetAction>) -> Result<Target, NoMemory>
-        ensures { IfOk result (λ target. target
-            ≡ target_of self.names self.initial actions self.phase) }
+    /// Makes the target of which these are the actions of the steps.
+    pub(crate) fn target(
+        self,
+        alloc: Global,
+        actions: List<TargetAction>,
+    ) -> Result<Target, NoMemory>
+        requires { HasNamedEnds self }
+        ensures { IfOk result (HasEnds self actions) }
     {
         let BegunTarget {
             names,
             initial,
-            phase,
+            frame,
+            begin,
+            instances,
+            goal,
             ..
         } = self;
-        assembled(names, initial, actions, phase)
+        let mut all = actions;
+        push_all(&mut all, begin)?;
+        push_settling(alloc, &mut all, &instances, frame.go)?;
+        Ok(Target {
+            predicates: names,
+            initial,
+            actions: all,
+            goal,
+        })
     }
 }

@@ -53,5 +53,5 @@ pub fn compile(alloc: Global, task: &GroundTask, weights: &Weights) -> Result<Ta
     begun_targets_are_compiled();
     let begun = BegunTarget::of(alloc, task, weights)?;
     let actions = steps_actions(alloc, &begun, task, weights)?;
-    begun.target(actions)
+    begun.target(alloc, actions)
 }

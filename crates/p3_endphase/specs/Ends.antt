@@ -62,6 +62,12 @@ abbrev pub AreActions : ℕ → Form → List SoftEnd → List TargetAction → 
 AreActions first finish instances [] = ⊥
 AreActions first finish instances (action ∷ actions) = IsMove (first + 0) finish (λ state. truth state finish) (codes "finish") 0 action × Settles first 0 instances actions
 
+-- the actions that settle the instances stand behind the others
+pub record HasSettling (first : ℕ) (instances : List SoftEnd) (old new : List TargetAction) : Type 0 where
+  pub settling : List TargetAction
+  pub settles : Settles first 0 instances settling
+  pub are : new ≡ old ++ settling
+
 pub record IsEndPhase (finish : Form) (instances : List SoftEnd) (first : ℕ) (phase : EndPhase) : Type 0 where
   pub count : phase.atoms ≡ length instances + 2
   pub settles : AreActions first finish instances phase.actions

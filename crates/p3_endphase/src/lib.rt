@@ -3,4 +3,4 @@
 
 mod phase;
 
-pub use phase::{EndPhase, SoftEnd, end_phase, end_phase_taking};
+pub use phase::{EndPhase, SoftEnd, end_phase, finishing, push_settling, settling};

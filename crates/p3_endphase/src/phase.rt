@@ -5,7 +5,7 @@ ghost use Rattle.std.specs.Str.{str_to_ascii_lowercase};
 ghost use Rattle.p3_base.specs.Limits.{instance_limit};
 ghost use Rattle.p3_formula.specs.Forms.{IsBelow, truth};
 ghost use Rattle.p3_formula.specs.Guards.{AllAreTidy};
-ghost use Rattle.p3_endphase.specs.Ends.{AreBelow, collect_name, forgo_name, IsMove, IsEndPhase, EndsOneWay, EndsNoWay, OneFits, MovesOn, IsGuarded, AllMoveForward, AllAreAllowed};
+ghost use Rattle.p3_endphase.specs.Ends.{AreBelow, collect_name, forgo_name, IsMove, Settles, AreActions, HasSettling, IsEndPhase, EndsOneWay, EndsNoWay, OneFits, MovesOn, IsGuarded, AllMoveForward, AllAreAllowed};
 
 use p3_base::{List, Name, NoMemory};
 use p3_formula::{Form, TargetAction, copied, guarding, negate, turned};
@@ -64,7 +64,7 @@ pub fn end_phase(
 
 /// The same, where it takes the form, so that a large goal is not in memory twice. That its actions
 /// are these is all that `end_phase` says of it; the other clauses follow.
-pub fn end_phase_taking(
+fn end_phase_taking(
     alloc: Global,
     finish: Form,
     instances: &List<SoftEnd>,
@@ -73,14 +73,8 @@ pub fn end_phase_taking(
     requires { first_atom + length instances.now + 2 ≤ 2 ^ 64 - 1 }
     ensures { IfOk result (IsEndPhase finish instances.now first_atom) }
 {
-    let mut actions = List::new(alloc);
-    actions.push(finish_action(alloc, finish, first_atom)?)?;
-    for number in 0..instances.len() {
-        let instance = &instances.items()[number];
-        let collect = collect_action(alloc, instance, number, first_atom)?;
-        let forgo = forgo_action(alloc, instance, number, first_atom)?;
-        push_both(&mut actions, collect, forgo)?;
-    }
+    let mut actions = finishing(alloc, finish, first_atom)?;
+    push_settling(alloc, &mut actions, instances, first_atom)?;
     Ok(EndPhase {
         atoms: instances.len() + 2,
         actions,
@@ -88,16 +82,61 @@ pub fn end_phase_taking(
     })
 }
 
-/// Both actions stand behind the others.
-fn push_both(
-    actions: &mut List<TargetAction>,
-    collect: TargetAction,
-    forgo: TargetAction,
-) -> Result<(), NoMemory>
-    ensures { OnOk result (actions.new ≡ actions.old ++ collect ∷ forgo ∷ []) }
+/// Makes the actions of an end phase that settles nothing: `finish` alone. It takes the form, so
+/// that a large goal is not in memory twice.
+pub fn finishing(
+    alloc: Global,
+    finish: Form,
+    first_atom: usize,
+) -> Result<List<TargetAction>, NoMemory>
+    requires { first_atom + 1 ≤ 2 ^ 64 - 1 }
+    ensures { IfOk result (AreActions first_atom finish []) }
 {
-    actions.push(collect)?;
-    actions.push(forgo)?;
+    let mut actions = List::with_capacity(alloc, 1)?;
+    actions.push(finish_action(alloc, finish, first_atom)?)?;
+    Ok(actions)
+}
+
+/// Makes the actions that settle the instance of that number: `collect<k>` and `forgo<k>`.
+pub fn settling(
+    alloc: Global,
+    instance: &SoftEnd,
+    number: usize,
+    first_atom: usize,
+) -> Result<List<TargetAction>, NoMemory>
+    requires { first_atom + number + 2 ≤ 2 ^ 64 - 1 }
+    ensures { IfOk result (Settles first_atom number (instance.now ∷ [])) }
+{
+    let mut actions = List::with_capacity(alloc, 2)?;
+    actions.push(collect_action(alloc, instance, number, first_atom)?)?;
+    actions.push(forgo_action(alloc, instance, number, first_atom)?)?;
+    Ok(actions)
+}
+
+/// Puts the actions that settle the instances behind the others.
+pub fn push_settling(
+    alloc: Global,
+    actions: &mut List<TargetAction>,
+    instances: &List<SoftEnd>,
+    first_atom: usize,
+) -> Result<(), NoMemory>
+    requires { first_atom + length instances.now + 2 ≤ 2 ^ 64 - 1 }
+    ensures { OnOk result (HasSettling first_atom instances.now actions.old actions.new) }
+{
+    for number in 0..instances.len() {
+        let own = settling(alloc, &instances.items()[number], number, first_atom)?;
+        push_all(actions, own)?;
+    }
+    Ok(())
+}
+
+/// Puts more actions behind the others.
+fn push_all(actions: &mut List<TargetAction>, more: List<TargetAction>) -> Result<(), NoMemory>
+    ensures { OnOk result (actions.new ≡ actions.old ++ more) }
+{
+    for action in more.into_items() {
+        actions.push(action)?;
+    }
     Ok(())
 }
 

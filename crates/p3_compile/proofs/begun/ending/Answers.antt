@@ -1,13 +1,13 @@
 use Rattle.std.proofs.Common.{◌≡◌, ◌∙◌, ℕ, [], ◌∷◌, List, length, take, drop, refl, sym, ap, subst, arith}
 use Rattle.std.proofs.lemmas.Bool.{and_from}
-use Rattle.std.proofs.lemmas.Result.{IfOk-weaker}
 use Rattle.p3_endphase.specs.Ends.{AreBelow}
 use Rattle.p3_formula.specs.Forms.{is_below, truth}
+use Rattle.p3_formula.specs.declared.form.Form.TheVariants.{Atom}
 use Rattle.p3_monitors.specs.declared.monitoring.Monitor.{Monitor}
 use Rattle.p3_simulation.specs.Monitoring.{AreSoftEnds, modals}
 use Rattle.p3_simulation.proofs.Bounds.{below_more}
 use Rattle.p3_compile.specs.Ending.{accepting, soft_ends}
-use Rattle.p3_compile.proofs.EndLaws.{hard_inside, soft_are, finish_truth, accepting_below, cut_before, ends_below, are_soft_ends, ends_count, phase_tidy}
+use Rattle.p3_compile.proofs.EndLaws.{hard_inside, soft_are, finish_truth, accepting_below, cut_before, ends_below, are_soft_ends, ends_count}
 use Rattle.p3_compile.proofs.FrameLaws.{frame_before, sources_inside}
 use Rattle.p3_compile.proofs.begun.ending.Goals as goal
 
@@ -25,10 +25,13 @@ pub soft_ends-requires-clause-modals : goal.soft_ends-requires-clause-modals
 soft_ends-requires-clause-modals c =
     ap modals (back_is c.len.result (length c.args.task.now.hard) c.items.result.now c.args.frame.now.monitors c.split_at.result.1.now c.split_at.ensures.back c.len.ensures c.items.ensures) ∙ soft_are c.args.task.now c.args.frame.now c.requires.framed
 
-pub end_phase_taking-requires : goal.end_phase_taking-requires
-end_phase_taking-requires c =
-    let count = ap length c.in_ok-instances.ensures ∙ ends_count c.args.weights.now.by_name c.args.task.now.soft c.split_at.result.1.now in
-    let questions = c.requires.framed.questions in let room = c.requires.framed.room in omega (arith, count, questions, room)
+pub finishing-requires : goal.finishing-requires
+finishing-requires c = let questions = c.requires.framed.questions in let room = c.requires.framed.room in omega (arith, questions, room)
+
+pub overflow_add-goal-2 : goal.overflow_add-goal-2
+overflow_add-goal-2 c =
+    let counted = ap length c.in_ok-instances.ensures ∙ ends_count c.args.weights.now.by_name c.args.task.now.soft c.split_at.result.1.now in
+    let count = c.len-2.ensures in let questions = c.requires.framed.questions in let room = c.requires.framed.room in omega (arith, counted, count, questions, room)
 
 pub returns : goal.returns
 returns c =
@@ -40,14 +43,14 @@ returns c =
     let finish = c.in_ok-finish.ensures ∙ ap (accepting (c.args.task.now.goal ∷ [])) front in
     let instances = c.in_ok-instances.ensures ∙ ap (soft_ends c.args.weights.now.by_name c.args.task.now.soft) back in
     let before = cut_before go hard monitors (frame_before c.args.task.now c.args.frame.now c.requires.framed c.requires.ready.atoms) in
-    IfOk-weaker c.end_phase_taking.result _ _ (λ phase phase_is. record {
+    record {
       finish = c.in_ok-finish.finish;
-      instances = c.in_ok-instances.instances;
       accepts = λ state. ap (truth state) finish ∙ finish_truth state c.args.task.now.goal (take hard monitors);
       below = ap (is_below go) finish
           ∙ accepting_below go (c.args.task.now.goal ∷ []) (take hard monitors) (and_from (is_below go c.args.task.now.goal) _ (below_more c.args.task.now.atoms go (sources_inside c.args.task.now c.args.frame.now c.requires.framed) c.args.task.now.goal c.requires.ready.atoms.goal) refl) before.0;
       ends = subst (AreSoftEnds c.args.weights.now.by_name c.args.task.now.soft (drop hard monitors)) (sym instances) (are_soft_ends c.args.weights.now.by_name c.args.task.now.soft (drop hard monitors) (soft_are c.args.task.now c.args.frame.now c.requires.framed));
       accept_below = subst (AreBelow go) (sym instances) (ends_below go c.args.weights.now.by_name c.args.task.now.soft (drop hard monitors) before.1);
-      phase_is = phase_is;
-      tidy = phase_tidy go c.in_ok-finish.finish c.in_ok-instances.instances phase.actions phase_is.settles;
-    }) c.end_phase_taking.ensures
+      counted = ap length c.in_ok-instances.ensures ∙ ends_count c.args.weights.now.by_name c.args.task.now.soft c.split_at.result.1.now;
+      begins = c.in_ok-begin.ensures;
+      reached = let count = c.len-2.ensures in ap Atom (omega (arith, count));
+    }

@@ -1,10 +1,14 @@
-use Rattle.std.proofs.Common.{◌+◌, ◌∙◌, sym, ap, subst, take, get_or, arith}
+use Rattle.std.proofs.Common.{◌+◌, sym, ap, subst, arith}
+use Rattle.p3_formula.specs.declared.form.Form.TheVariants.{Atom}
 use Rattle.p3_endphase.specs.Ends.{AreActions}
-use Rattle.p3_endphase.proofs.ActionLemmas.{actions_next}
+use Rattle.p3_endphase.proofs.ActionLemmas.{actions_behind}
 use Rattle.p3_endphase.proofs.phase.end_phase_taking.Goals as goal
 
-pub loop-number-preserved : goal.loop-number-preserved
-loop-number-preserved c =
-    subst (AreActions c.args.first_atom c.args.finish (take (c.loop-number.number + 1) c.args.instances.now)) (sym c.in_ok-push_both.ensures)
-    (actions_next c.args.first_atom c.loop-number.number c.args.finish c.args.instances.now c.index-items-number.result _ _ c.loop-number.actions (omega arith) (sym (c.index-items-number.is ∙ ap (λ list. get_or list c.loop-number.number c.index-items-number.result) c.items.ensures))
-    c.loop-number.invariant (record { collects = c.in_ok-collect.ensures; forgoes = c.in_ok-forgo.ensures }))
+pub returns : goal.returns
+returns c =
+    let settling = c.in_ok-push_settling.ensures in
+    record {
+      count = ap (λ n. n + 2) c.len.ensures;
+      settles = subst (AreActions c.args.first_atom c.args.finish c.args.instances.now) (sym settling.are) (actions_behind c.args.first_atom c.args.finish c.args.instances.now c.in_ok-actions.actions settling.settling c.in_ok-actions.ensures settling.settles);
+      reached = let count = c.len-2.ensures in ap Atom (omega (arith, count));
+    }

@@ -17,7 +17,7 @@ returns c =
       counted = sym (ap length framed.named) ∙ framed.counted;
       current_is = c.in_ok-current.ensures.first ∙ ap (λ n. n + length questions) framed.counted;
       initial_is = c.in_ok-initial.ensures ∙ λ i. initial_bits G.initial (c.items.ensures i) (c.len.ensures i - go - 1);
-      ends = c.in_ok-phase.ensures;
+      ends = c.in_ok-end.ensures;
       room = subst (λ n. n < 2 ^ 64) c.len.ensures c.len.type_inv;
       steps = c.counts_in_32_bits.ensures;
     }
