@@ -4,6 +4,7 @@ pub mod FaithfulLaws
 pub mod FlatteningLemmas
 pub mod GroupLemmas
 pub mod HeldLemmas
+pub mod LiftingLemmas
 pub mod MeaningLemmas
 pub mod NameLemmas
 pub mod NumberLemmas

@@ -1,9 +1,9 @@
 -- What a command makes of a plan that a text spells, by its steps, and why it makes nothing of it.
-use Rattle.std.proofs.Common.{◌≡◌, ◌≤◌, List, None, length, inr, ℕ}
+use Rattle.std.proofs.Common.{◌≡◌, List, None, inr, ℕ}
 use Rattle.p3_base.specs.declared.refusal.Side.TheVariants.{Source, Written}
-use Rattle.p3_task.specs.PlanTexts.{IsPlanText, plan_offence, step_limit}
-use Rattle.p3_task.specs.Plans.{Plan}
+use Rattle.p3_task.specs.PlanTexts.{IsPlanText, plan_offence}
 use Rattle.p3_task.specs.declared.task.Task.{Task}
+use Rattle.p3_tree.specs.Reports.Plans.{lifted_lines}
 use Rattle.p3_plans.specs.Laws.{HasPlan}
 use Rattle.p3_plans.proofs.PlanLaws.{a_plan_where_no_offence}
 use Rattle.p3_eval.specs.Steps as of
@@ -11,9 +11,10 @@ use Rattle.p3_eval.specs.Steps.{AreStepsOf, OfPlanText, OfSteps}
 use Rattle.p3_eval.specs.declared.steps.Steps.{Steps}
 use Rattle.p3_cli.specs.Evaluation.{AreOfPlan, IsEvaluation, IsFaultOf, IsRejectedPlan, IsReportOf, RejectsPlan}
 use Rattle.p3_cli.specs.Explaining.{IsExplained, IsExplanation, IsUnexplained, IsUnfit, RejectsExplaining}
-use Rattle.p3_lift.specs.Lifting.{IsLiftFail}
+use Rattle.p3_lift.specs.Lifting.{IsLiftFail, IsLifted}
 use Rattle.p3_lift.specs.declared.answers.LiftFail.{LiftFail}
-use Rattle.p3_cli.specs.Lifting.{RejectsLift, TellsFail}
+use Rattle.p3_lift.specs.declared.answers.Lifted.{Lifted}
+use Rattle.p3_cli.specs.Lifting.{AreOfLift, IsLifting, RejectsLift, TellsFail}
 use Rattle.p3_cli.specs.Refusing.{AreAcceptedFor, IsRejectedBy}
 use Rattle.p3_cli.specs.Texts.{AllTexts}
 use Rattle.p3_cli.specs.declared.ending.Ending as code
@@ -45,14 +46,37 @@ module _ (texts : AllTexts) (task : Task) (accepted : AreAcceptedFor Source text
       says_more (λ end. OfSteps task steps (IsUnfit task end)) (RejectsExplaining texts) (λ how told.
       inr (record { task = task; plan = the_plan.plan; texts = its_texts; unfit = told the_plan.plan the_steps }))
 
--- a plan that is read and is not lifted
-pub unlifted_plan : (texts : AllTexts) (T U : Task) (plan : Plan) → AreAcceptedFor Source texts T → AreAcceptedFor Written texts U → IsPlanText texts.plan plan → length plan ≤ step_limit
-    → (why : LiftFail) → IsLiftFail T U plan why → (how : code.Ending) → IsRejectedBy (TellsFail why) how → IsRejectedBy (RejectsLift texts) how
-unlifted_plan texts T U plan source written spelled few why shows =
-    says_more (TellsFail why) (RejectsLift texts) (λ how told. inr (record {
-      task = T;
-      written = U;
-      plan = plan;
-      of = record { source = source; written = written; spelled = spelled; few = few };
-      unlifted = record { why = why; shows = shows; says = told };
-    }))
+-- ---- a plan of a written task
+
+module _ (texts : AllTexts) (T U : Task) (source : AreAcceptedFor Source texts T) (written : AreAcceptedFor Written texts U) (free : plan_offence texts.plan ≡ None) (steps : Steps)
+    (are : OfPlanText texts.plan (λ plan. AreStepsOf U plan steps)) where
+  pub written_plan : HasPlan texts.plan
+  written_plan = (a_plan_where_no_offence texts.plan).1 free
+
+  of_lift : AreOfLift texts T U written_plan.plan
+  of_lift = record { source = source; written = written; spelled = written_plan.spelled; few = written_plan.few }
+
+  pub its_lifted : (lifted : Lifted) → OfSteps U steps (λ plan. IsLifted T U plan lifted) → IsLifted T U written_plan.plan lifted
+  its_lifted lifted is = is written_plan.plan (are written_plan.plan written_plan.spelled)
+
+  pub is_lifting : (lifted : Lifted) → OfSteps U steps (λ plan. IsLifted T U plan lifted) → (text report : List ℕ) → IsPlanText text lifted.plan → report ≡ lifted_lines T lifted.plan lifted.cost → IsLifting texts text report
+  is_lifting lifted is text report spelled told = record {
+    task = T;
+    written = U;
+    plan = written_plan.plan;
+    of = of_lift;
+    lifted = lifted;
+    is = its_lifted lifted is;
+    spelled = spelled;
+    told = told;
+  }
+
+  pub unlifted_plan : (why : LiftFail) → OfSteps U steps (λ plan. IsLiftFail T U plan why) → (how : code.Ending) → IsRejectedBy (TellsFail why) how → IsRejectedBy (RejectsLift texts) how
+  unlifted_plan why shows =
+      says_more (TellsFail why) (RejectsLift texts) (λ how told. inr (record {
+        task = T;
+        written = U;
+        plan = written_plan.plan;
+        of = of_lift;
+        unlifted = record { why = why; shows = shows written_plan.plan (are written_plan.plan written_plan.spelled); says = told };
+      }))

@@ -1,10 +1,10 @@
 //! From the texts of a task to the task with its weights, and with its ground task, where nothing is
 //! refused.
 
-ghost use Rattle.std.specs.Prelude.{◌≡◌, ◌≤◌, ◌⊎◌, IfOk, IfErr, OnOk, None, Some, length};
+ghost use Rattle.std.specs.Prelude.{◌≡◌, ◌≤◌, ◌⊎◌, IfOk, IfErr, OnOk, None, Some};
 ghost use Rattle.p3_task.specs.Limits.{step_count};
 ghost use Rattle.p3_task.specs.Offences.{WellFormed};
-ghost use Rattle.p3_task.specs.PlanTexts.{IsPlanText, plan_offence, step_limit};
+ghost use Rattle.p3_task.specs.PlanTexts.{plan_offence};
 ghost use Rattle.p3_task.specs.Sides.{step_count_limit};
 ghost use Rattle.p3_plans.specs.Drafts.{IfRefused};
 ghost use Rattle.p3_eval.specs.Steps.{AreOfPlan, AreStepsOf, OfPlanText};
@@ -25,9 +25,9 @@ use crate::texts::Texts;
 use p3_base::Side;
 use p3_eval::{Accepted, Steps, Whole, WholeFail};
 use p3_outline::ReadFail;
-use p3_plans::{PlanFail, first_plan_offence, read_plan};
+use p3_plans::{PlanFail, first_plan_offence};
 use p3_syntax::{read_domain, read_problem};
-use p3_task::{Plan, Task};
+use p3_task::Task;
 use p3_types::{CheckFail, Checked, check};
 use std::alloc::Global;
 
@@ -60,19 +60,6 @@ pub(crate) fn behind_plan(texts: &Texts, ending: Ending) -> Ending
     match first_plan_offence(texts.plan()) {
         None => ending,
         Some(refusal) => texts.refused(&refusal),
-    }
-}
-
-/// Reads the plan.
-pub(crate) fn plan_of(alloc: Global, texts: &Texts) -> Result<Plan, Ending>
-    ensures spelled { IfOk result (IsPlanText texts.now.plan.items) }
-    ensures few { IfOk result (λ plan. length plan ≤ step_limit) }
-    ensures err { IfErr result
-        (IsRefusedFor (all_texts texts.now) (IsOfPlan (all_texts texts.now))) }
-{
-    match read_plan(alloc, texts.plan()) {
-        Ok(plan) => Ok(plan),
-        Err(fail) => Err(not_planned(texts, fail)),
     }
 }
 

@@ -1,6 +1,6 @@
 //! What `embed` makes of the texts of a task and of a plan for it.
 
-ghost use Rattle.std.specs.Prelude.{◌≡◌, ◌++◌, ◌<◌, IfErr, IfOk, IsTrue, OnOk, length, pos};
+ghost use Rattle.std.specs.Prelude.{◌≡◌, ◌<◌, IfErr, IfOk, IsTrue, OnOk, length, pos};
 ghost use Rattle.std.specs.List.{All, list_all};
 ghost use Rattle.p3_task.specs.PlanTexts.{IsPlanText};
 ghost use Rattle.p3_tree.specs.Reports.Plans.{embedded_lines};
@@ -8,8 +8,8 @@ ghost use Rattle.p3_task.specs.Validity.{Valid};
 ghost use Rattle.p3_formula.specs.Targets.{Compiled, target_cost};
 ghost use Rattle.p3_ground.specs.PlansByNumber.{names_of};
 ghost use Rattle.p3_eval.specs.Steps.{AreOfPlan, OfSteps};
-ghost use Rattle.p3_plans.specs.Layout.{has_written_words, step_layout};
-ghost use Rattle.p3_embed.specs.Plans.{IsEmbeddedPlan, bare_step, steps_at};
+ghost use Rattle.p3_plans.specs.Layout.{has_written_words};
+ghost use Rattle.p3_embed.specs.Plans.{IsEmbeddedPlan, steps_at};
 ghost use Rattle.p3_reports.specs.Reports.{report_text};
 ghost use Rattle.p3_cli.specs.Embedding.{IsEmbedding, source_layout};
 ghost use Rattle.p3_cli.specs.Evaluation.{IsFaultOf, IsRejectedPlan};
@@ -28,6 +28,7 @@ use p3_compile::compile;
 use p3_embed::{EmbedFail, Source, embed_steps};
 use p3_eval::{Steps, Whole};
 use p3_formula::Target;
+use p3_plans::push_step;
 use p3_reports::Report;
 use p3_writer::{write_domain, write_problem};
 use std::alloc::Global;
@@ -126,18 +127,8 @@ fn source_text(alloc: Global, target: &Target, places: &[usize]) -> Result<Vec<u
 {
     let mut text = Vec::new(alloc);
     for place in places {
-        push_line(&mut text, target.actions.items()[*place].name.bytes())?;
+        let action = &target.actions.items()[*place];
+        push_step(&mut text, action.name.bytes(), &[])?;
     }
     Ok(text)
-}
-
-/// Puts the line of the step of that name.
-fn push_line(text: &mut Vec<u8>, name: &[u8]) -> Result<(), NoMemory>
-    ensures { OnOk result
-        (text.new.items ≡ text.old.items ++ step_layout (bare_step name.now)) }
-{
-    text.push(b'(')?;
-    text.extend_from_slice(name)?;
-    text.extend_from_slice(b")\n")?;
-    Ok(())
 }

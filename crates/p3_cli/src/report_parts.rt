@@ -1,6 +1,8 @@
 //! What is found of tasks and plans, as the reports and the lines that say it want it.
 
-ghost use Rattle.std.specs.Prelude.{◌≡◌, IfOk, None, length, map};
+ghost use Rattle.std.specs.Prelude.{◌≡◌, ◌<◌, IfOk, None, length, map};
+ghost use Rattle.std.specs.List.{All};
+ghost use Rattle.p3_task.specs.Limits.{step_count};
 ghost use Rattle.p3_task.specs.Metrics.{value};
 ghost use Rattle.p3_task.specs.PreferenceNames.{ordered_names};
 ghost use Rattle.p3_task.specs.Refusals.First.{task_refusal};
@@ -22,13 +24,14 @@ ghost use Rattle.p3_reports.specs.Reports.{
 ghost use Rattle.p3_task.specs.Plans.{Plan};
 ghost use Rattle.p3_ground.specs.PlansByNumber.{AreNumbers};
 ghost use Rattle.p3_eval.specs.Runs.{BelongTogether, OfRun};
+ghost use Rattle.p3_lift.specs.Lifting.{numbered_steps};
 ghost use Rattle.p3_cli.specs.Lifting.{differ_rejection};
 ghost use Rattle.p3_cli.specs.Translation.{CanBeCompiled};
 
 use p3_base::{List, Name, NoMemory};
 use p3_embed::Source;
 use p3_eval::{Run, Steps, Whole};
-use p3_lift::{Differ, Lifted};
+use p3_lift::{Differ, LiftedSteps};
 use p3_metric::metric_places;
 use p3_reports::{
     CompileReport, EmbedReport, EvaluateReport, GenerateReport, LiftReport, NameCount, Quantity,
@@ -93,14 +96,17 @@ pub(crate) fn evaluated_report(
 
 /// Gives the report of a lifted plan: its length, the cost of the plan from which it was lifted,
 /// and its value.
-pub(crate) fn lifted_report(checked: &Checked, lifted: &Lifted) -> LiftReport
+pub(crate) fn lifted_report(checked: &Checked, lifted: &LiftedSteps) -> LiftReport
     requires accepted { task_refusal checked.now.side checked.now.task ≡ None }
-    requires metric { lifted.now.metric ≡ value checked.now.task lifted.now.plan }
-    ensures { lift_text result
-        ≡ lifted_lines checked.now.task lifted.now.plan lifted.now.cost }
+    requires within { All (λ number. number < step_count checked.now.task)
+        lifted.now.numbers.items }
+    requires metric { lifted.now.metric
+        ≡ value checked.now.task (numbered_steps checked.now.task lifted.now.numbers.items) }
+    ensures { lift_text result ≡ lifted_lines checked.now.task
+        (numbered_steps checked.now.task lifted.now.numbers.items) lifted.now.cost }
 {
     LiftReport {
-        steps: lifted.plan.len() as u64,
+        steps: lifted.numbers.len() as u64,
         cost: lifted.cost,
         metric: metric_of(checked, lifted.metric),
     }

@@ -1,5 +1,5 @@
 -- What judging the two plans comes to.
-use Rattle.std.specs.Prelude.{◌≡◌, ◌≢◌, ℕ, ◌<◌, ◌^◌, ℤ, pos, ◌+ℤ◌, Result, Ok, Err}
+use Rattle.std.specs.Prelude.{◌≡◌, ◌≢◌, ℕ, ◌<◌, ◌^◌, ℤ, pos, ◌+ℤ◌, List, Result, Ok, Err}
 use Rattle.std.specs.Int.RustNames.{unsigned_abs}
 use Rattle.p3_base.specs.declared.refusal.Direction.{Direction}
 use Rattle.p3_task.specs.Lifting.{lift}
@@ -7,11 +7,11 @@ use Rattle.p3_task.specs.Metrics.{signed, value}
 use Rattle.p3_task.specs.Plans.{Plan}
 use Rattle.p3_task.specs.Validity.{Valid}
 use Rattle.p3_task.specs.declared.task.Task.{Task}
-use Rattle.p3_lift.specs.Lifting.{IsFaultOf, loss_above}
+use Rattle.p3_ground.specs.PlansByNumber.{AreNumbers}
+use Rattle.p3_lift.specs.Lifting.{IsFaultOf, IsLiftFail, IsPlanOf, loss_above}
 use Rattle.p3_lift.specs.declared.answers.Differ.TheVariants.{Fault, Numbers}
 use Rattle.p3_lift.specs.declared.answers.LiftFail.{LiftFail}
 use Rattle.p3_lift.specs.declared.answers.LiftFail.TheVariants.{NotPlain, Invalid, Mismatch, NoMemory}
-use Rattle.p3_lift.specs.declared.answers.Lifted.{Lifted}
 use Rattle.p3_lift.specs.declared.judging.Outcome.{Outcome}
 use Rattle.p3_lift.specs.declared.judging.Outcome.TheVariants as outcome
 use Rattle.p3_lift.specs.declared.judging.Worth.{Worth}
@@ -36,35 +36,45 @@ abbrev pub IsOutcome : Task → Plan → Outcome → Type 0
 IsOutcome T plan (outcome.Fault told) = IsFaultOf T plan told
 IsOutcome T plan (outcome.Valid worth) = IsWorth T plan worth
 
+-- ---- the plan of the written task
+
+-- it is a plan of the plain task, its steps have those numbers, and it costs so much
+pub record IsPlanAt (U : Task) (numbers : List ℕ) (spent : ℤ) (plan : Plan) : Type 0 where
+  pub of : IsPlanOf U plan
+  pub are : AreNumbers U plan numbers
+  pub cost : spent ≡ value U plan
+
+-- it is why the plan is not lifted, to whatever task
+abbrev pub IsNoPlanOf : Task → LiftFail → Plan → Type 0
+IsNoPlanOf U fail plan = (T : Task) → IsLiftFail T U plan fail
+
+-- the steps of the lifted plan have those numbers, where the steps of the plan have the others
+abbrev pub AreCopied : Task → Task → List ℕ → List ℕ → Type 0
+AreCopied T U numbers copied = (plan : Plan) → AreNumbers U plan numbers → AreNumbers T (lift T plan) copied
+
 -- ---- the lifted plan of a plan that costs so much
 
--- it is valid, and its loss above the base is the cost
-pub record IsLiftedAt (T : Task) (written : Plan) (spent : ℤ) (lifted : Lifted) : Type 0 where
-  pub plan : lifted.plan ≡ lift T written
-  pub valid : Valid T lifted.plan
-  pub cost : lifted.cost ≡ spent
-  pub metric : lifted.metric ≡ value T lifted.plan
-  pub loss : spent ≡ loss_above T lifted.plan
+-- it is valid, with this value, and its loss above the base is the cost
+pub record IsWorthAt (T : Task) (spent told : ℤ) (plan : Plan) : Type 0 where
+  pub valid : Valid T plan
+  pub metric : told ≡ value T plan
+  pub loss : spent ≡ loss_above T plan
 
 -- it is not valid, or its loss above the base is another number; or memory is wanting
-pub record AreApartAt (T : Task) (written : Plan) (spent told lost : ℤ) : Type 0 where
-  pub valid : Valid T (lift T written)
+pub record AreApartAt (T : Task) (plan : Plan) (spent told lost : ℤ) : Type 0 where
+  pub valid : Valid T plan
   pub cost : told ≡ spent
-  pub loss : lost ≡ loss_above T (lift T written)
+  pub loss : lost ≡ loss_above T plan
   pub apart : told ≢ lost
 
-abbrev pub IsNotLiftedAt : Task → Plan → ℤ → LiftFail → Type 0
-IsNotLiftedAt T written spent (Mismatch (Fault told)) = IsFaultOf T (lift T written) told
-IsNotLiftedAt T written spent (Mismatch (Numbers cost loss)) = AreApartAt T written spent cost loss
-IsNotLiftedAt T written spent NoMemory = Unit {0}
-IsNotLiftedAt T written spent NotPlain = ⊥
-IsNotLiftedAt T written spent (Invalid told) = ⊥
+abbrev pub DiffersAt : Task → ℤ → LiftFail → Plan → Type 0
+DiffersAt T spent (Mismatch (Fault told)) plan = IsFaultOf T plan told
+DiffersAt T spent (Mismatch (Numbers cost loss)) plan = AreApartAt T plan spent cost loss
+DiffersAt T spent NoMemory plan = Unit {0}
+DiffersAt T spent NotPlain plan = ⊥
+DiffersAt T spent (Invalid told) plan = ⊥
 
--- a lifted plan with what it comes to, beside the cost
-abbrev pub lifted_with : Plan → ℤ → Worth → Lifted
-lifted_with plan cost worth = record { plan = plan; cost = cost; metric = worth.metric }
-
--- it is lifted where the cost is its loss above the base
-abbrev pub IsComparison : Plan → ℤ → Worth → Result Lifted LiftFail → Type 0
-IsComparison plan cost worth (Ok lifted) = (worth.loss ≡ cost) × (lifted ≡ lifted_with plan cost worth)
-IsComparison plan cost worth (Err fail) = (cost ≢ worth.loss) × (fail ≡ Mismatch (Numbers cost worth.loss))
+-- the value is told where the cost is the loss above the base
+abbrev pub IsComparison : ℤ → Worth → Result ℤ LiftFail → Type 0
+IsComparison cost worth (Ok metric) = (worth.loss ≡ cost) × (metric ≡ worth.metric)
+IsComparison cost worth (Err fail) = (cost ≢ worth.loss) × (fail ≡ Mismatch (Numbers cost worth.loss))

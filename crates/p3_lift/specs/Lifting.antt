@@ -1,6 +1,6 @@
 -- What lifting a plan of a written task answers.
-use Rattle.std.specs.Prelude.{◌≡◌, ◌≢◌, false, ℤ, ◌-ℤ◌, Some}
-use Rattle.p3_task.specs.Lifting.{Plain, is_plain, lift}
+use Rattle.std.specs.Prelude.{◌≡◌, ◌≢◌, ℕ, false, List, filter_map, slice_get, ℤ, ◌-ℤ◌, Some}
+use Rattle.p3_task.specs.Lifting.{Plain, is_plain, lift, steps}
 use Rattle.p3_task.specs.Metrics.{base_loss, loss, value}
 use Rattle.p3_task.specs.Plans.{Plan}
 use Rattle.p3_task.specs.Validity.{Valid, first_fault}
@@ -12,6 +12,7 @@ use Rattle.p3_lift.specs.declared.answers.Differ.TheVariants.{Fault, Numbers}
 use Rattle.p3_lift.specs.declared.answers.LiftFail.{LiftFail}
 use Rattle.p3_lift.specs.declared.answers.LiftFail.TheVariants.{NotPlain, Invalid, Mismatch, NoMemory}
 use Rattle.p3_lift.specs.declared.answers.Lifted.{Lifted}
+use Rattle.p3_lift.specs.declared.answers.LiftedSteps.{LiftedSteps}
 
 -- ---- a task read and a plain task that was written
 
@@ -34,6 +35,16 @@ pub record IsLifted (T U : Task) (written : Plan) (lifted : Lifted) : Type 0 whe
   pub cost : lifted.cost ≡ value U written
   pub metric : lifted.metric ≡ value T lifted.plan
   pub loss : lifted.cost ≡ loss_above T lifted.plan
+
+-- ---- by numbers
+
+-- the steps of those numbers
+abbrev pub numbered_steps : Task → List ℕ → Plan
+numbered_steps T numbers = filter_map (slice_get (steps T)) numbers
+
+-- the lifted plan whose steps have those numbers
+abbrev pub lifted_of : Task → LiftedSteps → Lifted
+lifted_of T lifted = record { plan = numbered_steps T lifted.numbers.items; cost = lifted.cost; metric = lifted.metric }
 
 -- ---- or it is not
 

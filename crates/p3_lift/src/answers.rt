@@ -19,6 +19,17 @@ pub struct Lifted {
     pub metric: i128,
 }
 
+/// A lifted plan by the numbers of its steps in the task read, for which it is valid.
+#[derive(Debug, Drop)]
+pub struct LiftedSteps {
+    /// The numbers of its steps.
+    pub numbers: Vec<u32>,
+    /// The cost of a `Lifted`.
+    pub cost: i128,
+    /// The value of a `Lifted`.
+    pub metric: i128,
+}
+
 /// How a lifted plan differs from the valid plan from which it was lifted.
 #[derive(Clone, Copy, Debug, PartialEq, Eq)]
 pub enum Differ {

@@ -9,6 +9,6 @@ mod names;
 mod plain;
 mod steps;
 
-pub use answers::{Differ, LiftFail, Lifted};
+pub use answers::{Differ, LiftFail, Lifted, LiftedSteps};
 pub use laws::{answers_exclude_each_other, faithful_tasks_never_mismatch};
-pub use lifting::{lift, lift_by_steps};
+pub use lifting::{lift, lift_steps};
