@@ -9,10 +9,10 @@ use Rattle.std.proofs.lemmas.List.Sums.{sum-map, sum_by-cons, sum_by-append}
 use mathlib.Core.Former.{Count}
 use denote.Hole.Carrier.{hidden}
 use Rattle.p3_formula.specs.Folds.{fold_forms}
-use Rattle.p3_formula.specs.Forms.{has_atoms, within_layer, nodes, nodes_layer}
+use Rattle.p3_formula.specs.Forms.{State, truth, has_atoms, within_layer, nodes, nodes_layer}
 use Rattle.p3_formula.specs.Literals.{said_of}
 use Rattle.p3_formula.specs.Tidy.{look, look_layer, is_tidy, is_tidy_part}
-use Rattle.p3_formula.specs.Simplified.{constant, is_value, negated}
+use Rattle.p3_formula.specs.Simplified.{constant, is_value, negated, spread}
 use Rattle.p3_formula.specs.Settled.{own_literal, denied_literal, repeats_one, clashes_one, says, closes, clashes, spread_or, pieces, gathered, gathered_parts, settled_atom, settled, settled_layer}
 use Rattle.p3_formula.specs.declared.form.Form.{Form, Row_of-Form, end_of-Form, more_of-Form, items-the_row-Form, items_hidden-the_row-Form-1}
 use Rattle.p3_formula.specs.declared.form.Form.TheBlock.{hidden-the_row-Form-0}
@@ -22,7 +22,7 @@ use Rattle.p3_formula.proofs.FormLemmas.{fold_parts, row_forms}
 use Rattle.p3_formula.proofs.TidyLaws.{negated_tidy, joined_tidy}
 use Rattle.p3_formula.proofs.AtomLaws.{negated_atoms, joined_atoms, negated_nodes, joined_nodes, more_nodes, skip_nodes}
 use Rattle.p3_formula.proofs.LiteralLaws.{neither}
-use Rattle.p3_formula.proofs.SettledTruth.{by_steps}
+use Rattle.p3_formula.proofs.SettledTruth.{by_steps, parts_truth}
 
 -- ---- one equation for each kind of form
 
@@ -229,6 +229,22 @@ module _ (allowed : ℕ → Bool) where
 
 pub settled_atoms_of : (known : ℕ → Option Bool) (form : Form) (allowed : ℕ → Bool) → has_atoms allowed form ≡ true → has_atoms allowed (settled known form) ≡ true
 settled_atoms_of known form allowed h = settled_atoms allowed known form h
+
+-- ---- two forms, put together
+
+pub both_spread : (first second : Form) → gathered true [] (spread first ++ spread second) ≡ gathered_parts true (first ∷ second ∷ [])
+both_spread first second = ap (λ rest. gathered true [] (spread first ++ rest)) (sym (append-nil (spread second)))
+
+pub ruleset both_laws = (both_spread)
+
+pub both_truth : (state : State) (first second : Form) → truth state (gathered_parts true (first ∷ second ∷ [])) ≡ (truth state first && truth state second)
+both_truth state first second = parts_truth state true (first ∷ second ∷ []) ∙ ap (λ b. truth state first && b) (and-true (truth state second))
+
+pub both_tidy : (first second : Form) → is_tidy first ≡ true → is_tidy second ≡ true → is_tidy (gathered_parts true (first ∷ second ∷ [])) ≡ true
+both_tidy first second one other = parts_tidy true (first ∷ second ∷ []) (and_from (is_tidy first) _ one (and_from (is_tidy second) true other refl))
+
+pub both_atoms : (allowed : ℕ → Bool) (first second : Form) → has_atoms allowed first ≡ true → has_atoms allowed second ≡ true → has_atoms allowed (gathered_parts true (first ∷ second ∷ [])) ≡ true
+both_atoms allowed first second one other = parts_atoms allowed true (first ∷ second ∷ []) (and_from (has_atoms allowed first) _ one (and_from (has_atoms allowed second) true other refl))
 
 -- ---- nodes
 

@@ -187,7 +187,7 @@ module _ (state : State) where
   all_pieces false [] = refl
   all_pieces false (part ∷ parts) = list_any-append (truth state) (pieces false part) (flat_map (pieces false) parts) ∙ (λ i. pieces_truth false part i || all_pieces false parts i)
 
-  parts_truth : (every : Bool) (parts : List Form) → truth state (gathered every [] (flat_map (pieces every) parts)) ≡ among every (truth state) parts
+  pub parts_truth : (every : Bool) (parts : List Form) → truth state (gathered every [] (flat_map (pieces every) parts)) ≡ among every (truth state) parts
   parts_truth every parts = gathered_truth every [] (flat_map (pieces every) parts) ∙ all_pieces every parts
 
   -- ---- the form

@@ -39,7 +39,7 @@ pub use literals::Literal;
 pub use modal::{GroundModal, GroundPref, GroundSoft};
 pub use node::Node;
 pub use same::same_form;
-pub use settled::{simplified_under, simplify_under};
+pub use settled::{gathered_both, simplified_under, simplify_under};
 pub use simpler::{negate, push_spread, simplify, tidied};
 pub use table::Table;
 pub use target::{Target, TargetAction, Weights};

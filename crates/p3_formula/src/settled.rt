@@ -1,6 +1,6 @@
 //! Forms simplified where something is known of atoms.
 
-ghost use Rattle.std.specs.Prelude.{◌≡◌, ◌≤◌, ◌++◌, map, IfOk, OnOk, IsTrue};
+ghost use Rattle.std.specs.Prelude.{◌≡◌, ◌≤◌, ◌++◌, ◌∷◌, [], true, map, IfOk, OnOk, IsTrue};
 ghost use Rattle.std.specs.List.{list_all};
 ghost use Rattle.p3_formula.specs.Forms.{State, truth, HasAtomsOf, nodes};
 ghost use Rattle.p3_formula.specs.Literals.{is_met, said_of};
@@ -45,6 +45,19 @@ pub fn simplified_under(alloc: Global, form: Form, known: &Known) -> Result<Form
     ensures value { IfOk result (λ simple. simple ≡ made.settled (said_of known.now) form) }
 {
     settled(alloc, form, known, None)
+}
+
+/// Gathers the pieces of two forms into their conjunction, each literal once. It settles neither of
+/// them again.
+#[tactic(auto, using(crate::proofs::SettledLaws::both_laws))]
+pub fn gathered_both(alloc: Global, first: Form, second: Form) -> Result<Form, NoMemory>
+    ensures value { IfOk result (λ whole.
+        whole ≡ made.gathered_parts true (first ∷ second ∷ [])) }
+{
+    let mut all = Vec::with_capacity(alloc, 2)?;
+    push_spread(&mut all, first)?;
+    push_spread(&mut all, second)?;
+    gathered(alloc, all, true)
 }
 
 /// The form with the known atoms as constants, one literal more among them, flattened, and each

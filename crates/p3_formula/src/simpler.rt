@@ -20,6 +20,7 @@ pub fn negate(alloc: Global, form: &Form) -> Result<Form, NoMemory>
     ensures truth { IfOk result (λ opposite. IsOpposite opposite form.now) }
     ensures size { IfOk result (λ opposite. nodes opposite ≤ 1 + nodes form.now) }
     ensures atoms { IfOk result (λ opposite. HasAtomsOf opposite form.now) }
+    ensures value { IfOk result (λ opposite. opposite ≡ made.negated form.now) }
 {
     negated(alloc, copied(alloc, form)?)
 }

@@ -5,21 +5,22 @@ use Rattle.std.specs.List.{All, filter}
 use Rattle.std.proofs.lemmas.List.{append-nil, take_more}
 use Rattle.std.proofs.lemmas.List.Elements.{All-nil, All-cons, All-head, All-tail, All-weaker}
 use Rattle.std.proofs.lemmas.List.Sums.{sum_by-cons, sum_by-take-le, sum_by_more_le}
-use Rattle.p3_formula.specs.Constructors.{both}
 use Rattle.p3_formula.specs.Forms.{State, truth}
 use Rattle.p3_formula.specs.Literals.{fixed, with_all}
 use Rattle.p3_formula.specs.Settled.{settled}
-use Rattle.p3_formula.specs.Simplified.{is_value}
+use Rattle.p3_formula.specs.Simplified.{is_value, negated}
 use Rattle.p3_formula.specs.Tidy.{is_tidy}
 use Rattle.p3_formula.specs.declared.form.Form.{Form}
-use Rattle.p3_formula.specs.declared.form.Form.TheVariants as form
 use Rattle.p3_formula.specs.declared.modal.GroundPref.{GroundPref}
 use Rattle.p3_formula.specs.declared.target.Weights.{Weights}
 use Rattle.p3_formula.specs.declared.task.GroundStep.{GroundStep}
-use Rattle.p3_formula.proofs.FormLemmas.{truth-Not, truth-True, truth-both, has_atoms-both, has_atoms-Not, has_atoms-True}
+use Rattle.p3_formula.proofs.FormLemmas.{truth-True, has_atoms-True}
+use Rattle.p3_formula.proofs.AtomLaws.{negated_atoms}
 use Rattle.p3_formula.proofs.LiteralLaws.{known_law}
-use Rattle.p3_formula.proofs.SettledLaws.{settled_atoms_of, settled_tidy}
+use Rattle.p3_formula.proofs.SettledLaws.{both_atoms, both_tidy, both_truth, settled_atoms_of, settled_tidy}
 use Rattle.p3_formula.proofs.SettledTruth.{settled_met, value_truth}
+use Rattle.p3_formula.proofs.TidyLaws.{negated_tidy}
+use Rattle.p3_formula.proofs.TruthLaws.{negated_truth}
 use Rattle.p3_formula.specs.Weighted.{weight_of, weighted}
 use Rattle.p3_precprefs.specs.declared.choices.Choice.{Choice}
 use Rattle.p3_precprefs.specs.declared.copies.StepCopy.{StepCopy}
@@ -37,15 +38,15 @@ all_possible P choice others here all = by (is_value false choice.asked) refl
     by true is = all
     by false is = All-cons P choice others (here is) all
 
-module _ (known : ℕ → Option Bool) (body : Form) (weight : ℕ) (P Q : Choice → Type 0)
-    (first : (choice : Choice) → P choice → is_value false (satisfied known body choice).asked ≡ false → Q (satisfied known body choice))
-    (second : (choice : Choice) → P choice → is_value false (violating known body weight choice).asked ≡ false → Q (violating known body weight choice)) where
-  all_doubled : (choices : List Choice) → All P choices → All Q (doubled known body weight choices)
+module _ (body : Form) (weight : ℕ) (P Q : Choice → Type 0)
+    (first : (choice : Choice) → P choice → is_value false (satisfied body choice).asked ≡ false → Q (satisfied body choice))
+    (second : (choice : Choice) → P choice → is_value false (violating (negated body) weight choice).asked ≡ false → Q (violating (negated body) weight choice)) where
+  all_doubled : (choices : List Choice) → All P choices → All Q (doubled body weight choices)
   all_doubled [] all = All-nil Q
   all_doubled (choice ∷ choices) all =
-      let one = satisfied known body choice in
-      let other = violating known body weight choice in
-      let rest = doubled known body weight choices in
+      let one = satisfied body choice in
+      let other = violating (negated body) weight choice in
+      let rest = doubled body weight choices in
       let here = All-head P choice choices all in
       subst (All Q) (sym (append_assoc (unless_never one) (unless_never other) rest))
       (all_possible Q one (unless_never other ++ rest) (first choice here)
@@ -66,8 +67,8 @@ module _ (known : ℕ → Option Bool) (by_name : List ℕ) where
   within_split_by : (bound : ℕ) (choices : List Choice) (pref : GroundPref) → IsWithin bound choices → IsWithin (bound + weight_of by_name pref) (split_by known by_name choices pref)
   within_split_by bound choices pref within = by (nat_lt 0 (weight_of by_name pref))
     where
-      by : (has : Bool) → IsWithin (bound + weight_of by_name pref) (if has then doubled known (settled known pref.body) (weight_of by_name pref) choices else choices)
-      by true = all_doubled known (settled known pref.body) (weight_of by_name pref) (λ (choice : Choice). choice.cost < bound) (λ (choice : Choice). choice.cost < bound + weight_of by_name pref)
+      by : (has : Bool) → IsWithin (bound + weight_of by_name pref) (if has then doubled (settled known pref.body) (weight_of by_name pref) choices else choices)
+      by true = all_doubled (settled known pref.body) (weight_of by_name pref) (λ (choice : Choice). choice.cost < bound) (λ (choice : Choice). choice.cost < bound + weight_of by_name pref)
           (λ choice below _. omega (arith, below)) (λ choice below _. omega (arith, below)) choices within
       by false = within_more bound (weight_of by_name pref) choices within
 
@@ -103,10 +104,13 @@ module _ (known : ℕ → Option Bool) (by_name : List ℕ) where
   parts_split_by : (choices : List Choice) (pref : GroundPref) → All MayBe choices → All MayBe (split_by known by_name choices pref)
   parts_split_by choices pref all = by (nat_lt 0 (weight_of by_name pref))
     where
-      by : (has : Bool) → All MayBe (if has then doubled known (settled known pref.body) (weight_of by_name pref) choices else choices)
-      by true = all_doubled known (settled known pref.body) (weight_of by_name pref) MayBe MayBe
-          (λ choice _ other. record { tidy = settled_tidy known (both choice.asked (settled known pref.body)); possible = other })
-          (λ choice _ other. record { tidy = settled_tidy known (both choice.asked (form.Not (settled known pref.body))); possible = other })
+      tidy : is_tidy (settled known pref.body) ≡ true
+      tidy = settled_tidy known pref.body
+
+      by : (has : Bool) → All MayBe (if has then doubled (settled known pref.body) (weight_of by_name pref) choices else choices)
+      by true = all_doubled (settled known pref.body) (weight_of by_name pref) MayBe MayBe
+          (λ choice part other. record { tidy = both_tidy choice.asked (settled known pref.body) part.tidy tidy; possible = other })
+          (λ choice part other. record { tidy = both_tidy choice.asked (negated (settled known pref.body)) part.tidy (negated_tidy (settled known pref.body) tidy); possible = other })
           choices all
       by false = all
 
@@ -120,19 +124,16 @@ module _ (known : ℕ → Option Bool) (by_name : List ℕ) where
     abbrev IsIn : Choice → Type 0
     IsIn choice = HasAtomsIn allowed choice.asked
 
-    atoms_more : (asked form : Form) → HasAtomsIn allowed asked → HasAtomsIn allowed form → HasAtomsIn allowed (settled known (both asked form))
-    atoms_more asked form one other = settled_atoms_of known (both asked form) allowed (has_atoms-both allowed asked form one other)
-
     atoms_split_by : (choices : List Choice) (pref : GroundPref) → HasAtomsIn allowed pref.body → All IsIn choices → All IsIn (split_by known by_name choices pref)
     atoms_split_by choices pref within all = by (nat_lt 0 (weight_of by_name pref))
       where
         body : HasAtomsIn allowed (settled known pref.body)
         body = settled_atoms_of known pref.body allowed within
 
-        by : (has : Bool) → All IsIn (if has then doubled known (settled known pref.body) (weight_of by_name pref) choices else choices)
-        by true = all_doubled known (settled known pref.body) (weight_of by_name pref) IsIn IsIn
-            (λ choice has _. atoms_more choice.asked (settled known pref.body) has body)
-            (λ choice has _. atoms_more choice.asked (form.Not (settled known pref.body)) has (has_atoms-Not allowed (settled known pref.body) ∙ body))
+        by : (has : Bool) → All IsIn (if has then doubled (settled known pref.body) (weight_of by_name pref) choices else choices)
+        by true = all_doubled (settled known pref.body) (weight_of by_name pref) IsIn IsIn
+            (λ choice has _. both_atoms allowed choice.asked (settled known pref.body) has body)
+            (λ choice has _. both_atoms allowed choice.asked (negated (settled known pref.body)) has (negated_atoms allowed (settled known pref.body) ∙ body))
             choices all
         by false = all
 
@@ -158,25 +159,25 @@ module _ (known : ℕ → Option Bool) (by_name : List ℕ) where
 
     -- which of both choices is met, where the first one is
     abbrev chosen : Form → ℕ → Bool → Choice → Choice
-    chosen body weight true choice = satisfied known body choice
-    chosen body weight false choice = violating known body weight choice
+    chosen body weight true choice = satisfied body choice
+    chosen body weight false choice = violating (negated body) weight choice
 
     picked : (body : Form) (weight : ℕ) (fits holds : Bool) (choice : Choice) (kept : List Choice)
-        → cond (fits && holds) (satisfied known body choice ∷ cond (fits && not holds) (violating known body weight choice ∷ map (chosen body weight holds) kept) (map (chosen body weight holds) kept)) (cond (fits && not holds) (violating known body weight choice ∷ map (chosen body weight holds) kept) (map (chosen body weight holds) kept))
+        → cond (fits && holds) (satisfied body choice ∷ cond (fits && not holds) (violating (negated body) weight choice ∷ map (chosen body weight holds) kept) (map (chosen body weight holds) kept)) (cond (fits && not holds) (violating (negated body) weight choice ∷ map (chosen body weight holds) kept) (map (chosen body weight holds) kept))
         ≡ map (chosen body weight holds) (cond fits (choice ∷ kept) kept)
     picked body weight true true choice kept = refl
     picked body weight true false choice kept = refl
     picked body weight false holds choice kept = refl
 
     module _ (body : Form) (weight : ℕ) (holds : Bool) (is : truth state body ≡ holds) where
-      met_doubled : (choices : List Choice) → met (doubled known body weight choices) ≡ map (chosen body weight holds) (met choices)
+      met_doubled : (choices : List Choice) → met (doubled body weight choices) ≡ map (chosen body weight holds) (met choices)
       met_doubled [] = refl
       met_doubled (choice ∷ choices) =
-          let one = satisfied known body choice in
-          let other = violating known body weight choice in
-          let more = doubled known body weight choices in
-          let first : truth state one.asked ≡ (truth state choice.asked && holds) = settles (both choice.asked body) ∙ truth-both state choice.asked body ∙ ap (λ test. truth state choice.asked && test) is in
-          let second : truth state other.asked ≡ (truth state choice.asked && not holds) = settles (both choice.asked (form.Not body)) ∙ truth-both state choice.asked (form.Not body) ∙ ap (λ test. truth state choice.asked && test) (truth-Not state body ∙ ap not is) in
+          let one = satisfied body choice in
+          let other = violating (negated body) weight choice in
+          let more = doubled body weight choices in
+          let first : truth state one.asked ≡ (truth state choice.asked && holds) = both_truth state choice.asked body ∙ ap (λ test. truth state choice.asked && test) is in
+          let second : truth state other.asked ≡ (truth state choice.asked && not holds) = both_truth state choice.asked (negated body) ∙ ap (λ test. truth state choice.asked && test) (negated_truth state body ∙ ap not is) in
           let rest = met_doubled choices in
           ap met (append_assoc (unless_never one) (unless_never other) more)
           ∙ met_possible one (unless_never other ++ more)
@@ -195,7 +196,7 @@ module _ (known : ℕ → Option Bool) (by_name : List ℕ) where
     one_by : (choices : List Choice) (choice : Choice) (pref : GroundPref) → met choices ≡ choice ∷ [] → met (split_by known by_name choices pref) ≡ followed_by choice pref ∷ []
     one_by choices choice pref one = by (nat_lt 0 (weight_of by_name pref))
       where
-        by : (has : Bool) → met (if has then doubled known (settled known pref.body) (weight_of by_name pref) choices else choices) ≡ (if has then chosen (settled known pref.body) (weight_of by_name pref) (truth state pref.body) choice else choice) ∷ []
+        by : (has : Bool) → met (if has then doubled (settled known pref.body) (weight_of by_name pref) choices else choices) ≡ (if has then chosen (settled known pref.body) (weight_of by_name pref) (truth state pref.body) choice else choice) ∷ []
         by true = met_doubled (settled known pref.body) (weight_of by_name pref) (truth state pref.body) (settles pref.body) choices ∙ ap (map (chosen (settled known pref.body) (weight_of by_name pref) (truth state pref.body))) one
         by false = one
 

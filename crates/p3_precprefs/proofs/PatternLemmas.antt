@@ -6,7 +6,7 @@ use Rattle.std.proofs.Math.Seq.{take-append_seam, drop-append_seam}
 use Rattle.std.proofs.lemmas.List.{length-append}
 use Rattle.std.proofs.lemmas.List.Elements.{All-nil, All-cons, All-head, All-tail}
 use Rattle.p3_formula.specs.Settled.{settled}
-use Rattle.p3_formula.specs.Simplified.{is_value}
+use Rattle.p3_formula.specs.Simplified.{is_value, negated}
 use Rattle.p3_formula.specs.declared.form.Form.{Form}
 use Rattle.p3_formula.specs.declared.modal.GroundPref.{GroundPref}
 use Rattle.p3_formula.specs.declared.target.Weights.{Weights}
@@ -45,30 +45,30 @@ possible choice others lists kept = by (is_value false choice.asked)
     by true = Leaves choice.violated (shown others) lists kept
     by false = Keeps choice.violated (shown others) lists kept
 
-module _ (known : ℕ → Option Bool) (body : Form) (weight : ℕ) where
+module _ (body : Form) (weight : ℕ) where
   two_shown : (choice : Choice) (others : List Choice) (lists : List (List Bool)) → IsSublist (shown others) lists
-      → IsSublist (shown ((unless_never (satisfied known body choice) ++ unless_never (violating known body weight choice)) ++ others)) ((choice.violated ++ false ∷ []) ∷ (choice.violated ++ true ∷ []) ∷ lists)
+      → IsSublist (shown ((unless_never (satisfied body choice) ++ unless_never (violating (negated body) weight choice)) ++ others)) ((choice.violated ++ false ∷ []) ∷ (choice.violated ++ true ∷ []) ∷ lists)
   two_shown choice others lists kept =
-      let one = satisfied known body choice in
-      let other = violating known body weight choice in
+      let one = satisfied body choice in
+      let other = violating (negated body) weight choice in
       subst (λ list. IsSublist (shown list) ((choice.violated ++ false ∷ []) ∷ (choice.violated ++ true ∷ []) ∷ lists)) (sym (append_assoc (unless_never one) (unless_never other) others))
       (possible one (unless_never other ++ others) ((choice.violated ++ true ∷ []) ∷ lists) (possible other others lists kept))
 
-  shown_doubled : (some lists : List (List Bool)) → IsSublist some lists → (choices : List Choice) → shown choices ≡ some → IsSublist (shown (doubled known body weight choices)) (flat_map both_ways lists)
+  shown_doubled : (some lists : List (List Bool)) → IsSublist some lists → (choices : List Choice) → shown choices ≡ some → IsSublist (shown (doubled body weight choices)) (flat_map both_ways lists)
   shown_doubled _ _ Nothing [] is = Nothing
   shown_doubled _ _ Nothing (choice ∷ choices) is = absurd (cc)
   shown_doubled _ _ (Leaves one some lists kept) choices is = Leaves (one ++ false ∷ []) _ _ (Leaves (one ++ true ∷ []) _ _ (shown_doubled some lists kept choices is))
   shown_doubled _ _ (Keeps one some lists kept) [] is = absurd (cc)
   shown_doubled _ _ (Keeps one some lists kept) (choice ∷ choices) is =
-      subst (λ front. IsSublist (shown (doubled known body weight (choice ∷ choices))) ((front ++ false ∷ []) ∷ (front ++ true ∷ []) ∷ flat_map both_ways lists)) (ap (λ list. get_or list 0 one) is)
-      (two_shown choice (doubled known body weight choices) (flat_map both_ways lists) (shown_doubled some lists kept choices (ap (drop 1) is)))
+      subst (λ front. IsSublist (shown (doubled body weight (choice ∷ choices))) ((front ++ false ∷ []) ∷ (front ++ true ∷ []) ∷ flat_map both_ways lists)) (ap (λ list. get_or list 0 one) is)
+      (two_shown choice (doubled body weight choices) (flat_map both_ways lists) (shown_doubled some lists kept choices (ap (drop 1) is)))
 
 module _ (known : ℕ → Option Bool) (by_name : List ℕ) where
   shown_split_by : (pref : GroundPref) (choices : List Choice) (count : ℕ) → IsSublist (shown choices) (patterns count) → IsSublist (shown (split_by known by_name choices pref)) (patterns (cond (nat_lt 0 (weight_of by_name pref)) (suc count) count))
   shown_split_by pref choices count kept = by (nat_lt 0 (weight_of by_name pref))
     where
-      by : (has : Bool) → IsSublist (shown (if has then doubled known (settled known pref.body) (weight_of by_name pref) choices else choices)) (patterns (cond has (suc count) count))
-      by true = shown_doubled known (settled known pref.body) (weight_of by_name pref) (shown choices) (patterns count) kept choices refl
+      by : (has : Bool) → IsSublist (shown (if has then doubled (settled known pref.body) (weight_of by_name pref) choices else choices)) (patterns (cond has (suc count) count))
+      by true = shown_doubled (settled known pref.body) (weight_of by_name pref) (shown choices) (patterns count) kept choices refl
       by false = kept
 
   counted : (has : Bool) (pref : GroundPref) (kept : List GroundPref) (count : ℕ) → length kept + cond has (suc count) count ≡ length (cond has (pref ∷ kept) kept) + count

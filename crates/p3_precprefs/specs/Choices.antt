@@ -1,10 +1,9 @@
 -- How the copies of a step are made: from choices of the preferences that are violated, each with what it asks of a state beside the precondition. A choice that no state meets is left out, and so are those that would come of it.
 use Rattle.std.specs.Prelude.{ℕ, ◌+◌, ◌<◌, nat_lt, Bool, true, false, List, [], ◌∷◌, ◌++◌, map, if◌then◌else◌, Option}
 use Rattle.std.specs.List.{All, flat_map}
-use Rattle.p3_formula.specs.Constructors.{both}
 use Rattle.p3_formula.specs.Literals.{fixed, said_of, with_all}
-use Rattle.p3_formula.specs.Settled.{settled}
-use Rattle.p3_formula.specs.Simplified.{is_value, spread}
+use Rattle.p3_formula.specs.Settled.{gathered_parts, settled}
+use Rattle.p3_formula.specs.Simplified.{is_value, negated, spread}
 use Rattle.p3_formula.specs.Weighted.{weight_of, weighted_cost}
 use Rattle.p3_formula.specs.declared.form.Form.{Form}
 use Rattle.p3_formula.specs.declared.form.Form.TheVariants as form
@@ -24,25 +23,25 @@ abbrev pub first_choice : Weights → GroundStep → Choice
 first_choice weights step = record { violated = []; asked = form.True; cost = weighted_cost weights step }
 
 -- the choice where a preference is satisfied
-abbrev pub satisfied : (ℕ → Option Bool) → Form → Choice → Choice
-satisfied known body choice = record { violated = choice.violated ++ false ∷ []; asked = settled known (both choice.asked body); cost = choice.cost }
+abbrev pub satisfied : Form → Choice → Choice
+satisfied body choice = record { violated = choice.violated ++ false ∷ []; asked = gathered_parts true (choice.asked ∷ body ∷ []); cost = choice.cost }
 
--- the choice where it is violated, at its weight
-abbrev pub violating : (ℕ → Option Bool) → Form → ℕ → Choice → Choice
-violating known body weight choice = record { violated = choice.violated ++ true ∷ []; asked = settled known (both choice.asked (form.Not body)); cost = choice.cost + weight }
+-- the choice where its opposite holds, so that it is violated, at its weight
+abbrev pub violating : Form → ℕ → Choice → Choice
+violating opposite weight choice = record { violated = choice.violated ++ true ∷ []; asked = gathered_parts true (choice.asked ∷ opposite ∷ []); cost = choice.cost + weight }
 
 abbrev pub unless_never : Choice → List Choice
 unless_never choice = if is_value false choice.asked then [] else (choice ∷ [])
 
-abbrev pub both_choices : (ℕ → Option Bool) → Form → ℕ → Choice → List Choice
-both_choices known body weight choice = unless_never (satisfied known body choice) ++ unless_never (violating known body weight choice)
+abbrev pub both_choices : Form → ℕ → Choice → List Choice
+both_choices body weight choice = unless_never (satisfied body choice) ++ unless_never (violating (negated body) weight choice)
 
-abbrev pub doubled : (ℕ → Option Bool) → Form → ℕ → List Choice → List Choice
-doubled known body weight choices = flat_map (both_choices known body weight) choices
+abbrev pub doubled : Form → ℕ → List Choice → List Choice
+doubled body weight choices = flat_map (both_choices body weight) choices
 
--- a preference without weight changes nothing
+-- a preference without weight changes nothing, and any other is settled once
 abbrev pub split_by : (ℕ → Option Bool) → List ℕ → List Choice → GroundPref → List Choice
-split_by known by_name choices pref = if nat_lt 0 (weight_of by_name pref) then doubled known (settled known pref.body) (weight_of by_name pref) choices else choices
+split_by known by_name choices pref = if nat_lt 0 (weight_of by_name pref) then doubled (settled known pref.body) (weight_of by_name pref) choices else choices
 
 -- the choices after one preference after another
 abbrev pub split_all : (ℕ → Option Bool) → List ℕ → List GroundPref → List Choice → List Choice

@@ -2,14 +2,14 @@
 
 ghost use Rattle.std.specs.Prelude.{◌≡◌, ◌<◌, ◌+◌, ◌^◌, [], ◌∷◌, ◌++◌, length, sum_by, IfOk, OnOk, false};
 ghost use Rattle.p3_formula.specs.Literals.{said_of};
-ghost use Rattle.p3_formula.specs.Simplified.{is_value};
+ghost use Rattle.p3_formula.specs.Simplified.{is_value, negated};
 ghost use Rattle.p3_formula.specs.Weighted.{AreNamedBelow, HasNameBelow, weight_of, weighted_cost};
 ghost use Rattle.p3_precprefs.specs.Choices as made;
 
 use crate::weighing::{weight_of, weighted_cost};
 use p3_base::{List, NoMemory};
 use p3_formula::{
-    Form, GroundPref, GroundStep, Known, Weights, copied, simplified_under, simplify_under,
+    Form, GroundPref, GroundStep, Known, Weights, copied, gathered_both, negate, simplify_under,
 };
 use std::alloc::Global;
 
@@ -106,29 +106,30 @@ fn split_by(
     let weight = weight_of(by_name, pref);
     if weight > 0 {
         let body = simplify_under(alloc, &pref.body, known)?;
-        return doubled(alloc, choices, &body, weight, known);
+        let opposite = negate(alloc, &body)?;
+        return doubled(alloc, choices, &body, &opposite, weight);
     }
     Ok(choices)
 }
 
 /// Of each choice those that some state may meet of two: the preference is satisfied, or it is
-/// violated.
+/// violated, where its opposite holds.
 fn doubled(
     alloc: Global,
     choices: List<Choice>,
     body: &Form,
+    opposite: &Form,
     weight: u64,
-    known: &Known,
 ) -> Result<List<Choice>, NoMemory>
+    requires opposite { opposite.now ≡ negated body.now }
     requires weight { weight < 2 ^ 62 }
     requires costs { made.IsWithin (2 ^ 62) choices }
-    ensures { IfOk result (λ new.
-        new ≡ made.doubled (said_of known.now) body.now weight choices) }
+    ensures { IfOk result (λ new. new ≡ made.doubled body.now weight choices) }
 {
     let mut new = Vec::with_capacity(alloc, choices.len().saturating_mul(2))?;
     for choice in choices.into_items() {
-        push_unless_never(&mut new, satisfied(alloc, &choice, body, known)?)?;
-        push_unless_never(&mut new, violating(alloc, choice, body, weight, known)?)?;
+        push_unless_never(&mut new, satisfied(alloc, &choice, body)?)?;
+        push_unless_never(&mut new, violating(alloc, choice, opposite, weight)?)?;
     }
     Ok(List::from(new))
 }
@@ -153,13 +154,11 @@ pub(crate) fn is_false(form: &Form) -> bool
 }
 
 /// The choice where the preference is satisfied.
-fn satisfied(alloc: Global, choice: &Choice, body: &Form, known: &Known) -> Result<Choice, NoMemory>
-    ensures { IfOk result (λ new.
-        new ≡ made.satisfied (said_of known.now) body.now choice.now) }
+fn satisfied(alloc: Global, choice: &Choice, body: &Form) -> Result<Choice, NoMemory>
+    ensures { IfOk result (λ new. new ≡ made.satisfied body.now choice.now) }
 {
     let violated = entry_added(alloc, &choice.violated, false)?;
-    let asked = Form::both(alloc, copied(alloc, &choice.asked)?, copied(alloc, body)?)?;
-    let asked = simplified_under(alloc, asked, known)?;
+    let asked = gathered_both(alloc, copied(alloc, &choice.asked)?, copied(alloc, body)?)?;
     let cost = choice.cost;
     Ok(Choice {
         violated,
@@ -168,17 +167,15 @@ fn satisfied(alloc: Global, choice: &Choice, body: &Form, known: &Known) -> Resu
     })
 }
 
-/// The choice where the preference is violated, at its weight.
+/// The choice where the opposite of the preference holds, at its weight.
 fn violating(
     alloc: Global,
     choice: Choice,
-    body: &Form,
+    opposite: &Form,
     weight: u64,
-    known: &Known,
 ) -> Result<Choice, NoMemory>
     requires { choice.cost + weight < 2 ^ 64 }
-    ensures { IfOk result (λ new.
-        new ≡ made.violating (said_of known.now) body.now weight choice) }
+    ensures { IfOk result (λ new. new ≡ made.violating opposite.now weight choice) }
 {
     let Choice {
         mut violated,
@@ -186,9 +183,7 @@ fn violating(
         cost,
     } = choice;
     violated.push(true)?;
-    let opposite = Form::negation(alloc, copied(alloc, body)?)?;
-    let asked = Form::both(alloc, asked, opposite)?;
-    let asked = simplified_under(alloc, asked, known)?;
+    let asked = gathered_both(alloc, asked, copied(alloc, opposite)?)?;
     let cost = cost + weight;
     Ok(Choice {
         violated,
