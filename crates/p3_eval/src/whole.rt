@@ -113,6 +113,21 @@ impl Whole {
         &self.weights
     }
 
+    /// Hands out its parts, of which the ground task can be compiled by the weights.
+    pub fn into_parts(self) -> (Checked, GroundTask, Weights)
+        ensures checked { result.0 ≡ self.checked }
+        ensures ground_task { result.1 ≡ self.ground_task }
+        ensures weights { result.2 ≡ self.weights }
+        ensures ready { IsReady result.1 result.2 }
+    {
+        let Whole {
+            checked,
+            ground_task,
+            weights,
+        } = self;
+        (checked, ground_task, weights)
+    }
+
     /// What all plans of the task are judged by.
     pub fn grounded(&self) -> Grounded<'_>
         ensures checked { result.checked.now ≡ self.now.checked }
