@@ -1,8 +1,8 @@
 -- The actions of a begun target, written one step after another.
-use Rattle.std.proofs.Common.{◌≡◌, ◌∙◌, ℕ, ◌+◌, ◌<◌, Bool, true, false, true≢false, List, [], ◌∷◌, ◌++◌, length, map, take, get_or, refl, sym, ap, subst}
+use Rattle.std.proofs.Common.{◌≡◌, ◌∙◌, ℕ, ◌+◌, ◌<◌, Bool, true, false, true≢false, List, [], ◌∷◌, ◌++◌, length, map, take, get_or, refl, sym, ap, subst, arith}
 use Rattle.std.specs.List.{list_all}
 use Rattle.std.proofs.lemmas.Bool.{and_from}
-use Rattle.std.proofs.lemmas.List.{append-nil, map-append, take_more}
+use Rattle.std.proofs.lemmas.List.{append-nil, get_or_at, length-append, map-append, take_at, take_more}
 use Rattle.std.proofs.lemmas.List.Folds.{list_all-append, list_all-map, list_all_at}
 use Rattle.p3_base.specs.Copies.{copy_name}
 use Rattle.p3_endphase.specs.Ends.{Settles}
@@ -20,7 +20,8 @@ use Rattle.p3_compile.specs.Compiling.{IsBegun, IsCompiledTo, target_of}
 use Rattle.p3_compile.specs.Parts.{copied_action}
 use Rattle.p3_compile.specs.declared.begun.BegunTarget.{BegunTarget}
 use Rattle.p3_compile.specs.declared.parts.TargetCopy.{TargetCopy}
-use Rattle.p3_compile.proofs.BegunLaws.{one_step_more}
+use Rattle.p3_compile.specs.Stepping.{AreMade, HasStepActions, IsNextStep}
+use Rattle.p3_compile.proofs.BegunLaws.{next_step, one_step_more}
 use Rattle.p3_compile.proofs.EndActions.{ends_begin, ends_next}
 use Rattle.p3_compile.proofs.StepLists.{no_steps}
 use Rattle.p3_writer.specs.CopyText.{behind_atom, digits_of}
@@ -79,14 +80,45 @@ no_steps_written begun weights text = record {
   are = none_written text;
 }
 
+pub none_of : {A : Type 0} (items : List A) → length items ≡ 0 → items ≡ []
+none_of [] none = refl
+none_of (item ∷ items) none = absurd (omega (arith, none))
+
+-- an item stands behind those passed
+stands_behind : {A : Type 0} (passed : List A) (one : A) (rest items : List A) → passed ++ one ∷ rest ≡ items
+    → (length passed < length items) × (one ≡ get_or items (length passed) one) × (take (length passed) items ≡ passed) × (take (length passed + 1) items ≡ passed ++ one ∷ [])
+stands_behind passed one rest items is =
+    let counted = sym (length-append passed (one ∷ rest)) ∙ ap length is in
+    let within : length passed < length items = omega (arith, counted) in
+    let at = sym (ap (λ list. get_or list (length passed) one) (sym is) ∙ get_or_at passed one rest one (length passed) refl) in
+    let front = ap (take (length passed)) (sym is) ∙ take_at passed (one ∷ rest) (length passed) refl in
+    (within, at, front, take_more items (length passed) one within ∙ (λ i. front i ++ sym at i ∷ []))
+
 module _ (G : GroundTask) (weights : Weights) (begun : BegunTarget) (ready : IsReady G weights) (is : IsBegun G weights begun)
-    (index : ℕ) (step : GroundStep) (within : index < length G.steps) (at : step ≡ get_or G.steps index step) (current next : ℕ) (old mid new : BegunDomain) where
-  pub one_step_written : HasWrittenSteps begun weights (take index G.steps) current old mid → HasWrittenStep begun weights step current next mid new → HasWrittenSteps begun weights (take (index + 1) G.steps) next old new
-  one_step_written passed own = record {
-    actions = passed.actions ++ own.actions;
-    made = one_step_more G weights begun ready is index step within at current passed.actions passed.made next own.actions own.made;
-    are = more_written passed.actions own.actions old mid new passed.are own.are;
+    (passed : List GroundStep) (step : GroundStep) (rest : List GroundStep) (are : passed ++ step ∷ rest ≡ G.steps)
+    (current : ℕ) (old mid : BegunDomain) (written : HasWrittenSteps begun weights passed current old mid) where
+  abbrev behind : (length passed < length G.steps) × (step ≡ get_or G.steps (length passed) step) × (take (length passed) G.steps ≡ passed) × (take (length passed + 1) G.steps ≡ passed ++ step ∷ [])
+  behind = stands_behind passed step rest G.steps are
+
+  passed_made : AreMade begun.frame weights (take (length passed) G.steps) begun.current current written.actions
+  passed_made = subst (λ steps. AreMade begun.frame weights steps begun.current current written.actions) (sym behind.2) written.made
+
+  pub next_ready : IsNextStep begun weights step current
+  next_ready = next_step G weights begun ready is (length passed) step behind.0 behind.1 current written.actions passed_made
+
+  pub one_step_written : (next : ℕ) (new : BegunDomain) → HasWrittenStep begun weights step current next mid new → HasWrittenSteps begun weights (passed ++ step ∷ []) next old new
+  one_step_written next new own = record {
+    actions = written.actions ++ own.actions;
+    made = subst (λ steps. AreMade begun.frame weights steps begun.current next (written.actions ++ own.actions)) behind.3 (one_step_more G weights begun ready is (length passed) step behind.0 behind.1 current written.actions passed_made next own.actions own.made);
+    are = more_written written.actions own.actions old mid new written.are own.are;
   }
+
+pub all_written : (G : GroundTask) (weights : Weights) (begun : BegunTarget) (steps : List GroundStep) (current : ℕ) (old new : BegunDomain) → steps ≡ G.steps → HasWrittenSteps begun weights steps current old new → HasWrittenAll G weights begun old new
+all_written G weights begun steps current old new are written = record {
+  actions = written.actions;
+  made = subst (λ list. HasStepActions begun.frame weights list written.actions) are written.made.has;
+  are = written.are;
+}
 
 -- ---- the end phase
 

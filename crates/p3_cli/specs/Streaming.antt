@@ -1,12 +1,13 @@
 -- The texts of the target to which a ground task is compiled, written while its actions are made.
 use Rattle.std.specs.Prelude.{◌≡◌, ℕ, List, IsTrue}
 use Rattle.std.specs.List.{list_all}
+use Rattle.p3_formula.specs.Conditions.{IsReady}
 use Rattle.p3_formula.specs.declared.target.Target.{Target}
 use Rattle.p3_formula.specs.declared.target.TargetAction.{TargetAction}
 use Rattle.p3_formula.specs.declared.target.Weights.{Weights}
 use Rattle.p3_formula.specs.declared.task.GroundStep.{GroundStep}
 use Rattle.p3_formula.specs.declared.task.GroundTask.{GroundTask}
-use Rattle.p3_compile.specs.Compiling.{AreEnds, IsCompiledTo}
+use Rattle.p3_compile.specs.Compiling.{AreEnds, IsBegun, IsCompiledTo}
 use Rattle.p3_compile.specs.Stepping.{AreMade, HasNextActions, HasStepActions}
 use Rattle.p3_compile.specs.declared.begun.BegunTarget.{BegunTarget}
 use Rattle.p3_writer.specs.DomainText.{BegunDomain, with_actions}
@@ -14,6 +15,12 @@ use Rattle.p3_writer.specs.Layout.{domain_layout, is_small}
 use Rattle.p3_writer.specs.TaskOf.{task_of}
 use Rattle.p3_writer.specs.Texts.{CanBeWritten, HasProblem, IsDomainTextOf}
 use Rattle.p3_cli.specs.Translation.{AreTextsOf}
+
+-- the target is begun for the task, whose steps these are
+pub record IsBegunFor (G : GroundTask) (weights : Weights) (begun : BegunTarget) (steps : List GroundStep) : Type 0 where
+  pub ready : IsReady G weights
+  pub is : IsBegun G weights begun
+  pub all : steps ≡ G.steps
 
 -- the texts of a target to which the ground task is compiled
 pub record AreCompiledTexts (G : GroundTask) (weights : Weights) (od op : List ℕ) : Type 0 where

@@ -1,11 +1,12 @@
-//! The texts of the target to which a ground task is compiled, written step by step. What a step
-//! comes to is let go of once it is written, so the target never stands there as a whole.
+//! The texts of the target to which a ground task is compiled, written step by step. A step is let
+//! go of with what it comes to once it is written, so the target never stands there as a whole.
 
 ghost use Rattle.std.specs.Prelude.{◌≡◌, ◌∷◌, [], length, IfOk, IsTrue, OnOk};
 ghost use Rattle.std.specs.List.{list_all};
 ghost use Rattle.p3_formula.specs.Conditions.{IsReady};
 ghost use Rattle.p3_formula.specs.Targets.{is_sized_action};
-ghost use Rattle.p3_compile.specs.Compiling.{HasNamedEnds, IsBegun};
+ghost use Rattle.p3_formula.specs.declared.task.GroundTask.{GroundTask};
+ghost use Rattle.p3_compile.specs.Compiling.{HasNamedEnds};
 ghost use Rattle.p3_compile.specs.Parts.{actions_of, copied_action, copied_actions};
 ghost use Rattle.p3_compile.specs.Stepping.{IsNextStep};
 ghost use Rattle.p3_cli.specs.Streaming.{
@@ -15,45 +16,57 @@ ghost use Rattle.p3_cli.specs.Streaming.{
   HasWrittenAll,
   HasWrittenEnds,
   HasWrittenStep,
+  IsBegunFor,
 };
 
 use crate::texts::Made;
-use p3_base::NoMemory;
+use p3_base::{List, NoMemory};
 use p3_compile::{BegunTarget, StepCopies, StepParts, TargetCopy, begun_targets_are_compiled};
+use p3_eval::Whole;
 use p3_formula::{GroundStep, GroundTask, Weights};
 use p3_writer::{CopyParts, DomainText, write_problem_of};
 use std::alloc::Global;
-use std::mem::forget;
+use std::mem::{forget, replace};
 
-/// Writes the target to which a ground task is compiled.
-pub(crate) fn compiled_texts(
-    alloc: Global,
-    task: &GroundTask,
-    weights: &Weights,
-) -> Result<Made, NoMemory>
-    requires { IsReady task.now weights.now }
-    ensures { IfOk result (λ texts.
-        AreCompiledTexts task.now weights.now texts.domain.items texts.problem.items) }
+/// Writes the target to which the ground task of a task is compiled.
+pub(crate) fn compiled_texts(alloc: Global, whole: Whole) -> Result<Made, NoMemory>
+    ensures { IfOk result (λ texts. AreCompiledTexts whole.ground_task whole.weights
+        texts.domain.items texts.problem.items) }
 {
-    let begun = BegunTarget::of(alloc, task, weights)?;
-    let texts = texts_of(alloc, &begun, task, weights);
+    let (checked, mut task, weights) = whole.into_parts();
+    let texts = target_texts(alloc, &mut task, &weights);
+    forget((checked, task, weights));
+    texts
+}
+
+/// Writes the target to which a ground task is compiled, of which it takes the goal and the steps.
+fn target_texts(alloc: Global, task: &mut GroundTask, weights: &Weights) -> Result<Made, NoMemory>
+    ghost source: { GroundTask }
+    requires source { task.old ≡ source }
+    requires ready { IsReady source weights.now }
+    ensures { IfOk result (λ texts.
+        AreCompiledTexts source weights.now texts.domain.items texts.problem.items) }
+{
+    let begun = BegunTarget::taking_goal(alloc, task, weights)?;
+    let steps = replace(&mut task.steps, List::new(alloc));
+    let texts = texts_of(alloc, &begun, steps, weights);
     forget(begun);
     texts
 }
 
-/// Writes a target that is begun.
+/// Writes a target that is begun for a task of these steps.
 fn texts_of(
     alloc: Global,
     begun: &BegunTarget,
-    task: &GroundTask,
+    steps: List<GroundStep>,
     weights: &Weights,
 ) -> Result<Made, NoMemory>
-    requires ready { IsReady task.now weights.now }
-    requires begun { IsBegun task.now weights.now begun.now }
+    ghost task: { GroundTask }
+    requires begun { IsBegunFor task weights.now begun.now steps }
     ensures { IfOk result (λ texts.
-        AreCompiledTexts task.now weights.now texts.domain.items texts.problem.items) }
+        AreCompiledTexts task weights.now texts.domain.items texts.problem.items) }
 {
-    let domain = domain_of(alloc, begun, task, weights)?;
+    let domain = domain_of(alloc, begun, steps, weights)?;
     let problem = write_problem_of(alloc, begun.names(), begun.initial(), begun.goal())?;
     Ok(Made {
         domain,
@@ -66,16 +79,16 @@ fn texts_of(
 fn domain_of(
     alloc: Global,
     begun: &BegunTarget,
-    task: &GroundTask,
+    steps: List<GroundStep>,
     weights: &Weights,
 ) -> Result<Vec<u8>, NoMemory>
-    requires ready { IsReady task.now weights.now }
-    requires begun { IsBegun task.now weights.now begun.now }
-    ensures { IfOk result (λ text. HasDomainText task.now weights.now begun.now text.items) }
+    ghost task: { GroundTask }
+    requires begun { IsBegunFor task weights.now begun.now steps }
+    ensures { IfOk result (λ text. HasDomainText task weights.now begun.now text.items) }
 {
     begun_targets_are_compiled();
     let mut text = DomainText::begin(alloc, begun.names())?;
-    push_steps(alloc, &mut text, begun, task, weights)?;
+    push_steps(alloc, &mut text, begun, steps, weights)?;
     push_ends(alloc, &mut text, begun)?;
     text.finish()
 }
@@ -101,17 +114,16 @@ fn push_steps(
     alloc: Global,
     text: &mut DomainText<'_>,
     begun: &BegunTarget,
-    task: &GroundTask,
+    steps: List<GroundStep>,
     weights: &Weights,
 ) -> Result<(), NoMemory>
-    requires ready { IsReady task.now weights.now }
-    requires begun { IsBegun task.now weights.now begun.now }
+    ghost task: { GroundTask }
+    requires begun { IsBegunFor task weights.now begun.now steps }
     requires names { text.old.names ≡ begun.now.names }
-    ensures { OnOk result
-        (HasWrittenAll task.now weights.now begun.now text.old text.new) }
+    ensures { OnOk result (HasWrittenAll task weights.now begun.now text.old text.new) }
 {
     let mut current = begun.first_current();
-    for step in task.steps.items() {
+    for step in steps.into_items() {
         push_step(alloc, text, begun, weights, step, &mut current)?;
     }
     Ok(())
@@ -123,12 +135,12 @@ fn push_step(
     text: &mut DomainText<'_>,
     begun: &BegunTarget,
     weights: &Weights,
-    step: &GroundStep,
+    step: GroundStep,
     current: &mut usize,
 ) -> Result<(), NoMemory>
-    requires next { IsNextStep begun.now weights.now step.now current.old }
+    requires next { IsNextStep begun.now weights.now step current.old }
     requires names { text.old.names ≡ begun.now.names }
-    ensures { OnOk result (HasWrittenStep begun.now weights.now step.now
+    ensures { OnOk result (HasWrittenStep begun.now weights.now step
         current.old current.new text.old text.new) }
 {
     let parts = begun.step_parts(alloc, weights, step, current)?;

@@ -28,7 +28,6 @@ use p3_formula::Target;
 use p3_reports::Report;
 use p3_writer::{write_domain, write_problem};
 use std::alloc::Global;
-use std::mem::forget;
 
 /// Translates the task that the two texts spell.
 pub(crate) fn translate(alloc: Global, texts: Texts) -> Result<Product, Ending>
@@ -41,9 +40,7 @@ pub(crate) fn translate(alloc: Global, texts: Texts) -> Result<Product, Ending>
     ensures err { IfErr result (IsRefusedTask (all_texts texts)) }
 {
     let whole = taken_task(alloc, texts)?;
-    let made = translation_of(alloc, &whole)?;
-    forget(whole);
-    Ok(made)
+    Ok(translation_of(alloc, whole)?)
 }
 
 /// Accepts the task as `whole_task` does, and lets the texts go, which only a refusal asks for.
@@ -74,20 +71,18 @@ pub fn whole_task(alloc: Global, texts: &Texts) -> Result<Whole, Ending>
 }
 
 /// Writes the target of a task of which nothing is refused, and makes the report.
-fn translation_of(alloc: Global, whole: &Whole) -> Result<Product, NoMemory>
-    requires { CanBeCompiled whole.now.checked.task whole.now.ground_task whole.now.weights }
+fn translation_of(alloc: Global, whole: Whole) -> Result<Product, NoMemory>
+    requires { CanBeCompiled whole.checked.task whole.ground_task whole.weights }
     ensures text { IfOk result (λ product. HasFaithfulText
-        product.made.domain.items product.made.problem.items whole.now.checked.task) }
+        product.made.domain.items product.made.problem.items whole.checked.task) }
     ensures layout { IfOk result (λ product.
-        IsLaidOut whole.now.checked.task product.made.domain.items product.made.problem.items) }
+        IsLaidOut whole.checked.task product.made.domain.items product.made.problem.items) }
     ensures report { IfOk result (λ product.
-        report_text product.report ≡ compiled_lines whole.now.checked.task) }
+        report_text product.report ≡ compiled_lines whole.checked.task) }
 {
-    let texts = compiled_texts(alloc, whole.ground_task(), whole.weights())?;
-    Ok(Product {
-        made: texts,
-        report: Report::Compile(compiled_report(whole)),
-    })
+    let report = Report::Compile(compiled_report(&whole));
+    let made = compiled_texts(alloc, whole)?;
+    Ok(Product { made, report })
 }
 
 /// Writes a target of a task of which nothing is refused, and makes the report.

@@ -8,15 +8,18 @@ use Rattle.std.proofs.lemmas.List.Elements.{All-nil, All-cons}
 use Rattle.std.proofs.lemmas.List.Folds.{list_all-append}
 use Rattle.std.proofs.lemmas.List.FromFn.{length-map-range_with_len}
 use Rattle.p3_base.specs.Words.{Name}
-use Rattle.p3_formula.specs.Conditions.{HasAtomsBelow}
+use Rattle.p3_formula.specs.Conditions.{HasAtomsBelow, IsReady}
 use Rattle.p3_formula.specs.Forms.{State}
 use Rattle.p3_formula.specs.Kept.{atom_count}
 use Rattle.p3_formula.specs.Modals.{is_modal_below}
 use Rattle.p3_base.specs.Operators.{formulas_of}
 use Rattle.p3_formula.specs.GroundModal.{GroundModal}
+use Rattle.p3_formula.specs.declared.form.Form.{Form}
 use Rattle.p3_formula.specs.declared.modal.GroundSoft.{GroundSoft}
+use Rattle.p3_formula.specs.declared.target.Weights.{Weights}
 use Rattle.p3_formula.specs.declared.task.GroundStep.{GroundStep}
 use Rattle.p3_formula.specs.declared.task.GroundTask.{GroundTask}
+use Rattle.p3_formula.proofs.FormLemmas.{has_atoms-True}
 use Rattle.p3_formula.proofs.ReadAtoms.{all_have_more_of}
 use Rattle.p3_monitors.specs.declared.monitoring.Monitor.{Monitor}
 use Rattle.p3_simulation.specs.Naming.{all_numbered, is_wide, numbered, question_names, wide_steps}
@@ -24,7 +27,7 @@ use Rattle.p3_simulation.specs.Parts.{AreBefore}
 use Rattle.p3_simulation.specs.Monitoring.{AreMonitors, all_modals}
 use Rattle.p3_simulation.proofs.Bounds.{all_weaker}
 use Rattle.p3_simulation.proofs.Monitored.{are_before, monitors_rise}
-use Rattle.p3_compile.specs.Compiling.{IsReadyTask, IsFrameOf, IsFramed}
+use Rattle.p3_compile.specs.Compiling.{IsReadyTask, IsFrameOf, IsFramed, with_goal, without_goal}
 use Rattle.p3_regress.specs.Readers.{AreRising}
 use Rattle.p3_compile.specs.Readers.{AreByAtom, readers_of}
 use Rattle.p3_compile.specs.Monitored.{IsWatched, monitor_atoms, named_more, soft_modals}
@@ -139,3 +142,18 @@ no_questions by_name (step ∷ steps) none = by (is_wide by_name step) refl (no_
     by : (b : Bool) → is_wide by_name step ≡ b → (list_any (is_wide by_name) steps ≡ false → wide_steps by_name steps ≡ []) → cond (is_wide by_name step) (step ∷ wide_steps by_name steps) (wide_steps by_name steps) ≡ []
     by true e rest = absurd (true≢false (sym (ap (λ b. b || list_any (is_wide by_name) steps) e) ∙ none))
     by false e rest = ap (λ b. cond b (step ∷ wide_steps by_name steps) (wide_steps by_name steps)) e ∙ rest (sym (ap (λ b. b || list_any (is_wide by_name) steps) e) ∙ none)
+
+-- ---- a task whose goal is taken
+
+pub frame_with_goal : (goal : Form) (G : GroundTask) (frame : Frame) → IsFrameOf G frame → IsFrameOf (with_goal goal G) frame
+frame_with_goal goal G frame is = record { monitors = is.monitors; hard = is.hard; read = is.read; rising = is.rising; by_atom = is.by_atom; questions = is.questions; room = is.room }
+
+pub ready_without_goal : (G : GroundTask) (weights : Weights) → IsReady G weights → IsReady (without_goal G) weights
+ready_without_goal G weights ready = record {
+  atoms = record { steps = ready.atoms.steps; goal = has_atoms-True (λ atom. nat_lt atom G.atoms); hard = ready.atoms.hard; soft = ready.atoms.soft };
+  bits = ready.bits;
+  numbers = ready.numbers;
+  names = record { steps = ready.names.steps; soft = ready.names.soft };
+  few = ready.few;
+  limits = ready.limits;
+}

@@ -1,7 +1,6 @@
 pub mod CopyLists
 pub mod CopyNames
 pub mod NumberedNames
-pub mod ByAtomLists
 pub mod MonitoredLists
 pub mod SimplerChanges
 pub mod Touched
@@ -9,6 +8,7 @@ pub mod UpdateLists
 pub mod GuardLists
 pub mod EndLists
 pub mod WideSteps
+pub mod TakenSteps
 pub mod StepLists
 pub mod FrameLaws
 pub mod EndLaws

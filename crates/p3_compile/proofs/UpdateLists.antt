@@ -13,6 +13,7 @@ use Rattle.p3_formula.specs.Modals.{touches}
 use Rattle.p3_base.specs.Operators.{formulas_of}
 use Rattle.p3_formula.specs.Targets.{is_sized_change}
 use Rattle.p3_formula.specs.declared.form.Change.{Change}
+use Rattle.p3_formula.specs.declared.form.Form.{Form}
 use Rattle.p3_formula.specs.GroundModal.{GroundModal}
 use Rattle.p3_base.specs.declared.operator.Operator.TheVariants.{AtEnd, Always, Sometime, AtMostOnce, SometimeAfter, SometimeBefore}
 use Rattle.p3_formula.proofs.ReadAtoms.{all_have_more_of}
@@ -22,7 +23,7 @@ use Rattle.p3_monitors.proofs.UpdateLaws.{at_end_update}
 use Rattle.p3_simulation.specs.Parts.{AreBefore}
 use Rattle.p3_simulation.specs.Monitoring.{AreUpdates, NoMore, Untouched, Touched}
 use Rattle.p3_simulation.proofs.Bounds.{all_weaker, below_more}
-use Rattle.p3_compile.specs.Updated.{AreApart, AreTouched, HasUpdate, HasUpdates, HasOwnAtoms, busy_count}
+use Rattle.p3_compile.specs.Updated.{AreApart, AreSimpler, AreTouched, HasChanges, HasMade, HasUpdate, HasUpdates, HasOwnAtoms, busy_count}
 use Rattle.p3_compile.specs.Lean.{is_busy}
 
 module _ (step : List Change) where
@@ -210,3 +211,21 @@ module _ (step : List Change) (monitors : List Monitor) (places : List ℕ) (tou
   pub busy_there : (index : ℕ) (monitor : Monitor) → index < length places → monitor ≡ get_or monitors (get_or places index 0) monitor → is_busy step monitor.modal ≡ true
   busy_there index monitor within at =
       ap (λ (one : Monitor). is_busy step one.modal) at ∙ touched.busy (get_or places index 0) monitor (index, within, get_or_default places index (get_or places index 0) 0 within)
+
+-- ---- those of a step, and behind them the monitors'
+
+module _ (step : List Change) (monitors : List Monitor) (updates all : List Change) (has : HasUpdates step monitors [] updates) (are : all ≡ step ++ updates) where
+  abbrev all_are : all ≡ step ++ has.updates
+  all_are = are ∙ ap (λ list. step ++ list) has.are
+
+  pub made_of : HasMade step monitors all
+  made_of = record { updates = has.updates; watched = has.watched; few = has.few; atoms = has.atoms; are = all_are }
+
+  pub changes_of : (pre : Form) (new : List Change) → AreSimpler pre all new → HasChanges pre step monitors new
+  changes_of pre new simpler = record {
+    updates = has.updates;
+    watched = has.watched;
+    few = has.few;
+    atoms = has.atoms;
+    simpler = subst (λ old. AreSimpler pre old new) all_are simpler;
+  }

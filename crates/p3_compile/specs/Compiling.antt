@@ -8,7 +8,7 @@ use Rattle.p3_formula.specs.Conditions.{HasAtomsBelow, HasTidyForms}
 use Rattle.p3_formula.specs.Forms.{State, truth, IsBelow}
 use Rattle.p3_formula.specs.Targets.{Compiled, is_sized_action}
 use Rattle.p3_formula.specs.declared.form.Form.{Form}
-use Rattle.p3_formula.specs.declared.form.Form.TheVariants.{Atom}
+use Rattle.p3_formula.specs.declared.form.Form.TheVariants.{Atom, True}
 use Rattle.p3_formula.specs.declared.target.Target.{Target}
 use Rattle.p3_formula.specs.declared.target.TargetAction.{TargetAction}
 use Rattle.p3_formula.specs.declared.target.Weights.{Weights}
@@ -24,6 +24,26 @@ use Rattle.p3_compile.specs.Readers.{AreByAtom, readers_of}
 use Rattle.p3_compile.specs.Stepping.{current_names}
 use Rattle.p3_compile.specs.declared.begun.BegunTarget.{BegunTarget}
 use Rattle.p3_compile.specs.declared.stepping.Frame.{Frame}
+
+-- ---- a task and its goal
+
+-- the task that has that goal in the place of its own
+abbrev pub with_goal : Form → GroundTask → GroundTask
+with_goal goal G = record {
+  atoms = G.atoms;
+  initial = G.initial;
+  initial_cost = G.initial_cost;
+  step_count = G.step_count;
+  steps = G.steps;
+  goal = goal;
+  hard = G.hard;
+  soft = G.soft;
+  names = G.names;
+}
+
+-- what is left of a task whose goal is taken
+abbrev pub without_goal : GroundTask → GroundTask
+without_goal G = with_goal True G
 
 -- ---- the layout
 

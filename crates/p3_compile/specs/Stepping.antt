@@ -6,6 +6,7 @@ use Rattle.p3_base.specs.Words.{Name}
 use Rattle.p3_formula.specs.Conditions.{IsWithinLimits, is_step_below, is_tidy_action, width_limit}
 use Rattle.p3_formula.specs.Targets.{is_sized_action}
 use Rattle.p3_formula.specs.Weighted.{AreNamedBelow}
+use Rattle.p3_formula.specs.declared.form.Form.TheVariants.{True}
 use Rattle.p3_formula.specs.declared.target.TargetAction.{TargetAction}
 use Rattle.p3_formula.specs.declared.target.Weights.{Weights}
 use Rattle.p3_formula.specs.declared.task.GroundStep.{GroundStep}
@@ -39,6 +40,10 @@ pub record IsStepReady (frame : Frame) (weights : Weights) (step : GroundStep) :
   pub apart : AreApart frame.monitors step.effects
   pub names : AreNamedBelow (length weights.by_name) step.prefs
   pub limits : IsWithinLimits weights step
+
+-- what is left of a step whose precondition and changes are taken
+abbrev pub bare : GroundStep → GroundStep
+bare step = record { number = step.number; pre = True; prefs = step.prefs; effects = []; cost = step.cost }
 
 -- ---- the actions of one step
 

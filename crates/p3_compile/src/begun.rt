@@ -2,13 +2,14 @@
 
 ghost use Rattle.std.specs.Prelude.{◌≡◌, ◌<◌, ◌+◌, ◌^◌, ◌∷◌, ◌++◌, [], length, slice_index_or, codes, IfOk, OnOk};
 ghost use Rattle.p3_formula.specs.Conditions.{IsReady};
+ghost use Rattle.p3_formula.specs.Forms.{IsBelow};
 ghost use Rattle.std.specs.List.{All};
 ghost use Rattle.p3_formula.specs.Weighted.{AreNamedBelow};
 ghost use Rattle.p3_formula.specs.declared.task.GroundStep.{GroundStep};
 ghost use Rattle.p3_endphase.specs.Ends.{Settles};
 ghost use Rattle.p3_endphase.specs.declared.phase.SoftEnd.{SoftEnd};
 ghost use Rattle.p3_simulation.specs.Naming.{question_names, wide_steps};
-ghost use Rattle.p3_compile.specs.Compiling.{IsReadyTask, IsFrameOf, IsFramed, IsEnding, IsBegun, HasNamedEnds, HasEnds};
+ghost use Rattle.p3_compile.specs.Compiling.{IsReadyTask, IsFrameOf, IsFramed, IsEnding, IsBegun, HasNamedEnds, HasEnds, with_goal, without_goal};
 ghost use Rattle.p3_compile.specs.Parts.{actions_of};
 ghost use Rattle.p3_compile.specs.Stepping.{current_names, IsNextStep, HasNextActions};
 
@@ -22,8 +23,9 @@ use crate::stepping::{Frame, has_wide, push_all, step_parts};
 use crate::weighing::is_wide;
 use p3_base::{List, Name, NoMemory};
 use p3_endphase::{SoftEnd, finishing, push_settling, settling};
-use p3_formula::{Bits, Form, GroundStep, GroundTask, Target, TargetAction, Weights};
+use p3_formula::{Bits, Form, GroundStep, GroundTask, Target, TargetAction, Weights, copied};
 use std::alloc::Global;
+use std::mem::replace;
 
 /// A target whose steps have no actions yet: its atoms, its initial state, how its end phase
 /// begins, what is settled in it, and its goal.
@@ -81,20 +83,23 @@ fn framed(alloc: Global, names: &mut List<Name>, task: &GroundTask) -> Result<Fr
     })
 }
 
-/// Makes how the end phase begins, what is settled in it, and the goal.
+/// Makes how the end phase of a task with that goal begins, what is settled in it, and the goal that
+/// stands behind it.
 fn ending(
     alloc: Global,
     frame: &Frame,
     task: &GroundTask,
+    goal: Form,
     weights: &Weights,
 ) -> Result<EndParts, NoMemory>
     requires ready { IsReady task.now weights.now }
+    requires goal { IsBelow task.now.atoms goal }
     requires framed { IsFrameOf task.now frame.now }
-    ensures { IfOk result
-        (λ end. IsEnding task.now weights.now frame.now end.begin end.instances end.goal) }
+    ensures { IfOk result (λ end. IsEnding (with_goal goal task.now) weights.now
+        frame.now end.begin end.instances end.goal) }
 {
     let (hard, soft) = frame.monitors.items().split_at(task.hard.len());
-    let finish = finish_form(alloc, &task.goal, hard)?;
+    let finish = finish_form(alloc, goal, hard)?;
     let instances = soft_ends(alloc, &weights.by_name, &task.soft, soft)?;
     let begin = finishing(alloc, finish, frame.go)?;
     let goal = Form::Atom(frame.go + 1 + instances.len());
@@ -191,14 +196,47 @@ impl BegunTarget {
     /// is made from.
     ///
     /// The monitors of all constraints are made once.
-    pub fn of(alloc: Global, task: &GroundTask, weights: &Weights) -> Result<BegunTarget, NoMemory>
+    pub(crate) fn of(
+        alloc: Global,
+        task: &GroundTask,
+        weights: &Weights,
+    ) -> Result<BegunTarget, NoMemory>
         requires { IsReady task.now weights.now }
         ensures { IfOk result (IsBegun task.now weights.now) }
+    {
+        let goal = copied(alloc, &task.goal)?;
+        BegunTarget::with_goal(alloc, task, goal, weights)
+    }
+
+    /// Begins the target of a task as `compile` does, and takes the task's goal.
+    pub fn taking_goal(
+        alloc: Global,
+        task: &mut GroundTask,
+        weights: &Weights,
+    ) -> Result<BegunTarget, NoMemory>
+        requires { IsReady task.old weights.now }
+        ensures begun { IfOk result (IsBegun task.old weights.now) }
+        ensures left { task.new ≡ without_goal task.old }
+    {
+        let goal = replace(&mut task.goal, Form::True);
+        BegunTarget::with_goal(alloc, task, goal, weights)
+    }
+
+    /// Begins the target of the task that has that goal in the place of its own.
+    fn with_goal(
+        alloc: Global,
+        task: &GroundTask,
+        goal: Form,
+        weights: &Weights,
+    ) -> Result<BegunTarget, NoMemory>
+        requires ready { IsReady task.now weights.now }
+        requires goal { IsBelow task.now.atoms goal }
+        ensures { IfOk result (IsBegun (with_goal goal task.now) weights.now) }
     {
         counts_in_32_bits(task);
         let mut names = List::new(alloc);
         let frame = framed(alloc, &mut names, task)?;
-        let end = ending(alloc, &frame, task, weights)?;
+        let end = ending(alloc, &frame, task, goal, weights)?;
         let current = push_asked(alloc, &mut names, task, weights)?;
         let idle = names.len() - frame.go - 1;
         let initial = initial_bits(alloc, &task.initial, frame.monitors.items(), idle)?;
@@ -246,11 +284,11 @@ impl BegunTarget {
         &self,
         alloc: Global,
         weights: &Weights,
-        step: &GroundStep,
+        step: GroundStep,
         current: &mut usize,
     ) -> Result<StepParts, NoMemory>
-        requires { IsNextStep self.now weights.now step.now current.old }
-        ensures { IfOk result (λ parts. HasNextActions self.now weights.now step.now
+        requires { IsNextStep self.now weights.now step current.old }
+        ensures { IfOk result (λ parts. HasNextActions self.now weights.now step
             current.old current.new (actions_of parts)) }
     {
         step_parts(alloc, current, &self.frame, weights, step)

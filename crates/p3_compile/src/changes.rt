@@ -8,28 +8,21 @@ ghost use Rattle.p3_formula.specs.declared.form.Change.{Change as Made};
 ghost use Rattle.p3_monitors.specs.KeepsOn.{HasNone};
 ghost use Rattle.p3_regress.specs.Memory.{Extends};
 ghost use Rattle.p3_monitors.specs.FormIndex.{IndexesForms};
-ghost use Rattle.p3_compile.specs.Guarding.{IsGuardedBy};
+ghost use Rattle.p3_compile.specs.Guarding.{HasGuards, IsGuardedBy};
 ghost use Rattle.p3_compile.specs.Readers.{AreByAtom};
-ghost use Rattle.p3_compile.specs.Stepping.{IsFrame, hard_monitors};
+ghost use Rattle.p3_compile.specs.Stepping.{IsFrame, bare, hard_monitors};
 ghost use Rattle.p3_compile.specs.Updated.{AreApart, AreSimpler, AreTouched, HasUpdates, HasUpdate, HasChanges, HasMade, HasTidyConditions, MayHappen};
 
-use crate::guarding::guarded_pre;
+use crate::guarding::{hard_guards, joined_guards};
 use crate::stepping::Frame;
 use p3_base::{List, NoMemory};
-use p3_formula::{Change, Effects, Form, GroundStep, Known, Table, change_copied, effects_trimmed};
+use p3_formula::{
+    Change, Effects, Form, GroundStep, Known, Table, effects_copied, effects_trimmed,
+};
 use p3_monitors::{FormsByAtom, Monitor};
 use p3_regress::Regressed;
 use std::alloc::Global;
-
-/// A copy of each of the changes stands behind the others.
-fn push_own(alloc: Global, all: &mut Vec<Change>, changes: &[Change]) -> Result<(), NoMemory>
-    ensures { OnOk result (all.new.items ≡ all.old.items ++ changes.now) }
-{
-    for change in changes {
-        all.push(change_copied(alloc, change)?)?;
-    }
-    Ok(())
-}
+use std::mem::replace;
 
 /// What rides on a step for one monitor stands behind the other changes.
 fn push_update(
@@ -77,15 +70,6 @@ fn push_updates(
     Ok(())
 }
 
-/// No change, in a list with room for those of the step, and for two for each monitor that it
-/// touches, as far as the number of their places, which may repeat, tells.
-fn room_for(alloc: Global, step: &Effects, touched: usize) -> Result<Vec<Change>, NoMemory>
-    ensures { IfOk result (λ all. all.items ≡ []) }
-{
-    let room = step.len().saturating_add(touched.saturating_mul(2));
-    Ok(Vec::with_capacity(alloc, room)?)
-}
-
 /// The places of the monitors that read an atom which the step may change. They rise, and one may
 /// stand several times.
 fn touched(alloc: Global, frame: &Frame, regressed: &Regressed) -> Result<Vec<usize>, NoMemory>
@@ -96,25 +80,34 @@ fn touched(alloc: Global, frame: &Frame, regressed: &Regressed) -> Result<Vec<us
     regressed.places_read(alloc, &frame.readers)
 }
 
-/// The changes of a step and of the monitors at the places, which it touches.
-fn made_changes(
+/// The changes of the monitors at the places, which a step touches, at most two for each.
+fn updates(
     alloc: Global,
     frame: &Frame,
     places: &[usize],
-    step: &Effects,
     regressed: &mut Regressed,
-) -> Result<Effects, NoMemory>
+) -> Result<Vec<Change>, NoMemory>
     requires frame { IsFrame frame.now }
-    requires apart { AreApart frame.now.monitors step.now }
-    requires touched { AreTouched step.now frame.now.monitors places.now }
-    requires regressed { regressed.old.effects ≡ step.now }
-    ensures made { IfOk result (HasMade step.now frame.now.monitors) }
-    ensures effects { OnOk result (regressed.new.effects ≡ step.now) }
+    requires apart { AreApart frame.now.monitors regressed.old.effects }
+    requires touched { AreTouched regressed.old.effects frame.now.monitors places.now }
+    ensures made { IfOk result (λ updates.
+        HasUpdates regressed.old.effects frame.now.monitors [] updates.items) }
+    ensures effects { OnOk result (regressed.new.effects ≡ regressed.old.effects) }
 {
     let monitors = frame.monitors.items();
-    let mut all = room_for(alloc, step, places.len().min(monitors.len()))?;
-    push_own(alloc, &mut all, step.items())?;
+    let room = places.len().min(monitors.len()).saturating_mul(2);
+    let mut all = Vec::with_capacity(alloc, room)?;
     push_updates(alloc, &mut all, monitors, &frame.by_atom, places, regressed)?;
+    Ok(all)
+}
+
+/// The changes of a step, and behind them those that ride on it.
+fn with_updates(own: Effects, updates: Vec<Change>) -> Result<Effects, NoMemory>
+    ensures { IfOk result (λ all. all ≡ own ++ updates.items) }
+{
+    let mut all = own.into_items();
+    let mut updates = updates;
+    all.append(&mut updates)?;
     Ok(List::from(all))
 }
 
@@ -160,6 +153,18 @@ pub(crate) fn simpler(alloc: Global, pre: &Form, changes: Effects) -> Result<Eff
     Ok(trimmed)
 }
 
+/// The changes that ride on a step for the monitors that it touches.
+fn step_updates(alloc: Global, frame: &Frame, effects: &Effects) -> Result<Vec<Change>, NoMemory>
+    requires frame { IsFrame frame.now }
+    requires apart { AreApart frame.now.monitors effects.now }
+    ensures { IfOk result (λ updates.
+        HasUpdates effects.now frame.now.monitors [] updates.items) }
+{
+    let mut regressed = Regressed::open(alloc, Table::new(alloc), effects)?;
+    let places = touched(alloc, frame, &regressed)?;
+    updates(alloc, frame, &places, &mut regressed)
+}
+
 /// The changes of a step in the target, simplified by what its precondition fixes: its own, and
 /// those of the monitors that it touches.
 pub(crate) fn step_changes(
@@ -174,10 +179,35 @@ pub(crate) fn step_changes(
     ensures tidy { IfOk result HasTidyConditions }
     ensures possible { IfOk result (All MayHappen) }
 {
-    let mut regressed = Regressed::open(alloc, Table::new(alloc), &step.effects)?;
-    let places = touched(alloc, frame, &regressed)?;
-    let made = made_changes(alloc, frame, &places, &step.effects, &mut regressed)?;
+    let updates = step_updates(alloc, frame, &step.effects)?;
+    let own = effects_copied(alloc, &step.effects)?;
+    let made = with_updates(own, updates)?;
     simpler(alloc, &step.pre, made)
+}
+
+/// What the monitors that a step touches add to it.
+#[derive(Drop)]
+struct Riders {
+    /// The changes of these monitors.
+    updates: Vec<Change>,
+    /// What must hold so that no hard constraint is broken for good.
+    guards: Vec<Form>,
+}
+
+/// What rides on a step whose copies are made.
+fn riding(alloc: Global, frame: &Frame, effects: &Effects) -> Result<Riders, NoMemory>
+    requires frame { IsFrame frame.now }
+    requires apart { AreApart frame.now.monitors effects.now }
+    ensures updates { IfOk result (λ (all : Riders).
+        HasUpdates effects.now frame.now.monitors [] all.updates.items) }
+    ensures guards { IfOk result (λ (all : Riders).
+        HasGuards effects.now (hard_monitors frame.now) all.guards.items) }
+{
+    let mut regressed = Regressed::open(alloc, Table::new(alloc), effects)?;
+    let places = touched(alloc, frame, &regressed)?;
+    let updates = updates(alloc, frame, &places, &mut regressed)?;
+    let guards = hard_guards(alloc, frame, &places, &mut regressed)?;
+    Ok(Riders { updates, guards })
 }
 
 /// The precondition of a step's copies, and its changes in the target.
@@ -189,22 +219,25 @@ pub(crate) struct GuardedStep {
     pub(crate) effects: Effects,
 }
 
-/// The precondition and the changes of a step whose copies are made.
+/// The precondition and the changes of a step whose copies are made. The step gives its own.
 pub(crate) fn guarded_step(
     alloc: Global,
     frame: &Frame,
-    step: &GroundStep,
+    step: &mut GroundStep,
 ) -> Result<GuardedStep, NoMemory>
     requires frame { IsFrame frame.now }
-    requires apart { AreApart frame.now.monitors step.now.effects }
+    requires apart { AreApart frame.now.monitors step.old.effects }
     ensures pre { IfOk result (λ (made : GuardedStep).
-        IsGuardedBy step.now.effects (hard_monitors frame.now) step.now.pre made.pre) }
+        IsGuardedBy step.old.effects (hard_monitors frame.now) step.old.pre made.pre) }
     ensures changes { IfOk result (λ (made : GuardedStep).
-        HasMade step.now.effects frame.now.monitors made.effects) }
+        HasMade step.old.effects frame.now.monitors made.effects) }
+    ensures left { OnOk result (step.new ≡ bare step.old) }
 {
-    let mut regressed = Regressed::open(alloc, Table::new(alloc), &step.effects)?;
-    let places = touched(alloc, frame, &regressed)?;
-    let effects = made_changes(alloc, frame, &places, &step.effects, &mut regressed)?;
-    let pre = guarded_pre(alloc, frame, &places, &step.pre, &mut regressed)?;
+    let riders = riding(alloc, frame, &step.effects)?;
+    let Riders { updates, guards } = riders;
+    let own = replace(&mut step.effects, List::new(alloc));
+    let effects = with_updates(own, updates)?;
+    let hard = replace(&mut step.pre, Form::True);
+    let pre = joined_guards(alloc, hard, guards)?;
     Ok(GuardedStep { pre, effects })
 }

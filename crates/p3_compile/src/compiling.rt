@@ -9,6 +9,7 @@ ghost use Rattle.p3_compile.specs.Compiling.{IsBegun};
 ghost use Rattle.p3_compile.specs.Stepping.{HasStepActions};
 
 use crate::begun::BegunTarget;
+use crate::copying::step_copied;
 use crate::laws::begun_targets_are_compiled;
 use crate::stepping::push_all;
 use p3_base::{List, NoMemory};
@@ -29,7 +30,8 @@ fn steps_actions(
     let mut actions = List::new(alloc);
     let mut current = begun.first_current();
     for step in task.steps.items() {
-        let parts = begun.step_parts(alloc, weights, step, &mut current)?;
+        let own = step_copied(alloc, step)?;
+        let parts = begun.step_parts(alloc, weights, own, &mut current)?;
         push_all(&mut actions, parts.into_actions(alloc)?)?;
     }
     Ok(actions)

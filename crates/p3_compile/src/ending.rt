@@ -27,11 +27,11 @@ fn accepting(alloc: Global, parts: List<Form>, monitors: &[Monitor]) -> Result<F
 }
 
 /// The goal holds, and all monitors of the hard constraints accept.
-pub(crate) fn finish_form(alloc: Global, goal: &Form, hard: &[Monitor]) -> Result<Form, NoMemory>
-    ensures { IfOk result (λ form. form ≡ accepting (goal.now ∷ []) hard.now) }
+pub(crate) fn finish_form(alloc: Global, goal: Form, hard: &[Monitor]) -> Result<Form, NoMemory>
+    ensures { IfOk result (λ form. form ≡ accepting (goal ∷ []) hard.now) }
 {
-    let mut parts = List::new(alloc);
-    parts.push(copied(alloc, goal)?)?;
+    let mut parts = List::with_capacity(alloc, hard.len().saturating_add(1))?;
+    parts.push(goal)?;
     accepting(alloc, parts, hard)
 }
 

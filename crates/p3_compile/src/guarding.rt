@@ -5,13 +5,13 @@ ghost use Rattle.std.specs.Prelude.{◌≡◌, ◌++◌, IfOk, OnOk};
 ghost use Rattle.p3_regress.specs.Memory.{Extends};
 ghost use Rattle.p3_monitors.specs.FormIndex.{IndexesForms};
 ghost use Rattle.p3_compile.specs.Readers.{AreByAtom};
-ghost use Rattle.p3_compile.specs.Guarding.{HasGuards, HasOneGuard, IsGuardedBy, guarded_by};
+ghost use Rattle.p3_compile.specs.Guarding.{HasGuards, HasOneGuard, guarded_by};
 ghost use Rattle.p3_compile.specs.Stepping.{IsFrame, hard_monitors};
 
 use crate::changes::{is_true, part_count};
 use crate::stepping::Frame;
 use p3_base::{List, NoMemory};
-use p3_formula::{Form, copied, push_spread};
+use p3_formula::{Form, push_spread};
 use p3_monitors::{FormsByAtom, Monitor};
 use p3_regress::Regressed;
 use std::alloc::Global;
@@ -68,36 +68,33 @@ fn guards(
     Ok(guards)
 }
 
-/// The precondition, and that the guards hold, behind its parts.
-fn joined_guards(alloc: Global, pre: &Form, guards: Vec<Form>) -> Result<Form, NoMemory>
-    ensures { IfOk result (λ form. form ≡ guarded_by pre.now guards.items) }
-{
-    let own = copied(alloc, pre)?;
-    if guards.is_empty() {
-        return Ok(own);
-    }
-    let room = part_count(&own).saturating_add(guards.len());
-    let mut parts = Vec::with_capacity(alloc, room)?;
-    let mut guards = guards;
-    push_spread(&mut parts, own)?;
-    parts.append(&mut guards)?;
-    Ok(Form::And(List::from(parts)))
-}
-
-/// The precondition of a step, and that it breaks none of the hard constraints whose monitors stand
-/// at these places and which would stay broken.
-pub(crate) fn guarded_pre(
+/// The guards of those of the hard constraints whose monitors stand at these places and which would
+/// stay broken.
+pub(crate) fn hard_guards(
     alloc: Global,
     frame: &Frame,
     places: &[usize],
-    pre: &Form,
     regressed: &mut Regressed,
-) -> Result<Form, NoMemory>
+) -> Result<Vec<Form>, NoMemory>
     requires { IsFrame frame.now }
-    ensures { IfOk result
-        (IsGuardedBy regressed.old.effects (hard_monitors frame.now) pre.now) }
+    ensures { IfOk result (λ guards.
+        HasGuards regressed.old.effects (hard_monitors frame.now) guards.items) }
 {
     let (hard, _) = frame.monitors.items().split_at(frame.hard);
-    let guards = guards(alloc, hard, &frame.by_atom, places, regressed)?;
-    joined_guards(alloc, pre, guards)
+    guards(alloc, hard, &frame.by_atom, places, regressed)
+}
+
+/// The precondition, and that the guards hold, behind its parts.
+pub(crate) fn joined_guards(alloc: Global, pre: Form, guards: Vec<Form>) -> Result<Form, NoMemory>
+    ensures { IfOk result (λ form. form ≡ guarded_by pre guards.items) }
+{
+    if guards.is_empty() {
+        return Ok(pre);
+    }
+    let room = part_count(&pre).saturating_add(guards.len());
+    let mut parts = Vec::with_capacity(alloc, room)?;
+    let mut guards = guards;
+    push_spread(&mut parts, pre)?;
+    parts.append(&mut guards)?;
+    Ok(Form::And(List::from(parts)))
 }

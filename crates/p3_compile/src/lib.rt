@@ -5,6 +5,7 @@ mod begun;
 mod bits;
 mod changes;
 mod compiling;
+mod copying;
 mod ending;
 mod guarding;
 mod laws;

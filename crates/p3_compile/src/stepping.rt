@@ -82,20 +82,21 @@ fn chain_actions(
     ask(alloc, step, effects, weights, frame.go, frame.first, own)
 }
 
-/// What a step that has a cost comes to.
+/// What a step that has a cost comes to. A step whose copies are made gives its precondition and
+/// its changes.
 fn costed_parts(
     alloc: Global,
     current: &mut usize,
     frame: &Frame,
     weights: &Weights,
-    step: &GroundStep,
+    step: &mut GroundStep,
 ) -> Result<StepParts, NoMemory>
     requires frame { IsFrame frame.now }
-    requires ready { IsStepReady frame.now weights.now step.now }
-    requires cost { IsSome step.now.cost }
-    requires room { HasRoom frame.now weights.now step.now current.old }
+    requires ready { IsStepReady frame.now weights.now step.old }
+    requires cost { IsSome step.old.cost }
+    requires room { HasRoom frame.now weights.now step.old current.old }
     ensures { IfOk result (λ parts.
-        HasActions frame.now weights.now step.now current.old current.new (actions_of parts)) }
+        HasActions frame.now weights.now step.old current.old current.new (actions_of parts)) }
 {
     if has_many_weights(&weights.by_name, step) {
         let effects = step_changes(alloc, frame, step)?;
@@ -121,22 +122,42 @@ pub(crate) fn push_all(
     Ok(())
 }
 
+/// What a step comes to, of which it may take parts. Without a cost it has no action.
+fn taken_parts(
+    alloc: Global,
+    current: &mut usize,
+    frame: &Frame,
+    weights: &Weights,
+    step: &mut GroundStep,
+) -> Result<StepParts, NoMemory>
+    requires frame { IsFrame frame.now }
+    requires ready { IsStepReady frame.now weights.now step.old }
+    requires room { HasRoom frame.now weights.now step.old current.old }
+    ensures { IfOk result (λ parts.
+        HasActions frame.now weights.now step.old current.old current.new (actions_of parts)) }
+{
+    if step.cost.is_some() {
+        return costed_parts(alloc, current, frame, weights, step);
+    }
+    Ok(StepParts::Actions(List::new(alloc)))
+}
+
 /// What a step comes to. Without a cost it has no action.
 pub(crate) fn step_parts(
     alloc: Global,
     current: &mut usize,
     frame: &Frame,
     weights: &Weights,
-    step: &GroundStep,
+    step: GroundStep,
 ) -> Result<StepParts, NoMemory>
     requires frame { IsFrame frame.now }
-    requires ready { IsStepReady frame.now weights.now step.now }
-    requires room { HasRoom frame.now weights.now step.now current.old }
+    requires ready { IsStepReady frame.now weights.now step }
+    requires room { HasRoom frame.now weights.now step current.old }
     ensures { IfOk result (λ parts.
-        HasActions frame.now weights.now step.now current.old current.new (actions_of parts)) }
+        HasActions frame.now weights.now step current.old current.new (actions_of parts)) }
 {
-    if step.cost.is_some() {
-        return costed_parts(alloc, current, frame, weights, step);
-    }
-    Ok(StepParts::Actions(List::new(alloc)))
+    let mut step = step;
+    let parts = taken_parts(alloc, current, frame, weights, &mut step);
+    drop(step);
+    parts
 }

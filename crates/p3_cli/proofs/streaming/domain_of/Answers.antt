@@ -7,18 +7,18 @@ use Rattle.p3_cli.proofs.ResultLemmas.{if_both}
 use Rattle.p3_cli.proofs.StreamingLemmas.{all_actions, can_be_written, has_domain, whole}
 use Rattle.p3_cli.proofs.streaming.domain_of.Goals as goal
 
-pub push_steps-requires-clause-names : goal.push_steps-requires-clause-names
-push_steps-requires-clause-names c = ap (λ (text : BegunDomain). text.names) c.in_ok-text.ensures ∙ c.names.ensures
+pub push_steps-requires : goal.push_steps-requires
+push_steps-requires g c = (c.requires, ap (λ (text : BegunDomain). text.names) c.in_ok-text.ensures ∙ c.names.ensures)
 
 pub push_ends-requires-clause-named : goal.push_ends-requires-clause-named
-push_ends-requires-clause-named c = ends_named c.args.task.now c.args.weights.now c.args.begun.now c.requires.begun
+push_ends-requires-clause-named g c = ends_named g.task c.args.weights.now c.args.begun.now c.requires.is
 
 pub push_ends-requires-clause-names : goal.push_ends-requires-clause-names
-push_ends-requires-clause-names c = ap (λ (text : BegunDomain). text.names) c.in_ok-push_steps.ensures.are.written ∙ ap (λ (text : BegunDomain). text.names) c.in_ok-text.ensures ∙ c.names.ensures
+push_ends-requires-clause-names g c = ap (λ (text : BegunDomain). text.names) c.in_ok-push_steps.ensures.are.written ∙ ap (λ (text : BegunDomain). text.names) c.in_ok-text.ensures ∙ c.names.ensures
 
 pub returns : goal.returns
-returns c =
-    let G = c.args.task.now in
+returns g c =
+    let G = g.task in
     let weights = c.args.weights.now in
     let begun = c.args.begun.now in
     let mid = c.push_steps.new.text in
@@ -26,7 +26,7 @@ returns c =
     let steps : HasWrittenAll G weights begun (first_text begun.names) mid = subst (λ old. HasWrittenAll G weights begun old mid) (c.in_ok-text.ensures ∙ ap first_text c.names.ensures) c.in_ok-push_steps.ensures in
     let ends : HasWrittenEnds begun (length begun.instances) mid new = c.in_ok-push_ends.ensures in
     let X = whole G weights begun mid new steps ends in
-    let is : IsCompiledTo G weights X = c.begun_targets_are_compiled.ensures G weights begun steps.actions ends.actions c.requires.ready c.requires.begun steps.made ends.made in
+    let is : IsCompiledTo G weights X = c.begun_targets_are_compiled.ensures G weights begun steps.actions ends.actions c.requires.ready c.requires.is steps.made ends.made in
     let all = all_actions G weights begun mid new steps ends in
     if_both c.finish.result (λ text layout is_text. has_domain G weights begun mid new steps ends is text.items layout is_text)
     (c.finish.ensures.layout X all) (c.finish.ensures.text X all (can_be_written G weights begun mid new steps ends is))

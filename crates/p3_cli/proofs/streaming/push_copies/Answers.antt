@@ -1,4 +1,4 @@
-use Rattle.std.proofs.Common.{◌<◌, ◌∙◌, length, map, get_or, sym, ap, subst}
+use Rattle.std.proofs.Common.{◌<◌, ◌∙◌, length, get_or, ap, subst}
 use Rattle.std.specs.List.{list_all}
 use Rattle.p3_compile.specs.Parts.{copied_actions}
 use Rattle.p3_formula.specs.Targets.{is_sized_action}

@@ -40,14 +40,14 @@ returns c =
     let monitors = c.args.frame.now.monitors in
     let front = front_is c.len.result hard c.items.result.now monitors c.split_at.result.0.now c.split_at.ensures.front c.len.ensures c.items.ensures in
     let back = back_is c.len.result hard c.items.result.now monitors c.split_at.result.1.now c.split_at.ensures.back c.len.ensures c.items.ensures in
-    let finish = c.in_ok-finish.ensures ∙ ap (accepting (c.args.task.now.goal ∷ [])) front in
+    let finish = c.in_ok-finish.ensures ∙ ap (accepting (c.args.goal ∷ [])) front in
     let instances = c.in_ok-instances.ensures ∙ ap (soft_ends c.args.weights.now.by_name c.args.task.now.soft) back in
     let before = cut_before go hard monitors (frame_before c.args.task.now c.args.frame.now c.requires.framed c.requires.ready.atoms) in
     record {
       finish = c.in_ok-finish.finish;
-      accepts = λ state. ap (truth state) finish ∙ finish_truth state c.args.task.now.goal (take hard monitors);
+      accepts = λ state. ap (truth state) finish ∙ finish_truth state c.args.goal (take hard monitors);
       below = ap (is_below go) finish
-          ∙ accepting_below go (c.args.task.now.goal ∷ []) (take hard monitors) (and_from (is_below go c.args.task.now.goal) _ (below_more c.args.task.now.atoms go (sources_inside c.args.task.now c.args.frame.now c.requires.framed) c.args.task.now.goal c.requires.ready.atoms.goal) refl) before.0;
+          ∙ accepting_below go (c.args.goal ∷ []) (take hard monitors) (and_from (is_below go c.args.goal) _ (below_more c.args.task.now.atoms go (sources_inside c.args.task.now c.args.frame.now c.requires.framed) c.args.goal c.requires.goal) refl) before.0;
       ends = subst (AreSoftEnds c.args.weights.now.by_name c.args.task.now.soft (drop hard monitors)) (sym instances) (are_soft_ends c.args.weights.now.by_name c.args.task.now.soft (drop hard monitors) (soft_are c.args.task.now c.args.frame.now c.requires.framed));
       accept_below = subst (AreBelow go) (sym instances) (ends_below go c.args.weights.now.by_name c.args.task.now.soft (drop hard monitors) before.1);
       counted = ap length c.in_ok-instances.ensures ∙ ends_count c.args.weights.now.by_name c.args.task.now.soft c.split_at.result.1.now;

@@ -1,23 +1,11 @@
-use Rattle.std.proofs.Common.{◌∙◌, ◌++◌, ◌+◌, ◌-◌, ◌<◌, ◌^◌, length, sym, ap, subst}
-use Rattle.p3_simulation.specs.Naming.{question_names, wide_steps}
-use Rattle.p3_simulation.specs.Monitoring.{initial_bits}
-use Rattle.p3_compile.specs.Stepping.{current_names}
+use Rattle.std.proofs.Common.{◌∙◌, ap, subst}
+use Rattle.std.specs.Prelude.{IfOk}
+use Rattle.p3_formula.specs.Forms.{is_below}
+use Rattle.p3_compile.specs.Compiling.{IsBegun, with_goal}
 use Rattle.p3_compile.proofs.begun.BegunTarget.of.Goals as goal
 
+pub with_goal-requires-clause-goal : goal.with_goal-requires-clause-goal
+with_goal-requires-clause-goal c = ap (is_below c.args.task.now.atoms) c.in_ok-goal.ensures ∙ c.requires.atoms.goal
+
 pub returns : goal.returns
-returns c =
-    let G = c.args.task.now in
-    let by_name = c.args.weights.now.by_name in
-    let framed = c.in_ok-frame.ensures in
-    let go = c.in_ok-frame.frame.go in
-    let questions = question_names (wide_steps by_name G.steps) in
-    record {
-      frame_is = framed.is;
-      named = c.in_ok-current.ensures.named ∙ ap (λ names. names ++ questions ++ current_names by_name G.steps) framed.named;
-      counted = sym (ap length framed.named) ∙ framed.counted;
-      current_is = c.in_ok-current.ensures.first ∙ ap (λ n. n + length questions) framed.counted;
-      initial_is = c.in_ok-initial.ensures ∙ λ i. initial_bits G.initial (c.items.ensures i) (c.len.ensures i - go - 1);
-      ends = c.in_ok-end.ensures;
-      room = subst (λ n. n < 2 ^ 64) c.len.ensures c.len.type_inv;
-      steps = c.counts_in_32_bits.ensures;
-    }
+returns c = subst (λ form. IfOk c.with_goal.result (IsBegun (with_goal form c.args.task.now) c.args.weights.now)) c.in_ok-goal.ensures c.with_goal.ensures

@@ -12,4 +12,4 @@ step_parts-requires-clause-room c = λ broad.
     (own.0, omega (arith, inside, small))
 
 pub returns : goal.returns
-returns c = IfOk-weaker c.step_parts.result _ _ (λ parts has. next_actions c.args.self.now c.args.weights.now c.args.step.now c.args.current.now c.step_parts.new.current c.requires (actions_of parts) has) c.step_parts.ensures
+returns c = IfOk-weaker c.step_parts.result _ _ (λ parts has. next_actions c.args.self.now c.args.weights.now c.args.step c.args.current.now c.step_parts.new.current c.requires (actions_of parts) has) c.step_parts.ensures
