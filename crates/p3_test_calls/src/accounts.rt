@@ -1,6 +1,7 @@
 //! What is printed, byte for byte. What is printed of, and what it is printed to, are made by functions
 //! of their own, so that a test has little to let go of.
 
+use crate::lists::one;
 use p3_accounts::{
     Account, Binding, CostShare, Heading, InputFile, Lines, Meaning, Meant, NameShare,
     OperatorKind, Shares, Shown, ShownState, Spot, StepFault, Subject, Terms, put_account,
@@ -38,13 +39,6 @@ fn numbers(alloc: Global) -> Result<Numbers, NoMemory> {
 /// Makes a list of numbers.
 fn list(alloc: Global, numbers: &[u32]) -> Result<List<u32>, NoMemory> {
     Ok(List::from(Vec::from_slice(alloc, numbers)?))
-}
-
-/// Makes a list of one item.
-fn one<T: Drop>(alloc: Global, item: T) -> Result<List<T>, NoMemory> {
-    let mut list = List::new(alloc);
-    list.push(item)?;
-    Ok(list)
 }
 
 /// Makes a quantity of so many tenths.

@@ -12,6 +12,8 @@ mod forms;
 #[cfg(test)]
 mod judged;
 #[cfg(test)]
+mod lists;
+#[cfg(test)]
 mod monitored;
 #[cfg(test)]
 mod outlines;

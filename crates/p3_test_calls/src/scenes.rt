@@ -1,5 +1,6 @@
 //! Questions about the states of a plan.
 
+use crate::lists::one;
 use p3_base::{List, Name, NoMemory};
 use p3_numbers::{
     NumberedAction, NumberedArgument, NumberedCondition, NumberedConstraint, NumberedEffect,
@@ -9,13 +10,6 @@ use p3_reasons::{Decision, PlacedStep};
 use p3_scenes::{Asked, Question, answers};
 use std::alloc::Global;
 use std::test::Fail;
-
-/// One item as a list.
-fn one<T: Drop>(alloc: Global, item: T) -> Result<List<T>, NoMemory> {
-    let mut list = List::new(alloc);
-    list.push(item)?;
-    Ok(list)
-}
 
 /// A predicate and an object.
 fn numbers(alloc: Global) -> Result<Numbers, NoMemory> {
