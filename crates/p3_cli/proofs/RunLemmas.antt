@@ -19,7 +19,7 @@ use Rattle.p3_cli.specs.Refusing.{IsRefusedTask, IsRejectedBy}
 use Rattle.p3_tree.specs.Commands.{Command, Input, Output, inputs, outputs, row}
 use Rattle.p3_tree.specs.declared.command.CommandKind.TheVariants.{Watch}
 use Rattle.p3_cli.specs.Run.{AnyFaultRose, MustComplete, MustReject, IsAccepted, IsSurelyAccepted, IsProduct, IsRejectionIn, MayBeRejectionIn, MayBeShownBy, ShownBy, Comes, Leaves, Answers, Ends, IsRejectedIn, IsStatusIn, IsAcceptedIn, SameUnder, OthersStay}
-use Rattle.p3_cli.specs.Store.{Texts, reading, files, writings, holding_all, AreFirstWritten, IsWrittenUpTo}
+use Rattle.p3_cli.specs.Store.{reading, files, writings, holding_all, AreFirstWritten, IsWrittenUpTo}
 use Rattle.p3_cli.specs.Texts.{AllTexts, Made}
 use Rattle.p3_cli.specs.declared.ending.Ending as code
 use Rattle.p3_cli.specs.declared.ending.Ending.TheVariants as coded

@@ -16,7 +16,7 @@ use Rattle.p3_task.specs.Plans.{Plan, moves_from, state_after, state_at, steps_f
 use Rattle.p3_task.specs.Constraints as tree
 use Rattle.p3_task.specs.Constraints.{HardModal, Instance, hard_list, instances, operators, satisfies}
 use Rattle.p3_task.specs.Explanations as told
-use Rattle.p3_task.specs.Explanations.{instance_reasons, reasons, shown}
+use Rattle.p3_task.specs.Explanations.{reasons, shown}
 use Rattle.p3_task.specs.Metrics.{step_prefs}
 use Rattle.p3_task.specs.StepNumbers.{HasStepNumbers}
 use Rattle.p3_task.proofs.PlanLemmas.{fit_from, steps_fit-walk}

@@ -4,7 +4,7 @@ use Rattle.std.specs.Prelude.{if◌then◌else◌, option_map, position}
 use Rattle.std.specs.Option.{option_or}
 use Rattle.p3_task.specs.Constraints.{HardModal, hard_list}
 use Rattle.p3_task.specs.Plans.{Plan}
-use Rattle.p3_task.specs.Validity.{AtConstraint, AtGoal, Fault, constraint_fault, first_fault, goal_fault, goal_holds, is_met, step_fault}
+use Rattle.p3_task.specs.Validity.{AtConstraint, AtGoal, constraint_fault, first_fault, goal_fault, goal_holds, is_met, step_fault}
 use Rattle.p3_task.specs.declared.task.Task.{Task}
 use Rattle.p3_findings.specs.Accounts.{spares_goal}
 

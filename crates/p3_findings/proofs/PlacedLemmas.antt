@@ -11,8 +11,8 @@ use Rattle.p3_task.specs.Goals.{hard_holds}
 use Rattle.p3_task.specs.Offences.{WellFormed}
 use Rattle.p3_task.specs.Plans.{Plan, action_named, arguments, cost_by, moves_from, state_after, steps_fit}
 use Rattle.p3_task.specs.States.{State, start}
-use Rattle.p3_task.specs.StepNumbers.{HasNumber, HasStepNumbers, IsOwn}
-use Rattle.p3_task.specs.Validity.{Fault, AtStep, AtGoal, AtConstraint, Misfit, UnknownAction, Arguments, Precondition, NoCost, fault_at, misfit, misfit_by, step_fault}
+use Rattle.p3_task.specs.StepNumbers.{HasStepNumbers, IsOwn}
+use Rattle.p3_task.specs.Validity.{Fault, AtStep, Misfit, UnknownAction, Arguments, Precondition, NoCost, fault_at, misfit, misfit_by, step_fault}
 use Rattle.p3_task.specs.declared.task.Action.{Action}
 use Rattle.p3_task.specs.declared.task.Step.{Step}
 use Rattle.p3_task.specs.declared.task.Task.{Task}

@@ -16,7 +16,7 @@ use Rattle.p3_base.specs.declared.refusal.Direction.{Direction}
 use Rattle.p3_base.specs.declared.refusal.Direction.TheVariants.{Minimize, Maximize}
 use Rattle.p3_task.specs.Costs.{initial_cost}
 use Rattle.p3_task.specs.Metrics as metrics
-use Rattle.p3_task.specs.Metrics.{base_loss, cost, cost_weight, metric_places, signed, value, violated}
+use Rattle.p3_task.specs.Metrics.{cost, signed, value}
 use Rattle.p3_task.specs.Names.{Name}
 use Rattle.p3_task.specs.Plans.{Plan}
 use Rattle.p3_task.specs.PreferenceNames.{ordered_names}

@@ -1,5 +1,5 @@
 -- How a run ends, by what was read.
-use Rattle.std.proofs.Common.{◌≡◌, ◌≢◌, ◌∙◌, ◌⊎◌, ◌↔◌, ℕ, Bool, true, false, List, Option, Some, None, refl, sym, ap, subst, inl, inr}
+use Rattle.std.proofs.Common.{◌≡◌, ◌≢◌, ◌∙◌, ◌⊎◌, ◌↔◌, ℕ, Bool, true, false, List, Option, Some, None, refl, sym, subst, inl, inr}
 use Rattle.std.specs.Prelude.{IfSome}
 use Rattle.p3_base.specs.Outside.{FilesSeen, SinkSeen, Store}
 use Rattle.p3_base.specs.declared.refusal.Role.{Role}
@@ -10,7 +10,7 @@ use Rattle.p3_cli.specs.Outcome.{ReadFails, ReadsAll}
 use Rattle.p3_cli.specs.Refusing.{IsRejectedBy}
 use Rattle.p3_cli.specs.Run.{AnyFaultRose}
 use Rattle.p3_cli.specs.Status as status
-use Rattle.p3_cli.specs.Store.{Texts, TooLong, reading}
+use Rattle.p3_cli.specs.Store.{TooLong, reading}
 use Rattle.p3_cli.specs.Texts.{AllTexts}
 use Rattle.p3_cli.specs.declared.ending.Ending as code
 use Rattle.p3_cli.specs.declared.ending.Ending.TheVariants as coded

@@ -1,5 +1,4 @@
-use Rattle.std.proofs.Common.{◌≡◌, ◌∙◌, List, ap, subst, sym, length}
-use Rattle.p3_tree.specs.Commands.{Output, outputs}
+use Rattle.std.proofs.Common.{◌∙◌, ap, subst}
 use Rattle.p3_cli.specs.Asked.{asked_inputs, asked_command}
 use Rattle.p3_cli.specs.Ending.{Done}
 use Rattle.p3_cli.specs.Outcome.{WriteFails}

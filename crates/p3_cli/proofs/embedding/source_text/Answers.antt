@@ -1,4 +1,4 @@
-use Rattle.std.proofs.Common.{◌∙◌, ℕ, List, ap, arith, length}
+use Rattle.std.proofs.Common.{◌∙◌, ℕ, List, ap, arith}
 use Rattle.std.proofs.lemmas.List.{take_all}
 use Rattle.p3_embed.specs.Plans.{steps_at}
 use Rattle.p3_plans.specs.Layout.{plan_layout}

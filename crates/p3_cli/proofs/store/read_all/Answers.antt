@@ -1,4 +1,4 @@
-use Rattle.std.proofs.Common.{◌∙◌, ◌+◌, ◌∷◌, [], ◌++◌, IsTrue, drop, take, subst, sym, ap, arith}
+use Rattle.std.proofs.Common.{◌∙◌, ◌+◌, ◌∷◌, [], IsTrue, drop, take, subst, sym, ap, arith}
 use Rattle.std.proofs.lemmas.List.{drop_more, take_all}
 use Rattle.p3_base.specs.Outside.{IsHeld}
 use Rattle.p3_cli.specs.Asked.{asked_input, asked_inputs}

@@ -1,7 +1,6 @@
 use Rattle.std.proofs.Common.{◌≡◌, ◌∙◌, ◌++◌, [], ◌∷◌, List, Some, None, sym, ap, subst}
-use Rattle.p3_task.specs.Validity.{AtStep, Fault}
+use Rattle.p3_task.specs.Validity.{AtStep}
 use Rattle.p3_reports.specs.Faults.{fault_named, misfit_named, misfit_of}
-use Rattle.p3_accounts.specs.declared.account.Account.{Account}
 use Rattle.p3_accounts.specs.declared.heading.Heading.{Heading}
 use Rattle.p3_eval.specs.Judged.{fault_in}
 use Rattle.p3_findings.specs.Accounts.{IsAccount, IsMisfit}
